@@ -1,0 +1,4 @@
+pub mod Causes
+pub mod NonZero
+pub mod NumberLaws
+pub mod Numbers

@@ -1,0 +1,448 @@
+//! Why a call refuses.
+
+ghost use Rattle.std.specs.Prelude.{◌≡◌, ◌≢◌, ◌↔◌, ◌++◌, List, ℕ, [], IsTrue, IsOk, IfOk, codes, string_bytes};
+ghost use Rattle.netlink_bytes.specs.Causes.{HoldsText, IsInvalidBuffer, TextBegins, cause_number, cause_text, done_line, error_line, frame_line};
+
+use std::alloc::{AllocError, Global};
+use std::error::Error;
+use std::fmt;
+use std::string::FromUtf8Error;
+
+/// The cause of a refusal, one of a closed list. Sizes and lengths are in bytes.
+///
+/// Only `InvalidBuffer` and `Message` hold memory. `inside` says that a fault was found
+/// inside a larger call, whose line then stands in front of the text.
+#[derive(Debug, Drop)]
+pub enum DecodeError {
+    /// C1: a buffer is too short, by a name that the caller gives.
+    InvalidBuffer {
+        name: String,
+        received: usize,
+        minimum_length: usize,
+    },
+    /// C2: a MAC address is not of 6 bytes.
+    InvalidMacAddress {
+        received: usize,
+    },
+    /// C3: an IP address is not of 4 or 16 bytes.
+    InvalidIpAddress {
+        received: usize,
+    },
+    /// C4: a number does not have its exact size.
+    InvalidNumber {
+        expected: usize,
+        received: usize,
+    },
+    /// C5: there are fewer bytes than an attribute's header has.
+    NlaBufferTooSmall {
+        buffer_len: usize,
+        nla_len: usize,
+    },
+    /// C6: an attribute's length field is above the bytes that there are.
+    NlaLengthMismatch {
+        buffer_len: usize,
+        nla_len: usize,
+    },
+    /// C7: an attribute's length field is below the size of its header.
+    NlaInvalidLength {
+        buffer_len: usize,
+        nla_len: usize,
+    },
+    /// C8: a number does not fit its buffer.
+    BufferTooSmall {
+        buffer_len: usize,
+        value_len: usize,
+    },
+    /// C9: there are fewer bytes than a message's header has.
+    FrameShort {
+        size: usize,
+        inside: bool,
+    },
+    /// C10: a message's length field is above the bytes that there are.
+    FrameCut {
+        length: u32,
+        size: usize,
+        inside: bool,
+    },
+    /// C11: a message's length field is below the size of its header.
+    FrameLength {
+        length: u32,
+        inside: bool,
+    },
+    /// C12: the body of a done message is below 4 bytes.
+    DoneShort {
+        size: usize,
+        inside: bool,
+    },
+    /// C13: the body of an error message is below 4 bytes.
+    ErrorShort {
+        size: usize,
+        inside: bool,
+    },
+    /// C14: free text, as of a protocol's refusal.
+    Message(String),
+    /// C15: a message does not fit a length of 32 bits.
+    TooLong,
+    /// C16: a request for memory was refused.
+    OutOfMemory,
+}
+
+impl DecodeError {
+    /// C1 with a copy of the name, or C16 where there is no memory for it. An empty name asks for none.
+    pub fn invalid_buffer(alloc: Global, name: &str, received: usize, minimum_length: usize) -> Self
+        ensures says { IsInvalidBuffer name.now received minimum_length result }
+        ensures empty { name.now ≡ [] → result ≢ DecodeError.OutOfMemory }
+    {
+        match copied(alloc, name) {
+            Ok(name) => DecodeError::InvalidBuffer {
+                name,
+                received,
+                minimum_length,
+            },
+            Err(_) => DecodeError::OutOfMemory,
+        }
+    }
+
+    /// C2, with the size that was received. Asks for no memory.
+    pub fn invalid_mac_address(received: usize) -> Self
+        ensures is { result ≡ DecodeError.InvalidMacAddress received }
+    {
+        DecodeError::InvalidMacAddress { received }
+    }
+
+    /// C3, with the size that was received. Asks for no memory.
+    pub fn invalid_ip_address(received: usize) -> Self
+        ensures is { result ≡ DecodeError.InvalidIpAddress received }
+    {
+        DecodeError::InvalidIpAddress { received }
+    }
+
+    /// C4, with the size of the type and the size that was received. Asks for no memory.
+    pub fn invalid_number(expected: usize, received: usize) -> Self
+        ensures is { result ≡ DecodeError.InvalidNumber expected received }
+    {
+        DecodeError::InvalidNumber { expected, received }
+    }
+
+    /// C5, with the bytes that there are and the bytes that are wanted. Asks for no memory.
+    pub fn nla_buffer_too_small(buffer_len: usize, nla_len: usize) -> Self
+        ensures is { result ≡ DecodeError.NlaBufferTooSmall buffer_len nla_len }
+    {
+        DecodeError::NlaBufferTooSmall {
+            buffer_len,
+            nla_len,
+        }
+    }
+
+    /// C6, with the bytes that there are and the length field. Asks for no memory.
+    pub fn nla_length_mismatch(buffer_len: usize, nla_len: usize) -> Self
+        ensures is { result ≡ DecodeError.NlaLengthMismatch buffer_len nla_len }
+    {
+        DecodeError::NlaLengthMismatch {
+            buffer_len,
+            nla_len,
+        }
+    }
+
+    /// C7, with the least length and the length field. Asks for no memory.
+    pub fn nla_invalid_length(buffer_len: usize, nla_len: usize) -> Self
+        ensures is { result ≡ DecodeError.NlaInvalidLength buffer_len nla_len }
+    {
+        DecodeError::NlaInvalidLength {
+            buffer_len,
+            nla_len,
+        }
+    }
+
+    /// C8, with the buffer's size and the number's. Asks for no memory.
+    pub fn buffer_too_small(buffer_len: usize, value_len: usize) -> Self
+        ensures is { result ≡ DecodeError.BufferTooSmall buffer_len value_len }
+    {
+        DecodeError::BufferTooSmall {
+            buffer_len,
+            value_len,
+        }
+    }
+
+    /// C9, with the bytes that there are. Asks for no memory.
+    pub fn frame_short(size: usize, inside: bool) -> Self
+        ensures is { result ≡ DecodeError.FrameShort size inside }
+    {
+        DecodeError::FrameShort { size, inside }
+    }
+
+    /// C10, with the length field and the bytes that there are. Asks for no memory.
+    pub fn frame_cut(length: u32, size: usize, inside: bool) -> Self
+        ensures is { result ≡ DecodeError.FrameCut length size inside }
+    {
+        DecodeError::FrameCut {
+            length,
+            size,
+            inside,
+        }
+    }
+
+    /// C11, with the length field. Asks for no memory.
+    pub fn frame_length(length: u32, inside: bool) -> Self
+        ensures is { result ≡ DecodeError.FrameLength length inside }
+    {
+        DecodeError::FrameLength { length, inside }
+    }
+
+    /// C12, with the body's size. Asks for no memory.
+    pub fn done_short(size: usize, inside: bool) -> Self
+        ensures is { result ≡ DecodeError.DoneShort size inside }
+    {
+        DecodeError::DoneShort { size, inside }
+    }
+
+    /// C13, with the body's size. Asks for no memory.
+    pub fn error_short(size: usize, inside: bool) -> Self
+        ensures is { result ≡ DecodeError.ErrorShort size inside }
+    {
+        DecodeError::ErrorShort { size, inside }
+    }
+
+    /// C15. Asks for no memory.
+    pub fn too_long() -> Self
+        ensures is { result ≡ DecodeError.TooLong }
+    {
+        DecodeError::TooLong
+    }
+
+    /// C16. Asks for no memory.
+    pub fn out_of_memory() -> Self
+        ensures is { result ≡ DecodeError.OutOfMemory }
+    {
+        DecodeError::OutOfMemory
+    }
+
+    /// C14 with a copy of the text, or C16 where there is no memory for it. An empty text asks for none.
+    pub fn from_text(alloc: Global, text: &str) -> Self
+        ensures says { HoldsText text.now result }
+        ensures empty { text.now ≡ [] → result ≢ DecodeError.OutOfMemory }
+    {
+        match copied(alloc, text) {
+            Ok(text) => DecodeError::Message(text),
+            Err(_) => DecodeError::OutOfMemory,
+        }
+    }
+
+    /// C14 with `Invalid UTF-8 sequence: ` and std's text for the error, or C16.
+    pub fn from_utf8_error(alloc: Global, error: FromUtf8Error) -> Self
+        ensures begins { TextBegins (codes "Invalid UTF-8 sequence: ") result }
+    {
+        match utf8_text(alloc, error) {
+            Ok(text) => DecodeError::Message(text),
+            Err(_) => DecodeError::OutOfMemory,
+        }
+    }
+
+    /// The number of the cause, 1 to 16.
+    pub fn number(&self) -> u8
+        ensures number { result ≡ cause_number self.now }
+    {
+        match self {
+            DecodeError::InvalidBuffer { .. } => 1,
+            DecodeError::InvalidMacAddress { .. } => 2,
+            DecodeError::InvalidIpAddress { .. } => 3,
+            DecodeError::InvalidNumber { .. } => 4,
+            DecodeError::NlaBufferTooSmall { .. } => 5,
+            DecodeError::NlaLengthMismatch { .. } => 6,
+            DecodeError::NlaInvalidLength { .. } => 7,
+            DecodeError::BufferTooSmall { .. } => 8,
+            DecodeError::FrameShort { .. } => 9,
+            DecodeError::FrameCut { .. } => 10,
+            DecodeError::FrameLength { .. } => 11,
+            DecodeError::DoneShort { .. } => 12,
+            DecodeError::ErrorShort { .. } => 13,
+            DecodeError::Message(_) => 14,
+            DecodeError::TooLong => 15,
+            DecodeError::OutOfMemory => 16,
+        }
+    }
+
+    /// Whether the cause is C16, want of memory.
+    pub fn is_out_of_memory(&self) -> bool
+        ensures memory { IsTrue result ↔ (self.now ≡ DecodeError.OutOfMemory) }
+    {
+        matches!(self, DecodeError::OutOfMemory)
+    }
+}
+
+/// A copy of the text. An empty one asks for no memory.
+fn copied(alloc: Global, text: &str) -> Result<String, AllocError>
+    ensures ok { IfOk result (λ copy. string_bytes copy ≡ text.now) }
+    ensures empty { text.now ≡ [] → IsOk result }
+{
+    if text.is_empty() {
+        return Ok(String::new(alloc));
+    }
+    String::from_str(alloc, text)
+}
+
+/// The text of an error of UTF-8, behind its fixed beginning.
+fn utf8_text(alloc: Global, error: FromUtf8Error) -> Result<String, AllocError>
+    ensures { IfOk result (λ text. (rest : List ℕ) × (string_bytes text ≡ codes "Invalid UTF-8 sequence: " ++ rest)) }
+{
+    let fault = error.to_string(alloc)?;
+    format!(in alloc; "Invalid UTF-8 sequence: {fault}")
+}
+
+impl Error for DecodeError {}
+
+impl From<String> for DecodeError {
+    ghost use Rattle.netlink_bytes.specs.declared.error.DecodeError.TheVariants.{Message};
+
+    ghost from_gives = { λ text e. e ≡ Message text };
+
+    /// C14 with the text itself. Asks for no memory.
+    fn from(text: String) -> Self {
+        DecodeError::Message(text)
+    }
+}
+
+impl From<AllocError> for DecodeError {
+    ghost use Rattle.netlink_bytes.specs.declared.error.DecodeError.TheVariants.{OutOfMemory};
+
+    ghost from_gives = { λ _ e. e ≡ OutOfMemory };
+
+    /// C16, so that `?` hands on a refused request for memory.
+    fn from(_refused: AllocError) -> Self {
+        DecodeError::OutOfMemory
+    }
+}
+
+impl fmt::Display for DecodeError {
+    ghost use Rattle.std.specs.Prelude.{Some};
+
+    ghost output = { λ e. Some (cause_text e) };
+
+    fn fmt<W: fmt::Write>(&self, f: &mut fmt::Formatter<W>) -> fmt::Result {
+        match self {
+            DecodeError::InvalidBuffer {
+                name,
+                received,
+                minimum_length,
+            } => write!(
+                f,
+                "Invalid buffer {name}. Expected at least {minimum_length} bytes, received {received} bytes"
+            ),
+            DecodeError::InvalidMacAddress { received } => write!(
+                f,
+                "Invalid MAC address. Expected 6 bytes, received {received} bytes"
+            ),
+            DecodeError::InvalidIpAddress { received } => write!(
+                f,
+                "Invalid IP address. Expected 4 or 16 bytes, received {received} bytes"
+            ),
+            DecodeError::InvalidNumber { expected, received } => write!(
+                f,
+                "Invalid number. Expected {expected} bytes, received {received} bytes"
+            ),
+            DecodeError::NlaBufferTooSmall {
+                buffer_len,
+                nla_len,
+            } => write!(
+                f,
+                "buffer has length {buffer_len}, but an NLA header is {nla_len} bytes"
+            ),
+            DecodeError::NlaLengthMismatch {
+                buffer_len,
+                nla_len,
+            } => write!(
+                f,
+                "buffer has length: {buffer_len}, but the NLA is {nla_len} bytes"
+            ),
+            DecodeError::NlaInvalidLength {
+                buffer_len,
+                nla_len,
+            } => write!(
+                f,
+                "NLA has invalid length: {nla_len} (should be at least {buffer_len} bytes)"
+            ),
+            DecodeError::BufferTooSmall {
+                buffer_len,
+                value_len,
+            } => write!(
+                f,
+                "Buffer too small: {buffer_len} (should be at least {value_len} bytes"
+            ),
+            DecodeError::FrameShort { size, inside } => {
+                f.write_str(frame_prefix(*inside))?;
+                write!(
+                    f,
+                    "invalid netlink buffer length caused by invalid netlink buffer: length is {size} but netlink packets are at least 16 bytes"
+                )
+            }
+            DecodeError::FrameCut {
+                length,
+                size,
+                inside,
+            } => {
+                f.write_str(frame_prefix(*inside))?;
+                write!(
+                    f,
+                    "invalid netlink buffer length caused by invalid netlink buffer: length field says {length} the buffer is {size} bytes long"
+                )
+            }
+            DecodeError::FrameLength { length, inside } => {
+                f.write_str(frame_prefix(*inside))?;
+                write!(
+                    f,
+                    "invalid netlink buffer length caused by invalid netlink buffer: length field says {length} but netlink packets are at least 16 bytes"
+                )
+            }
+            DecodeError::DoneShort { size, inside } => {
+                f.write_str(done_prefix(*inside))?;
+                write!(
+                    f,
+                    "invalid DoneBuffer length caused by invalid DoneBuffer: length is {size} but DoneBuffer are at least 4 bytes"
+                )
+            }
+            DecodeError::ErrorShort { size, inside } => {
+                f.write_str(error_prefix(*inside))?;
+                write!(
+                    f,
+                    "invalid ErrorBuffer length caused by invalid ErrorBuffer: length is {size} but ErrorBuffer are at least 4 bytes"
+                )
+            }
+            DecodeError::Message(text) => f.write_str(text.as_str()),
+            DecodeError::TooLong => f.write_str("message does not fit a 32-bit length"),
+            DecodeError::OutOfMemory => f.write_str("out of memory"),
+        }
+    }
+}
+
+/// The line that stands in front of a frame's fault.
+fn frame_prefix(inside: bool) -> &'static str
+    ensures { result.now ≡ frame_line inside }
+{
+    if inside {
+        "failed deserializing NetlinkMessage caused by "
+    } else {
+        ""
+    }
+}
+
+/// The line that stands in front of the fault of a done message's body.
+fn done_prefix(inside: bool) -> &'static str
+    ensures { result.now ≡ done_line inside }
+{
+    if inside {
+        "failed to parse NLMSG_DONE caused by "
+    } else {
+        ""
+    }
+}
+
+/// The line that stands in front of the fault of an error message's body.
+fn error_prefix(inside: bool) -> &'static str
+    ensures { result.now ≡ error_line inside }
+{
+    if inside {
+        "failed parsing NLMSG_ERROR caused by "
+    } else {
+        ""
+    }
+}
