@@ -1,0 +1,105 @@
+-- A header's text read again, and the text of a header that was read.
+use Rattle.std.proofs.Common.{◌≡◌, ℕ, ◌+◌, ◌-◌, ◌≤◌, List, ◌++◌, length, take, drop, refl, ap, sym, ◌∙◌, append_assoc, arith, length-append, length-drop}
+use Rattle.std.proofs.lemmas.List.{take-append-drop, length-take, length-take-le, drop-drop, take_at, drop_at}
+use Rattle.netlink_bytes.specs.Numbers.{IsBytes, number_le, text_le}
+use Rattle.netlink_bytes.specs.NumberLaws.{length-text_le, number_le-text_le}
+use Rattle.netlink_packet_core.specs.Header.{header_text, header_of, payload_of, HeaderInRange, HoldsFrame, field}
+use Rattle.netlink_packet_core.specs.Frame.{Begins}
+use Rattle.netlink_packet_core.specs.declared.header.NetlinkHeader.{NetlinkHeader}
+use Rattle.netlink_packet_core.proofs.Numbers.{IsBytes-drop, IsBytes-take, split_number, number-fits}
+
+-- headers of the same fields are one
+pub same_header : (a b : NetlinkHeader) → a.length ≡ b.length → a.message_type ≡ b.message_type → a.flags ≡ b.flags → a.sequence_number ≡ b.sequence_number → a.port_number ≡ b.port_number → a ≡ b
+same_header a b p q r s t = λ i. record { length = p i; message_type = q i; flags = r i; sequence_number = s i; port_number = t i }
+
+-- a header reads back from its text, whatever follows
+pub header_of-header_text : (h : NetlinkHeader) (more : List ℕ) → HeaderInRange h → header_of (header_text h ++ more) ≡ h
+unfolding text_le
+header_of-header_text h more fits = same_header _ _
+    (number_le-text_le h.length 4 fits.length)
+    (number_le-text_le h.message_type 2 fits.message_type)
+    (number_le-text_le h.flags 2 fits.flags)
+    (number_le-text_le h.sequence_number 4 fits.sequence_number)
+    (number_le-text_le h.port_number 4 fits.port_number)
+
+pub length-header_text : (h : NetlinkHeader) → length (header_text h) ≡ 16
+unfolding text_le
+length-header_text h = refl
+
+-- what stands behind a header's text
+pub drop-header_text : (h : NetlinkHeader) (more : List ℕ) → drop 16 (header_text h ++ more) ≡ more
+unfolding text_le
+drop-header_text h more = refl
+
+-- a number in the middle, and what follows it
+next_number : (at w : ℕ) (bytes : List ℕ) → IsBytes bytes → at + w ≤ length bytes → drop at bytes ≡ text_le (number_le (take w (drop at bytes))) w ++ drop (at + w) bytes
+next_number at w bytes each long =
+    let enough : w ≤ length (drop at bytes) = omega (arith, length-drop at bytes) in
+    split_number w (drop at bytes) (IsBytes-drop at bytes each) enough
+    ∙ ap (λ (more : List ℕ). text_le (number_le (take w (drop at bytes))) w ++ more) (drop-drop w at bytes)
+
+five : (a b c d e more : List ℕ) → (a ++ (b ++ (c ++ (d ++ e)))) ++ more ≡ a ++ (b ++ (c ++ (d ++ (e ++ more))))
+five a b c d e more = simp append_assoc
+
+joined : (a b c d e x0 x1 x2 x3 x4 x5 : List ℕ) → x0 ≡ a ++ x1 → x1 ≡ b ++ x2 → x2 ≡ c ++ x3 → x3 ≡ d ++ x4 → x4 ≡ e ++ x5 → x0 ≡ (a ++ (b ++ (c ++ (d ++ e)))) ++ x5
+joined a b c d e x0 x1 x2 x3 x4 x5 p q r s t =
+    p ∙ ap (λ (m : List ℕ). a ++ m) (q ∙ ap (λ (m : List ℕ). b ++ m) (r ∙ ap (λ (m : List ℕ). c ++ m) (s ∙ ap (λ (m : List ℕ). d ++ m) t))) ∙ sym (five a b c d e x5)
+
+-- bytes are the text of the header that they begin with, and the rest
+pub header_text-header_of : (bytes : List ℕ) → IsBytes bytes → 16 ≤ length bytes → bytes ≡ header_text (header_of bytes) ++ drop 16 bytes
+header_text-header_of bytes each long =
+    joined (text_le (field 0 4 bytes) 4) (text_le (field 4 2 bytes) 2) (text_le (field 6 2 bytes) 2) (text_le (field 8 4 bytes) 4) (text_le (field 12 4 bytes) 4)
+    bytes (drop 4 bytes) (drop 6 bytes) (drop 8 bytes) (drop 12 bytes) (drop 16 bytes)
+    (split_number 4 bytes each (omega arith)) (next_number 4 2 bytes each (omega arith)) (next_number 6 2 bytes each (omega arith))
+    (next_number 8 4 bytes each (omega arith)) (next_number 12 4 bytes each (omega arith))
+
+part_size : (at w : ℕ) (bytes : List ℕ) → at + w ≤ length bytes → length (take w (drop at bytes)) ≡ w
+part_size at w bytes long = length-take-le w (drop at bytes) (omega (arith, length-drop at bytes))
+
+pub header_in_range : (bytes : List ℕ) → IsBytes bytes → 16 ≤ length bytes → HeaderInRange (header_of bytes)
+header_in_range bytes each long = record {
+  length = number-fits 4 _ (IsBytes-take 4 _ each) (length-take-le 4 bytes (omega arith));
+  message_type = number-fits 2 _ (IsBytes-take 2 _ (IsBytes-drop 4 _ each)) (part_size 4 2 bytes (omega arith));
+  flags = number-fits 2 _ (IsBytes-take 2 _ (IsBytes-drop 6 _ each)) (part_size 6 2 bytes (omega arith));
+  sequence_number = number-fits 4 _ (IsBytes-take 4 _ (IsBytes-drop 8 _ each)) (part_size 8 4 bytes (omega arith));
+  port_number = number-fits 4 _ (IsBytes-take 4 _ (IsBytes-drop 12 _ each)) (part_size 12 4 bytes (omega arith));
+}
+
+-- bytes that hold a whole frame begin with its header and its payload
+pub begins-whole : (bytes : List ℕ) → IsBytes bytes → HoldsFrame bytes → Begins bytes (header_of bytes) (payload_of bytes)
+begins-whole bytes each holds = record {
+  rest = drop (field 0 4 bytes - 16) (drop 16 bytes);
+  whole = header_text-header_of bytes each holds.header
+      ∙ ap (λ (more : List ℕ). header_text (header_of bytes) ++ more) (sym (take-append-drop (field 0 4 bytes - 16) (drop 16 bytes)));
+  size = omega (arith, holds.least, holds.most, length-drop 16 bytes, length-take (field 0 4 bytes - 16) (drop 16 bytes));
+  in_range = header_in_range bytes each holds.header;
+}
+
+-- and with no others
+pub header-begins : (bytes : List ℕ) (h : NetlinkHeader) (payload : List ℕ) → Begins bytes h payload → header_of bytes ≡ h
+header-begins bytes h payload b = ap header_of b.whole ∙ header_of-header_text h (payload ++ b.rest) b.in_range
+
+pub length-begins : (bytes : List ℕ) (h : NetlinkHeader) (payload : List ℕ) → Begins bytes h payload → field 0 4 bytes ≡ 16 + length payload
+length-begins bytes h payload b = ap (λ (g : NetlinkHeader). g.length) (header-begins bytes h payload b) ∙ b.size
+
+pub behind-begins : (bytes : List ℕ) (h : NetlinkHeader) (payload : List ℕ) (b : Begins bytes h payload) → drop 16 bytes ≡ payload ++ b.rest
+behind-begins bytes h payload b = ap (drop 16) b.whole ∙ drop-header_text h (payload ++ b.rest)
+
+pub payload-begins : (bytes : List ℕ) (h : NetlinkHeader) (payload : List ℕ) → Begins bytes h payload → payload_of bytes ≡ payload
+payload-begins bytes h payload b =
+    let size : field 0 4 bytes - 16 ≡ length payload = omega (arith, length-begins bytes h payload b) in
+    ap (λ (n : ℕ). take n (drop 16 bytes)) size ∙ ap (take (length payload)) (behind-begins bytes h payload b) ∙ take_at payload b.rest _ refl
+
+pub size-begins : (bytes : List ℕ) (h : NetlinkHeader) (payload : List ℕ) (b : Begins bytes h payload) → length bytes ≡ 16 + (length payload + length b.rest)
+size-begins bytes h payload b =
+    ap length b.whole ∙ length-append (header_text h) (payload ++ b.rest)
+    ∙ ap (λ (n : ℕ). n + length (payload ++ b.rest)) (length-header_text h) ∙ ap (λ (n : ℕ). 16 + n) (length-append payload b.rest)
+
+pub begins-holds : (bytes : List ℕ) (h : NetlinkHeader) (payload : List ℕ) → Begins bytes h payload → HoldsFrame bytes
+begins-holds bytes h payload b =
+    let total = size-begins bytes h payload b in
+    let field_is = length-begins bytes h payload b in
+    record { header = omega arith; least = omega arith; most = omega arith }
+
+pub same_start : (bytes : List ℕ) (h g : NetlinkHeader) (p q : List ℕ) → Begins bytes h p → Begins bytes g q → (h ≡ g) × (p ≡ q)
+same_start bytes h g p q a b = (sym (header-begins bytes h p a) ∙ header-begins bytes g q b, sym (payload-begins bytes h p a) ∙ payload-begins bytes g q b)

@@ -1,0 +1,31 @@
+-- The one canonical frame of a message, and a grammar of its own for what is canonical.
+use Rattle.std.specs.Prelude.{◌≡◌, ◌+◌, ◌<◌, ◌≤◌, ◌^◌, ℕ, List, ◌++◌, Some, length, drop}
+use Rattle.netlink_packet_core.specs.Header.{header_text, header_of, field, HeaderInRange}
+use Rattle.netlink_packet_core.specs.Payload.{payload_text, payload_type, PayloadInRange}
+use Rattle.netlink_packet_core.specs.Protocol.{Encoding, Decoding, IsOwnType}
+use Rattle.netlink_packet_core.specs.declared.message.NetlinkMessage.{NetlinkMessage}
+
+-- a message whose length fits 32 bits
+pub record Fits {I : Type 0} (encoding : Encoding I) (m : NetlinkMessage I) : Type 0 where
+  pub size : 16 + length (payload_text encoding m.payload) < 2 ^ 32
+  pub header : HeaderInRange m.header
+  pub payload : PayloadInRange m.payload
+
+-- the message with that length and with its payload's type
+abbrev pub finalized : {I : Type 0} → Encoding I → NetlinkMessage I → NetlinkMessage I
+finalized encoding m =
+    record m { header = record m.header { length = 16 + length (payload_text encoding m.payload); message_type = payload_type encoding m.payload } }
+
+-- what is written of a message
+abbrev pub canonical_frame : {I : Type 0} → Encoding I → NetlinkMessage I → List ℕ
+canonical_frame encoding m = header_text (finalized encoding m).header ++ payload_text encoding m.payload
+
+-- bytes that are a canonical frame: they are as long as they say, type 1 has no payload,
+-- types 2 and 3 have a code, and any other but 4 has a payload that reads as itself
+pub record IsCanonicalFrame {I : Type 0} (decoding : Decoding I) (bytes : List ℕ) : Type 0 where
+  pub header : 16 ≤ length bytes
+  pub whole : field 0 4 bytes ≡ length bytes
+  pub noop : field 4 2 bytes ≡ 1 → length bytes ≡ 16
+  pub error : field 4 2 bytes ≡ 2 → 20 ≤ length bytes
+  pub done : field 4 2 bytes ≡ 3 → 20 ≤ length bytes
+  pub own : IsOwnType (field 4 2 bytes) → decoding.reading (header_of bytes) (drop 16 bytes) ≡ Some (field 4 2 bytes, drop 16 bytes)

@@ -1,0 +1,41 @@
+-- The header of a message: its text, and what bytes say of it.
+use Rattle.std.specs.Prelude.{ℕ, ◌+◌, ◌<◌, ◌≤◌, ◌^◌, List, ◌++◌, length, slice_range}
+use Rattle.netlink_bytes.specs.Numbers.{number_le, text_le}
+use Rattle.netlink_packet_core.specs.declared.header.NetlinkHeader.{NetlinkHeader}
+
+-- the five fields in their order, 16 bytes
+abbrev pub header_text : NetlinkHeader → List ℕ
+header_text h =
+    text_le h.length 4 ++ (text_le h.message_type 2 ++ (text_le h.flags 2 ++ (text_le h.sequence_number 4 ++ text_le h.port_number 4)))
+
+-- each field is a number of its width
+pub record HeaderInRange (h : NetlinkHeader) : Type 0 where
+  pub length : h.length < 2 ^ 32
+  pub message_type : h.message_type < 2 ^ 16
+  pub flags : h.flags < 2 ^ 16
+  pub sequence_number : h.sequence_number < 2 ^ 32
+  pub port_number : h.port_number < 2 ^ 32
+
+-- the number of w bytes at a place
+abbrev pub field : ℕ → ℕ → List ℕ → ℕ
+field at w bytes = number_le (slice_range bytes at (at + w))
+
+-- what the first 16 bytes say
+abbrev pub header_of : List ℕ → NetlinkHeader
+header_of bytes = record {
+  length = field 0 4 bytes;
+  message_type = field 4 2 bytes;
+  flags = field 6 2 bytes;
+  sequence_number = field 8 4 bytes;
+  port_number = field 12 4 bytes;
+}
+
+-- the bytes from the 16th up to the length
+abbrev pub payload_of : List ℕ → List ℕ
+payload_of bytes = slice_range bytes 16 (field 0 4 bytes)
+
+-- the bytes hold a whole frame
+pub record HoldsFrame (bytes : List ℕ) : Type 0 where
+  pub header : 16 ≤ length bytes
+  pub least : 16 ≤ field 0 4 bytes
+  pub most : field 0 4 bytes ≤ length bytes

@@ -1,0 +1,41 @@
+-- What is written of a payload.
+use Rattle.std.specs.Prelude.{ℕ, ℤ, pos, List, [], ◌++◌, Option, Some, None}
+use Rattle.netlink_bytes.specs.Numbers.{IsSigned, text_le, unsigned}
+use Rattle.netlink_bytes.specs.NonZero.{number_of}
+use Rattle.netlink_bytes.specs.declared.nonzero.NonZeroI32.{NonZeroI32}
+use Rattle.netlink_packet_core.specs.Protocol.{Encoding}
+use Rattle.netlink_packet_core.specs.declared.payload.NetlinkPayload.{NetlinkPayload}
+use Rattle.netlink_packet_core.specs.declared.payload.NetlinkPayload.TheVariants.{Done, Error, Noop, Overrun, InnerMessage}
+
+-- the four bytes of a code
+abbrev pub code_text : ℤ → List ℕ
+code_text code = text_le (unsigned 4 code) 4
+
+-- the number of an error's code, 0 where there is none
+abbrev pub raw_code : Option NonZeroI32 → ℤ
+raw_code None = pos 0
+raw_code (Some code) = number_of code
+
+-- the message type of a payload
+abbrev pub payload_type : {I : Type 0} → Encoding I → NetlinkPayload I → ℕ
+payload_type encoding (Done m) = 3
+payload_type encoding (Error m) = 2
+payload_type encoding Noop = 1
+payload_type encoding (Overrun bytes) = 4
+payload_type encoding (InnerMessage v) = encoding.type_of v
+
+-- the bytes of a payload
+abbrev pub payload_text : {I : Type 0} → Encoding I → NetlinkPayload I → List ℕ
+payload_text encoding (Done m) = code_text m.code ++ m.extended_ack.items
+payload_text encoding (Error m) = code_text (raw_code m.code) ++ m.header.items
+payload_text encoding Noop = []
+payload_text encoding (Overrun bytes) = bytes.items
+payload_text encoding (InnerMessage v) = encoding.text_of v
+
+-- a code is a number of its width
+abbrev pub PayloadInRange : {I : Type 0} → NetlinkPayload I → Type 0
+PayloadInRange (Done m) = IsSigned 4 m.code
+PayloadInRange (Error m) = IsSigned 4 (raw_code m.code)
+PayloadInRange Noop = Unit {0}
+PayloadInRange (Overrun bytes) = Unit {0}
+PayloadInRange (InnerMessage v) = Unit {0}

@@ -1,0 +1,121 @@
+//! A message: a header and what it carries.
+
+ghost use Rattle.std.specs.Prelude.{◌≡◌, ◌≢◌, ◌+◌, ◌++◌, ◌<◌, ◌≤◌, ◌^◌, ◌↔◌, drop, length, IsTrue, IfOk, IfErr, IsOkUnless};
+ghost use Rattle.netlink_packet_core.specs.Canonical.{Fits, finalized};
+ghost use Rattle.netlink_packet_core.specs.Frame.{Frame};
+ghost use Rattle.netlink_packet_core.specs.Header.{HoldsFrame, header_text};
+ghost use Rattle.netlink_packet_core.specs.Payload.{payload_text};
+ghost use Rattle.netlink_packet_core.specs.Refusal.{AsksNoMemory, IsRefusal};
+ghost use Rattle.netlink_packet_core.specs.declared.message.NetlinkMessage.{NetlinkMessage};
+
+use crate::buffer::{NetlinkBuffer, check_frame};
+use crate::constants::NETLINK_HEADER_LEN;
+use crate::header::NetlinkHeader;
+use crate::payload::{NetlinkPayload, read_payload};
+use crate::traits::{NetlinkDeserializable, NetlinkSerializable};
+use netlink_bytes::DecodeError;
+use std::alloc::Global;
+
+/// A message of a sub-protocol: a header and a payload.
+#[derive(Debug, Drop, PartialEq, Eq)]
+pub struct NetlinkMessage<I> {
+    /// The header. `finalize` sets its length and its message type.
+    pub header: NetlinkHeader,
+    /// What the message carries.
+    pub payload: NetlinkPayload<I>,
+}
+
+impl<I> NetlinkMessage<I> {
+    /// A message of these parts, as they are.
+    pub fn new(header: NetlinkHeader, payload: NetlinkPayload<I>) -> Self
+        ensures keeps { result ≡ record { header = header; payload = payload } }
+    {
+        NetlinkMessage { header, payload }
+    }
+
+    /// The parts of the message.
+    pub fn into_parts(self) -> (NetlinkHeader, NetlinkPayload<I>)
+        ensures header { result.0 ≡ self.header }
+        ensures payload { result.1 ≡ self.payload }
+    {
+        (self.header, self.payload)
+    }
+}
+
+impl<I: NetlinkDeserializable> NetlinkMessage<I> {
+    /// The message whose frame the bytes begin with; what follows the frame is not looked at.
+    ///
+    /// Refuses bytes that hold no whole frame (C9, C10, C11), a done or an error body of too few
+    /// bytes (C12, C13), each with `inside` true, and a payload that the protocol refuses (C14, in
+    /// its name). C16 is answered only where bytes are copied or the protocol is asked.
+    pub fn deserialize(alloc: Global, buffer: &[u8]) -> Result<Self, DecodeError>
+        // Only a frame of the message is read as it.
+        ensures accepts { IfOk result (Frame I.decoding buffer.now) }
+        // A frame of some message is read, unless memory was refused.
+        ensures complete { (m : NetlinkMessage I) → Frame I.decoding buffer.now m → IsOkUnless result DecodeError.OutOfMemory }
+        // Each refusal has its cause and its numbers.
+        ensures refuses { IfErr result (IsRefusal I.decoding I.wants_memory buffer.now) }
+        ensures no_memory { AsksNoMemory buffer.now → IfErr result (λ e. e ≢ DecodeError.OutOfMemory) }
+    {
+        check_frame(buffer, true)?;
+        read_frame(alloc, buffer)
+    }
+}
+
+/// The message of bytes that hold a whole frame.
+fn read_frame<I: NetlinkDeserializable>(
+    alloc: Global,
+    bytes: &[u8],
+) -> Result<NetlinkMessage<I>, DecodeError>
+    requires { HoldsFrame bytes.now }
+    ensures ok { IfOk result (λ m. Frame I.decoding bytes.now m) }
+    ensures err { IfErr result (IsRefusal I.decoding I.wants_memory bytes.now) }
+{
+    let view = NetlinkBuffer::new(bytes);
+    let header = view.header();
+    let payload = read_payload(alloc, &header, view.payload())?;
+    Ok(NetlinkMessage { header, payload })
+}
+
+impl<I: NetlinkSerializable> NetlinkMessage<I> {
+    /// Whether the length of the message fits 32 bits: 16 and the payload's text are below 2^32 bytes.
+    pub fn fits(&self) -> bool
+        ensures fits { IsTrue result ↔ Fits I.encoding self.now }
+    {
+        self.header.known();
+        self.payload.known();
+        self.payload.is_at_most(u32::MAX as usize - NETLINK_HEADER_LEN)
+    }
+
+    /// The size of the written message in bytes.
+    pub fn buffer_len(&self) -> usize
+        requires size { 16 + length (payload_text I.encoding self.now.payload) < 2 ^ 64 }
+        ensures size { result ≡ 16 + length (payload_text I.encoding self.now.payload) }
+    {
+        NETLINK_HEADER_LEN + self.payload.buffer_len()
+    }
+
+    /// Sets the header's length and message type to those of the payload, and changes nothing else.
+    pub fn finalize(&mut self)
+        requires fits { Fits I.encoding self.old }
+        ensures finalized { self.new ≡ finalized I.encoding self.old }
+        ensures again { finalized I.encoding self.new ≡ self.new }
+    {
+        self.header.length = self.buffer_len() as u32;
+        self.header.message_type = self.payload.message_type();
+    }
+
+    /// Writes the header and the payload's text at the front of the buffer, and leaves the bytes
+    /// behind them. The header's length has to be theirs, as `finalize` leaves it.
+    pub fn serialize(&self, buffer: &mut [u8])
+        requires length { self.now.header.length ≡ 16 + length (payload_text I.encoding self.now.payload) }
+        requires room { self.now.header.length ≤ length buffer.old }
+        ensures text { buffer.new ≡ header_text self.now.header ++ (payload_text I.encoding self.now.payload ++ drop self.now.header.length buffer.old) }
+    {
+        let length = self.header.length as usize;
+        let (head, rest) = buffer.split_at_mut(NETLINK_HEADER_LEN);
+        self.header.write(head);
+        let (body, _) = rest.split_at_mut(length - NETLINK_HEADER_LEN);
+        self.payload.emit(body);
+    }
+}

@@ -1,0 +1,159 @@
+//! What a message carries.
+
+ghost use Rattle.std.specs.Prelude.{◌≡◌, ◌++◌, ◌≤◌, ◌<◌, ◌^◌, ◌↔◌, List, ℕ, Some, IfOk, IfErr, IsTrue, length, string_bytes};
+ghost use Rattle.netlink_packet_core.specs.Frame.{Body};
+ghost use Rattle.netlink_packet_core.specs.Payload.{PayloadInRange, payload_text, payload_type};
+ghost use Rattle.netlink_packet_core.specs.Refusal.{IsBodyFault, IsInnerFault, refusal_text};
+
+use crate::bytes::{copied, put_code};
+use crate::constants::{NLMSG_DONE, NLMSG_ERROR, NLMSG_NOOP, NLMSG_OVERRUN};
+use crate::done::DoneMessage;
+use crate::error::ErrorMessage;
+use crate::header::NetlinkHeader;
+use crate::traits::{NetlinkDeserializable, NetlinkSerializable};
+use netlink_bytes::DecodeError;
+use std::alloc::{AllocError, Global};
+use std::error::Error;
+
+/// The payload of a message: one of the four kinds that every protocol shares, or the protocol's own.
+#[derive(Debug, Drop, PartialEq, Eq)]
+pub enum NetlinkPayload<I> {
+    /// The end of a multipart message (`NLMSG_DONE`).
+    Done(DoneMessage),
+    /// An acknowledgement or a refusal (`NLMSG_ERROR`).
+    Error(ErrorMessage),
+    /// Nothing (`NLMSG_NOOP`); bytes that came with it are dropped.
+    Noop,
+    /// Data was lost (`NLMSG_OVERRUN`); the bytes that came with it.
+    Overrun(Vec<u8>),
+    /// A message of the sub-protocol.
+    InnerMessage(I),
+}
+
+impl<I: NetlinkSerializable> NetlinkPayload<I> {
+    /// The message type that a header of this payload has.
+    pub fn message_type(&self) -> u16
+        ensures kind { result ≡ payload_type I.encoding self.now }
+    {
+        match self {
+            NetlinkPayload::Done(_) => NLMSG_DONE,
+            NetlinkPayload::Error(_) => NLMSG_ERROR,
+            NetlinkPayload::Noop => NLMSG_NOOP,
+            NetlinkPayload::Overrun(_) => NLMSG_OVERRUN,
+            NetlinkPayload::InnerMessage(message) => message.message_type(),
+        }
+    }
+
+    /// The size of the payload's text in bytes.
+    #[tactic(auto, using(crate::proofs::Numbers::code_size))]
+    pub(crate) fn buffer_len(&self) -> usize
+        requires { length (payload_text I.encoding self.now) < 2 ^ 64 }
+        ensures { result ≡ length (payload_text I.encoding self.now) }
+    {
+        match self {
+            NetlinkPayload::Done(message) => 4 + message.extended_ack.len(),
+            NetlinkPayload::Error(message) => 4 + message.header.len(),
+            NetlinkPayload::Noop => 0,
+            NetlinkPayload::Overrun(bytes) => bytes.len(),
+            NetlinkPayload::InnerMessage(message) => message.buffer_len(),
+        }
+    }
+
+    /// Whether the payload's text has at most so many bytes.
+    #[tactic(auto, using(crate::proofs::Numbers::code_size))]
+    pub(crate) fn is_at_most(&self, limit: usize) -> bool
+        ensures { IsTrue result ↔ (length (payload_text I.encoding self.now) ≤ limit) }
+    {
+        match self {
+            NetlinkPayload::Done(message) => 4 + message.extended_ack.len() <= limit,
+            NetlinkPayload::Error(message) => 4 + message.header.len() <= limit,
+            NetlinkPayload::Noop => true,
+            NetlinkPayload::Overrun(bytes) => bytes.len() <= limit,
+            NetlinkPayload::InnerMessage(message) => message.buffer_len() <= limit,
+        }
+    }
+
+    /// A code in hand is within its width.
+    pub(crate) fn known(&self)
+        ensures { PayloadInRange self.now }
+    {
+        match self {
+            NetlinkPayload::Done(message) => {
+                let _code = message.code;
+            }
+            NetlinkPayload::Error(message) => {
+                let _code = message.raw_code();
+            }
+            _ => {}
+        }
+    }
+
+    /// Writes the payload's text, which fills the buffer.
+    #[tactic(auto, using(crate::proofs::Numbers::code_size))]
+    pub(crate) fn emit(&self, buffer: &mut [u8])
+        requires { length buffer.old ≡ length (payload_text I.encoding self.now) }
+        ensures { buffer.new ≡ payload_text I.encoding self.now }
+    {
+        match self {
+            NetlinkPayload::Done(message) => put_code(buffer, message.code, &message.extended_ack),
+            NetlinkPayload::Error(message) => {
+                put_code(buffer, message.raw_code(), &message.header);
+            }
+            NetlinkPayload::Noop => {}
+            NetlinkPayload::Overrun(bytes) => buffer.copy_from_slice(bytes),
+            NetlinkPayload::InnerMessage(message) => message.serialize(buffer),
+        }
+    }
+}
+
+/// What a header and the bytes of a payload say.
+pub(crate) fn read_payload<I: NetlinkDeserializable>(
+    alloc: Global,
+    header: &NetlinkHeader,
+    payload: &[u8],
+) -> Result<NetlinkPayload<I>, DecodeError>
+    ensures ok { IfOk result (Body I.decoding header.now payload.now) }
+    ensures err { IfErr result (IsBodyFault I.decoding I.wants_memory header.now payload.now) }
+{
+    match header.message_type {
+        NLMSG_NOOP => Ok(NetlinkPayload::Noop),
+        NLMSG_ERROR => Ok(NetlinkPayload::Error(ErrorMessage::of_payload(alloc, payload)?)),
+        NLMSG_DONE => Ok(NetlinkPayload::Done(DoneMessage::of_payload(alloc, payload)?)),
+        NLMSG_OVERRUN => Ok(NetlinkPayload::Overrun(copied(alloc, payload)?)),
+        _ => Ok(NetlinkPayload::InnerMessage(read_inner(alloc, header, payload)?)),
+    }
+}
+
+/// What the protocol reads.
+fn read_inner<I: NetlinkDeserializable>(
+    alloc: Global,
+    header: &NetlinkHeader,
+    payload: &[u8],
+) -> Result<I, DecodeError>
+    ensures in_range { IfOk result (λ v. IsTrue (I.decoding.in_range v)) }
+    ensures reads { IfOk result (λ v. I.decoding.reading header.now payload.now ≡ Some (I.decoding.stands_for v)) }
+    ensures err { IfErr result (IsInnerFault I.decoding I.wants_memory header.now payload.now) }
+{
+    match I::deserialize(alloc, header, payload) {
+        Ok(value) => Ok(value),
+        Err(error) => {
+            if I::is_out_of_memory(&error) {
+                return Err(DecodeError::OutOfMemory);
+            }
+            match refusal(alloc, header.message_type, &error) {
+                Ok(text) => Err(DecodeError::Message(text)),
+                Err(_) => Err(DecodeError::OutOfMemory),
+            }
+        }
+    }
+}
+
+/// The text of a protocol's refusal.
+fn refusal<E: Error>(alloc: Global, message_type: u16, error: &E) -> Result<String, AllocError>
+    ensures { IfOk result (λ text. (rest : List ℕ) × (string_bytes text ≡ refusal_text message_type rest)) }
+{
+    let rest = format!(in alloc; "{error}")?;
+    let mut text = format!(in alloc; "Failed to parse message with type {message_type}: ")?;
+    text.push_str(rest.as_str())?;
+    Ok(text)
+}

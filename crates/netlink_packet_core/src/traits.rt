@@ -1,0 +1,74 @@
+//! What a sub-protocol brings.
+
+ghost use Rattle.std.specs.Prelude.{◌≡◌, ◌↔◌, ℕ, Bool, true, false, List, Some, None, length, IfOk, IfErr, IsTrue};
+ghost use Rattle.netlink_packet_core.specs.declared.header.NetlinkHeader.{NetlinkHeader};
+ghost use Rattle.netlink_packet_core.specs.Protocol.{Encoding, Decoding, IsLawful};
+
+use crate::header::NetlinkHeader;
+use std::alloc::Global;
+use std::error::Error;
+
+/// A sub-protocol's message that can be written.
+pub trait NetlinkSerializable {
+    /// The message type of a value, and its text.
+    ghost encoding: { Encoding Self };
+
+    /// The value's message type, for the header.
+    fn message_type(&self) -> u16
+        ensures kind { result ≡ encoding.type_of self.now };
+
+    /// The size of the value's text in bytes.
+    fn buffer_len(&self) -> usize
+        ensures size { result ≡ length (encoding.text_of self.now) };
+
+    /// Fills the buffer, which has exactly `buffer_len` bytes, with the value's text.
+    fn serialize(&self, buffer: &mut [u8])
+        requires size { length buffer.old ≡ length (encoding.text_of self.now) }
+        ensures text { buffer.new ≡ encoding.text_of self.now };
+}
+
+/// A sub-protocol's message that can be read.
+pub trait NetlinkDeserializable: Sized {
+    /// Why a payload is refused.
+    type Error: Error + Drop;
+
+    /// What a header and a payload give, what a value stands for, and which values hold numbers of their widths.
+    ghost decoding: { Decoding Self };
+
+    /// The errors that say that a request for memory was refused.
+    ghost wants_memory: { Self.Error → Bool };
+
+    /// The value that the reading gives of a header and a payload. An error that is not want of
+    /// memory comes only where the reading gives nothing.
+    fn deserialize(
+        alloc: Global,
+        header: &NetlinkHeader,
+        payload: &[u8],
+    ) -> Result<Self, Self::Error>
+        ensures in_range { IfOk result (λ v. IsTrue (decoding.in_range v)) }
+        ensures reads { IfOk result (λ v. decoding.reading header.now payload.now ≡ Some (decoding.stands_for v)) }
+        ensures refuses { IfErr result (λ e. wants_memory e ≡ false → decoding.reading header.now payload.now ≡ None) };
+
+    /// Whether an error says that a request for memory was refused.
+    fn is_out_of_memory(error: &Self::Error) -> bool
+        ensures memory { result ≡ wants_memory error.now };
+}
+
+/// A sub-protocol that meets its laws, so that its messages have one canonical frame each.
+pub trait NetlinkProtocol: NetlinkSerializable + NetlinkDeserializable + Eq + Drop {
+    /// The value in hand holds numbers of their widths. Reads those numbers, and does nothing.
+    fn in_widths(&self)
+        ensures in_range { IsTrue (Self.decoding.in_range self.now) };
+
+    /// A value stands for its own type and text.
+    ghost own_pair: { (v : Self) → Self.decoding.stands_for v ≡ (Self.encoding.type_of v, Self.encoding.text_of v) };
+
+    /// Two values are equal exactly if they stand for the same type and text.
+    ghost equal_pairs: { (v w : Self) → IsTrue (Self.decoding.in_range v) → IsTrue (Self.decoding.in_range w) → (Self.eq v w ≡ true) ↔ (Self.decoding.stands_for v ≡ Self.decoding.stands_for w) };
+
+    /// What a value stands for is read again, whatever else its header says.
+    ghost value_is_lawful: { (v : Self) → IsTrue (Self.decoding.in_range v) → IsLawful Self.decoding (Self.decoding.stands_for v) };
+
+    /// And so is what a reading gives.
+    ghost reading_is_lawful: { (h : NetlinkHeader) (payload : List ℕ) (pair : ℕ × List ℕ) → Self.decoding.reading h payload ≡ Some pair → IsLawful Self.decoding pair };
+}
