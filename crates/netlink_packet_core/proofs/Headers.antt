@@ -1,8 +1,8 @@
 -- A header's text read again, and the text of a header that was read.
 use Rattle.std.proofs.Common.{◌≡◌, ℕ, ◌+◌, ◌-◌, ◌≤◌, List, ◌++◌, length, take, drop, refl, ap, sym, ◌∙◌, append_assoc, arith, length-append, length-drop}
-use Rattle.std.proofs.lemmas.List.{take-append-drop, length-take, length-take-le, drop-drop, take_at, drop_at}
+use Rattle.std.proofs.lemmas.List.{take-append-drop, length-take, length-take-le, drop-drop, take_at}
 use Rattle.netlink_bytes.specs.Numbers.{IsBytes, number_le, text_le}
-use Rattle.netlink_bytes.specs.NumberLaws.{length-text_le, number_le-text_le}
+use Rattle.netlink_bytes.specs.NumberLaws.{number_le-text_le}
 use Rattle.netlink_packet_core.specs.Header.{header_text, header_of, payload_of, HeaderInRange, HoldsFrame, field}
 use Rattle.netlink_packet_core.specs.Frame.{Begins}
 use Rattle.netlink_packet_core.specs.declared.header.NetlinkHeader.{NetlinkHeader}

@@ -20,7 +20,7 @@ pub split_number : (w : ℕ) (bytes : List ℕ) → IsBytes bytes → w ≤ leng
 split_number w bytes each long =
     let size : length (take w bytes) ≡ w = length-take-le w bytes long in
     let text : text_le (number_le (take w bytes)) w ≡ take w bytes =
-        ap (text_le (number_le (take w bytes))) (sym size) ∙ text_le-number_le (take w bytes) (IsBytes-take w bytes each) in
+    ap (text_le (number_le (take w bytes))) (sym size) ∙ text_le-number_le (take w bytes) (IsBytes-take w bytes each) in
     sym (take-append-drop w bytes) ∙ ap (λ (front : List ℕ). front ++ drop w bytes) (sym text)
 
 pub number-fits : (w : ℕ) (bytes : List ℕ) → IsBytes bytes → length bytes ≡ w → number_le bytes < 256 ^ w
@@ -64,3 +64,7 @@ rest-code payload code rest is = ap (drop 4) is.whole ∙ drop_at (code_text cod
 pub code_once : (payload : List ℕ) (c d : ℤ) (r s : List ℕ) → IsCodeAndRest payload c r → IsCodeAndRest payload d s → (c ≡ d) × (r ≡ s)
 code_once payload c d r s p q =
     (sym (front-code payload c r p) ∙ front-code payload d s q, sym (rest-code payload c r p) ∙ rest-code payload d s q)
+
+-- a code and its rest are written in one way
+pub code_text_once : (c d : ℤ) (r s : List ℕ) → IsSigned 4 c → IsSigned 4 d → code_text c ++ r ≡ code_text d ++ s → (c ≡ d) × (r ≡ s)
+code_text_once c d r s p q e = code_once (code_text c ++ r) c d r s (record { whole = refl; in_range = p }) (record { whole = e; in_range = q })

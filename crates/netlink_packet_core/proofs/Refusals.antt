@@ -1,8 +1,8 @@
 -- What a frame is of is refused for want of memory alone, and not even that where nothing is copied.
-use Rattle.std.proofs.Common.{◌≡◌, ℕ, ◌+◌, ◌≤◌, List, [], length, refl, ap, sym, ◌∙◌, subst, arith, inl, inr, Bool, true, Some, None, Result, Ok, Err, IfErr}
+use Rattle.std.proofs.Common.{◌≡◌, ℕ, List, length, refl, ap, subst, arith, inl, inr, Bool, true, Some, None}
 use Rattle.netlink_bytes.specs.declared.error.DecodeError.{DecodeError}
 use Rattle.netlink_bytes.specs.declared.error.DecodeError.TheVariants.{FrameShort, FrameCut, FrameLength, DoneShort, ErrorShort, Message, OutOfMemory}
-use Rattle.netlink_packet_core.specs.Header.{HoldsFrame, field, header_of, payload_of}
+use Rattle.netlink_packet_core.specs.Header.{HoldsFrame, payload_of}
 use Rattle.netlink_packet_core.specs.Protocol.{Decoding}
 use Rattle.netlink_packet_core.specs.Frame.{Begins, Body, Frame, IsDone, IsError}
 use Rattle.netlink_packet_core.specs.Refusal.{IsFrameFault, IsBodyFault, IsDoneFault, IsErrorFault, IsOverrunFault, IsInnerFault, IsRefusal, HasNothingToCopy, AsksNoMemory}

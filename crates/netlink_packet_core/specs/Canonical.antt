@@ -1,8 +1,12 @@
 -- The one canonical frame of a message, and a grammar of its own for what is canonical.
-use Rattle.std.specs.Prelude.{◌≡◌, ◌+◌, ◌<◌, ◌≤◌, ◌^◌, ℕ, List, ◌++◌, Some, length, drop}
+use Rattle.std.specs.Prelude.{◌≡◌, ◌+◌, ◌<◌, ◌≤◌, ◌^◌, ◌⊎◌, ℕ, Bool, List, ◌++◌, Some, length, drop}
+use Rattle.netlink_bytes.specs.declared.error.DecodeError.{DecodeError}
+use Rattle.netlink_bytes.specs.declared.error.DecodeError.TheVariants.{TooLong, OutOfMemory}
 use Rattle.netlink_packet_core.specs.Header.{header_text, header_of, field, HeaderInRange}
 use Rattle.netlink_packet_core.specs.Payload.{payload_text, payload_type, PayloadInRange}
 use Rattle.netlink_packet_core.specs.Protocol.{Encoding, Decoding, IsOwnType}
+use Rattle.netlink_packet_core.specs.Frame.{Frame}
+use Rattle.netlink_packet_core.specs.Refusal.{IsRefusal}
 use Rattle.netlink_packet_core.specs.declared.message.NetlinkMessage.{NetlinkMessage}
 
 -- a message whose length fits 32 bits
@@ -29,3 +33,15 @@ pub record IsCanonicalFrame {I : Type 0} (decoding : Decoding I) (bytes : List �
   pub error : field 4 2 bytes ≡ 2 → 20 ≤ length bytes
   pub done : field 4 2 bytes ≡ 3 → 20 ≤ length bytes
   pub own : IsOwnType (field 4 2 bytes) → decoding.reading (header_of bytes) (drop 16 bytes) ≡ Some (field 4 2 bytes, drop 16 bytes)
+
+-- a message whose length does not fit 32 bits
+abbrev pub IsTooLong : {I : Type 0} → Encoding I → NetlinkMessage I → Type 0
+IsTooLong encoding m = 2 ^ 32 ≤ 16 + length (payload_text encoding m.payload)
+
+-- why bytes have no canonical frame: they are refused, or they are the frame of a message that is too long,
+-- or memory was refused for the canonical frame of one that fits
+abbrev pub IsNormalizeFault : {I E : Type 0} → Encoding I → Decoding I → (E → Bool) → List ℕ → DecodeError → Type 0
+IsNormalizeFault {I} encoding decoding wants_memory bytes e =
+    IsRefusal decoding wants_memory bytes e
+    ⊎ (((e ≡ TooLong) × ((m : NetlinkMessage I) × Frame decoding bytes m × IsTooLong encoding m))
+    ⊎ ((e ≡ OutOfMemory) × ((m : NetlinkMessage I) × Frame decoding bytes m × Fits encoding m)))

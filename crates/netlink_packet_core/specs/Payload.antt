@@ -1,9 +1,9 @@
 -- What is written of a payload.
-use Rattle.std.specs.Prelude.{ℕ, ℤ, pos, List, [], ◌++◌, Option, Some, None}
+use Rattle.std.specs.Prelude.{ℕ, ℤ, pos, List, [], ◌++◌, Option, Some, None, IsTrue}
 use Rattle.netlink_bytes.specs.Numbers.{IsSigned, text_le, unsigned}
 use Rattle.netlink_bytes.specs.NonZero.{number_of}
 use Rattle.netlink_bytes.specs.declared.nonzero.NonZeroI32.{NonZeroI32}
-use Rattle.netlink_packet_core.specs.Protocol.{Encoding}
+use Rattle.netlink_packet_core.specs.Protocol.{Encoding, Decoding}
 use Rattle.netlink_packet_core.specs.declared.payload.NetlinkPayload.{NetlinkPayload}
 use Rattle.netlink_packet_core.specs.declared.payload.NetlinkPayload.TheVariants.{Done, Error, Noop, Overrun, InnerMessage}
 
@@ -39,3 +39,11 @@ PayloadInRange (Error m) = IsSigned 4 (raw_code m.code)
 PayloadInRange Noop = Unit {0}
 PayloadInRange (Overrun bytes) = Unit {0}
 PayloadInRange (InnerMessage v) = Unit {0}
+
+-- an inner value passes its protocol's own test
+abbrev pub InnerInRange : {I : Type 0} → Decoding I → NetlinkPayload I → Type 0
+InnerInRange decoding (Done m) = Unit {0}
+InnerInRange decoding (Error m) = Unit {0}
+InnerInRange decoding Noop = Unit {0}
+InnerInRange decoding (Overrun bytes) = Unit {0}
+InnerInRange decoding (InnerMessage v) = IsTrue (decoding.in_range v)

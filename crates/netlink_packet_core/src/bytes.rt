@@ -6,9 +6,7 @@ ghost use Rattle.netlink_packet_core.specs.Header.{field};
 ghost use Rattle.netlink_packet_core.specs.Payload.{code_text};
 ghost use Rattle.netlink_packet_core.specs.Frame.{IsCodeAndRest};
 
-use netlink_bytes::{
-    DecodeError, emit_i32, emit_u16, emit_u32, parse_i32, parse_u16, parse_u32,
-};
+use netlink_bytes::{DecodeError, emit_i32, emit_u16, emit_u32, parse_i32, parse_u16, parse_u32};
 use std::alloc::Global;
 
 /// The number of 2 bytes at a place.

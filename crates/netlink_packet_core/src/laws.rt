@@ -1,1 +1,59 @@
-//! Laws over the definitions alone.
+//! Laws over the definitions alone: each has an empty effect, and its contract is the law.
+
+ghost use Rattle.std.specs.Prelude.{◌≡◌, ◌↔◌, ◌<◌, ◌≤◌, ◌++◌, ℕ, List, true, IsTrue, take, length};
+ghost use Rattle.netlink_packet_core.specs.Canonical.{Fits, IsCanonicalFrame, canonical_frame, finalized};
+ghost use Rattle.netlink_packet_core.specs.Frame.{Frame};
+ghost use Rattle.netlink_packet_core.specs.Payload.{InnerInRange, PayloadInRange, payload_text, payload_type};
+ghost use Rattle.netlink_packet_core.specs.Refusal.{IsFrameFault};
+ghost use Rattle.netlink_packet_core.specs.declared.message.NetlinkMessage.{NetlinkMessage};
+ghost use Rattle.netlink_packet_core.specs.declared.payload.NetlinkPayload.{NetlinkPayload};
+
+use crate::message::NetlinkMessage;
+use crate::payload::NetlinkPayload;
+use crate::traits::NetlinkProtocol;
+use netlink_bytes::DecodeError;
+
+/// The inner value in hand is in range.
+fn known<I: NetlinkProtocol>(payload: &NetlinkPayload<I>)
+    ensures { InnerInRange I.decoding payload.now }
+{
+    if let NetlinkPayload::InnerMessage(message) = payload {
+        message.in_widths();
+    }
+}
+
+/// Payloads are equal exactly if their types and texts are.
+fn equal_payloads<I: NetlinkProtocol>()
+    ensures { (x y : NetlinkPayload I) → PayloadInRange x → PayloadInRange y → InnerInRange I.decoding x → InnerInRange I.decoding y
+        → ((payload_type I.encoding x ≡ payload_type I.encoding y) × (payload_text I.encoding x ≡ payload_text I.encoding y))
+        ↔ IsTrue (⟦<NetlinkPayload<I> as PartialEq>⟧.eq x y) }
+{}
+
+/// Bytes are the frame of one message at most, by `==`.
+pub fn frame_unique<I: NetlinkProtocol>()
+    ensures unique { (bytes : List ℕ) (m n : NetlinkMessage I) → Frame I.decoding bytes m → Frame I.decoding bytes n
+        → IsTrue (⟦<NetlinkMessage<I> as PartialEq>⟧.eq m n) }
+{
+    equal_payloads::<I>();
+}
+
+/// What is written of a message is its one canonical frame: it reads back as the finalized message,
+/// whatever follows, and is no frame at any proper cut. The canonical frames of two messages are
+/// equal exactly if their finalized messages are, by `==`.
+pub fn reads_back<I: NetlinkProtocol>(m: &NetlinkMessage<I>, n: &NetlinkMessage<I>, c: &[u8])
+    requires first { Fits I.encoding m.now }
+    requires second { Fits I.encoding n.now }
+    ensures canonical { IsCanonicalFrame I.decoding (canonical_frame I.encoding m.now) }
+    ensures only { (b : List ℕ) → IsCanonicalFrame I.decoding b → Frame I.decoding b (finalized I.encoding m.now) → b ≡ canonical_frame I.encoding m.now }
+    ensures before { Frame I.decoding (canonical_frame I.encoding m.now ++ c.now) (finalized I.encoding m.now) }
+    ensures cut { (k : ℕ) → k < length (canonical_frame I.encoding m.now) → (x : NetlinkMessage I) → Frame I.decoding (take k (canonical_frame I.encoding m.now)) x → ⊥ }
+    ensures cut_short { (k : ℕ) → k < 16 → IsFrameFault true (take k (canonical_frame I.encoding m.now)) (DecodeError.FrameShort k true) }
+    ensures cut_later { (k : ℕ) → 16 ≤ k → k < length (canonical_frame I.encoding m.now)
+        → IsFrameFault true (take k (canonical_frame I.encoding m.now)) (DecodeError.FrameCut (length (canonical_frame I.encoding m.now)) k true) }
+    ensures equal { (canonical_frame I.encoding m.now ≡ canonical_frame I.encoding n.now)
+        ↔ IsTrue (⟦<NetlinkMessage<I> as PartialEq>⟧.eq (finalized I.encoding m.now) (finalized I.encoding n.now)) }
+{
+    known(&m.payload);
+    known(&n.payload);
+    equal_payloads::<I>();
+}

@@ -84,7 +84,8 @@ impl<I: NetlinkSerializable> NetlinkMessage<I> {
     {
         self.header.known();
         self.payload.known();
-        self.payload.is_at_most(u32::MAX as usize - NETLINK_HEADER_LEN)
+        self.payload
+            .is_at_most(u32::MAX as usize - NETLINK_HEADER_LEN)
     }
 
     /// The size of the written message in bytes.

@@ -1,7 +1,6 @@
-use Rattle.std.proofs.Common.{rules, ◌≡◌, ℕ, ℤ, List, take, drop, FitsSigned, w32, ap, ◌∙◌, Ok, arith}
+use Rattle.std.proofs.Common.{rules, ◌≡◌, ℕ, List, take, FitsSigned, w32, ap, ◌∙◌, Ok, arith}
 use Rattle.std.proofs.lemmas.Int.{to_z-of_z}
 use Rattle.netlink_bytes.specs.Numbers.{number_le, signed}
-use Rattle.netlink_packet_core.specs.Frame.{IsCodeAndRest}
 use Rattle.netlink_packet_core.proofs.Numbers.{code_of-front}
 use Rattle.netlink_packet_core.proofs.bytes.split_code.Goals as goal
 

@@ -1,0 +1,76 @@
+-- What normalising answers, of bytes that are the frame of a message and of canonical ones.
+use Rattle.std.proofs.Common.{◌≡◌, ℕ, ◌+◌, ◌<◌, ◌^◌, Bool, true, List, length, inl, inr, arith, sym, ap, refl, subst, Some, None}
+use Rattle.netlink_bytes.specs.declared.error.DecodeError.{DecodeError}
+use Rattle.netlink_bytes.specs.declared.error.DecodeError.TheVariants.{DoneShort, ErrorShort, Message, OutOfMemory}
+use Rattle.netlink_packet_core.specs.Header.{HoldsFrame}
+use Rattle.netlink_packet_core.specs.Payload.{payload_text}
+use Rattle.netlink_packet_core.specs.Protocol.{Encoding, Decoding}
+use Rattle.netlink_packet_core.specs.Frame.{Frame}
+use Rattle.netlink_packet_core.specs.Canonical.{Fits, IsTooLong, IsCanonicalFrame, canonical_frame}
+use Rattle.netlink_packet_core.specs.Refusal.{IsBodyFault, IsRefusal}
+use Rattle.netlink_packet_core.proofs.Refusals.{no_frame_fault}
+use Rattle.netlink_packet_core.proofs.Written.{Laws, written_is_canonical}
+use Rattle.netlink_packet_core.proofs.Canonicals.{IsCanonicalBody, canonical_parts, body_back, canonical_is_written}
+use Rattle.netlink_packet_core.proofs.Once.{frame_once, written_same, body_in_range}
+use Rattle.netlink_packet_core.specs.declared.header.NetlinkHeader.{NetlinkHeader}
+use Rattle.netlink_packet_core.specs.declared.message.NetlinkMessage.{NetlinkMessage}
+
+-- a canonical payload is refused for want of memory alone
+canonical_body_refused : {I E : Type 0} (decoding : Decoding I) (wants : E → Bool) (h : NetlinkHeader) (payload : List ℕ) (e : DecodeError) → IsCanonicalBody decoding h payload → IsBodyFault decoding wants h payload e → e ≡ OutOfMemory
+canonical_body_refused decoding wants h payload (ErrorShort size inside) is (inl fault) = let long = is.error fault.0 in absurd (omega (arith, fault.1.0))
+canonical_body_refused decoding wants h payload OutOfMemory is fault = refl
+canonical_body_refused decoding wants h payload (DoneShort size inside) is (inr (inl fault)) = let long = is.done fault.0 in absurd (omega (arith, fault.1.1))
+canonical_body_refused decoding wants h payload (Message text) is (inr (inr (inr fault))) =
+    let some : decoding.reading h payload ≡ Some (h.message_type, payload) = is.own fault.0 in
+    let none : decoding.reading h payload ≡ None = fault.1.0 in
+    cc
+canonical_body_refused decoding wants h payload _ is (inl fault) = absurd fault.1
+canonical_body_refused decoding wants h payload _ is (inr (inl fault)) = absurd fault.1
+canonical_body_refused decoding wants h payload _ is (inr (inr (inl fault))) = absurd fault.1
+canonical_body_refused decoding wants h payload _ is (inr (inr (inr fault))) = absurd fault.1
+
+-- and so is a canonical frame
+pub canonical_refused : {I E : Type 0} (decoding : Decoding I) (wants : E → Bool) (bytes : List ℕ) (e : DecodeError) → IsCanonicalFrame decoding bytes → IsRefusal decoding wants bytes e → e ≡ OutOfMemory
+canonical_refused decoding wants bytes e canonical (inl fault) =
+    let long = canonical.header in
+    let whole = canonical.whole in
+    let holds : HoldsFrame bytes = record { header = long; least = omega arith; most = omega arith } in
+    absurd (no_frame_fault true bytes e holds fault)
+canonical_refused decoding wants bytes e canonical (inr (h, payload, begins, fault)) =
+    canonical_body_refused decoding wants h payload e (canonical_parts decoding bytes h payload canonical begins).body fault
+
+-- a message that was read fits where its length does
+fits_read : {I : Type 0} (encoding : Encoding I) (decoding : Decoding I) (bytes : List ℕ) (m : NetlinkMessage I) → Frame decoding bytes m → 16 + length (payload_text encoding m.payload) < 2 ^ 32 → Fits encoding m
+fits_read encoding decoding bytes m (payload, begins, body) size =
+    record { size = size; header = begins.in_range; payload = (body_in_range decoding m.payload m.header payload body).0 }
+
+-- two messages of one frame fit alike
+pub fits_alike : {I : Type 0} {eq : I → I → Bool} {encoding : Encoding I} {decoding : Decoding I} → Laws eq encoding decoding → (bytes : List ℕ) (m n : NetlinkMessage I) → Frame decoding bytes m → Frame decoding bytes n → Fits encoding n → Fits encoding m
+fits_alike {encoding = encoding} {decoding = decoding} laws bytes m n f k fits =
+    let same = frame_once laws bytes m n f k in
+    let size : length (payload_text encoding m.payload) ≡ length (payload_text encoding n.payload) = ap length same.text in
+    fits_read encoding decoding bytes m f (omega (arith, fits.size))
+
+pub not_both : {I : Type 0} {eq : I → I → Bool} {encoding : Encoding I} {decoding : Decoding I} → Laws eq encoding decoding → (bytes : List ℕ) (m n : NetlinkMessage I) → Frame decoding bytes m → Frame decoding bytes n → Fits encoding m → IsTooLong encoding n → ⊥
+not_both laws bytes m n f k fits long = let other = fits_alike laws bytes n m k f fits in omega (arith, other.size)
+
+-- and are written alike
+pub written_alike : {I : Type 0} {eq : I → I → Bool} {encoding : Encoding I} {decoding : Decoding I} → Laws eq encoding decoding → (bytes : List ℕ) (m n : NetlinkMessage I) → Frame decoding bytes m → Frame decoding bytes n → canonical_frame encoding m ≡ canonical_frame encoding n
+written_alike {encoding = encoding} laws bytes m n f k = written_same encoding m n (frame_once laws bytes m n f k)
+
+-- the message of a canonical frame fits
+pub canonical_fits : {I : Type 0} {eq : I → I → Bool} {encoding : Encoding I} {decoding : Decoding I} → Laws eq encoding decoding → (bytes : List ℕ) (m : NetlinkMessage I) → IsCanonicalFrame decoding bytes → Frame decoding bytes m → Fits encoding m
+canonical_fits {encoding = encoding} {decoding = decoding} laws bytes m canonical (payload, begins, body) =
+    let parts = canonical_parts decoding bytes m.header payload canonical begins in
+    let text : length (payload_text encoding m.payload) ≡ length payload = ap length (body_back laws m.payload m.header payload body parts.body).1 in
+    fits_read encoding decoding bytes m (payload, begins, body) (omega (arith, begins.size, begins.in_range.length))
+
+-- what is written of a message that was read is canonical
+pub read_is_canonical : {I : Type 0} {eq : I → I → Bool} {encoding : Encoding I} {decoding : Decoding I} → Laws eq encoding decoding → (bytes : List ℕ) (m : NetlinkMessage I) → Frame decoding bytes m → Fits encoding m → IsCanonicalFrame decoding (canonical_frame encoding m)
+read_is_canonical {decoding = decoding} laws bytes m (payload, begins, body) fits =
+    written_is_canonical laws m fits (body_in_range decoding m.payload m.header payload body).1
+
+-- and only it is written of what it is the frame of
+pub written_again : {I : Type 0} {eq : I → I → Bool} {encoding : Encoding I} {decoding : Decoding I} → Laws eq encoding decoding → (bytes answer : List ℕ) (m n : NetlinkMessage I) → Frame decoding bytes m → Fits encoding m → answer ≡ canonical_frame encoding m → Frame decoding answer n → canonical_frame encoding n ≡ answer
+written_again {decoding = decoding} laws bytes answer m n f fits is k =
+    canonical_is_written laws answer n (subst (IsCanonicalFrame decoding) (sym is) (read_is_canonical laws bytes m f fits)) k

@@ -1,0 +1,117 @@
+-- What is written of a message is canonical, and reads back.
+use Rattle.std.proofs.Common.{◌≡◌, ◌↔◌, ℕ, ◌+◌, ◌<◌, ◌≤◌, ◌^◌, Bool, true, List, ◌++◌, drop, length, Some, inr, arith, sym, ap, refl, ◌∙◌, subst, append_assoc, length-append, IsTrue}
+use Rattle.netlink_bytes.specs.Numbers.{unsigned}
+use Rattle.netlink_packet_core.specs.Header.{header_text, header_of, HeaderInRange}
+use Rattle.netlink_packet_core.specs.Payload.{payload_text, payload_type, raw_code, PayloadInRange, InnerInRange}
+use Rattle.netlink_packet_core.specs.Protocol.{Encoding, Decoding, IsOwnType, IsLawful}
+use Rattle.netlink_packet_core.specs.Frame.{Body, Frame}
+use Rattle.netlink_packet_core.specs.Canonical.{Fits, finalized, canonical_frame, IsCanonicalFrame}
+use Rattle.netlink_packet_core.proofs.Numbers.{length-code}
+use Rattle.netlink_packet_core.proofs.Headers.{header_of-header_text, length-header_text, drop-header_text}
+use Rattle.netlink_packet_core.specs.declared.header.NetlinkHeader.{NetlinkHeader}
+use Rattle.netlink_packet_core.specs.declared.message.NetlinkMessage.{NetlinkMessage}
+use Rattle.netlink_packet_core.specs.declared.payload.NetlinkPayload.{NetlinkPayload}
+use Rattle.netlink_packet_core.specs.declared.payload.NetlinkPayload.TheVariants.{Done, Error, Noop, Overrun, InnerMessage}
+
+-- the laws of a protocol, over its members
+pub record Laws {I : Type 0} (eq : I → I → Bool) (encoding : Encoding I) (decoding : Decoding I) : Type 0 where
+  pub own_pair : (v : I) → decoding.stands_for v ≡ (encoding.type_of v, encoding.text_of v)
+  pub equal_pairs : (v w : I) → IsTrue (decoding.in_range v) → IsTrue (decoding.in_range w) → (eq v w ≡ true) ↔ (decoding.stands_for v ≡ decoding.stands_for w)
+  pub value_is_lawful : (v : I) → IsTrue (decoding.in_range v) → IsLawful decoding (decoding.stands_for v)
+
+-- a value's own type and text are lawful
+own_is_lawful : {I : Type 0} {eq : I → I → Bool} {encoding : Encoding I} {decoding : Decoding I} → Laws eq encoding decoding → (v : I) → IsTrue (decoding.in_range v) → IsLawful decoding (encoding.type_of v, encoding.text_of v)
+own_is_lawful {decoding = decoding} laws v in_range = subst (IsLawful decoding) (laws.own_pair v) (laws.value_is_lawful v in_range)
+
+-- a payload's text reads as the payload, in a header of its type and size
+body_of : {I : Type 0} {eq : I → I → Bool} {encoding : Encoding I} {decoding : Decoding I} → Laws eq encoding decoding → (x : NetlinkPayload I) → PayloadInRange x → InnerInRange decoding x → (h : NetlinkHeader) → h.message_type ≡ payload_type encoding x → h.length ≡ 16 + length (payload_text encoding x) → Body decoding h (payload_text encoding x) x
+body_of laws (Done m) r i h kind size = (kind, inr (record { whole = refl; in_range = r }))
+body_of laws (Error m) r i h kind size = (kind, record { whole = refl; in_range = r })
+body_of laws Noop r i h kind size = kind
+body_of laws (Overrun bytes) r i h kind size = (kind, refl)
+body_of laws (InnerMessage v) r i h kind size =
+    let own = own_is_lawful laws v i in
+    (subst IsOwnType (sym kind) own.own_type, i, own.again h kind size ∙ ap Some (sym (laws.own_pair v)))
+
+type_fits : {I : Type 0} {eq : I → I → Bool} {encoding : Encoding I} {decoding : Decoding I} → Laws eq encoding decoding → (x : NetlinkPayload I) → InnerInRange decoding x → payload_type encoding x < 2 ^ 16
+type_fits laws (Done m) i = omega arith
+type_fits laws (Error m) i = omega arith
+type_fits laws Noop i = omega arith
+type_fits laws (Overrun bytes) i = omega arith
+type_fits laws (InnerMessage v) i = (own_is_lawful laws v i).width
+
+-- the header of a finalized message is in range
+pub finalized_in_range : {I : Type 0} {eq : I → I → Bool} {encoding : Encoding I} {decoding : Decoding I} → Laws eq encoding decoding → (m : NetlinkMessage I) → Fits encoding m → InnerInRange decoding m.payload → HeaderInRange (finalized encoding m).header
+finalized_in_range laws m fits i = record {
+  length = fits.size;
+  message_type = type_fits laws m.payload i;
+  flags = fits.header.flags;
+  sequence_number = fits.header.sequence_number;
+  port_number = fits.header.port_number;
+}
+
+-- what is written reads back, whatever follows
+pub reads_before : {I : Type 0} {eq : I → I → Bool} {encoding : Encoding I} {decoding : Decoding I} → Laws eq encoding decoding → (m : NetlinkMessage I) → Fits encoding m → InnerInRange decoding m.payload → (more : List ℕ) → Frame decoding (canonical_frame encoding m ++ more) (finalized encoding m)
+reads_before {encoding = encoding} laws m fits i more =
+    let h = (finalized encoding m).header in (
+      payload_text encoding m.payload,
+      record {
+        rest = more;
+        whole = append_assoc (header_text h) (payload_text encoding m.payload) more;
+        size = refl;
+        in_range = finalized_in_range laws m fits i;
+      },
+      body_of laws m.payload fits.payload i h refl refl,
+    )
+
+-- what a payload's type says of the size of its text
+sizes : {I : Type 0} {eq : I → I → Bool} {encoding : Encoding I} {decoding : Decoding I} → Laws eq encoding decoding → (x : NetlinkPayload I) → InnerInRange decoding x → (payload_type encoding x ≡ 1 → length (payload_text encoding x) ≡ 0) × (payload_type encoding x ≡ 2 → 4 ≤ length (payload_text encoding x)) × (payload_type encoding x ≡ 3 → 4 ≤ length (payload_text encoding x))
+sizes laws (Done m) i = let size = length-code (unsigned 4 m.code) m.extended_ack.items in (λ e. absurd (omega arith), λ e. omega arith, λ e. omega arith)
+sizes laws (Error m) i = let size = length-code (unsigned 4 (raw_code m.code)) m.header.items in (λ e. absurd (omega arith), λ e. omega arith, λ e. absurd (omega arith))
+sizes laws Noop i = (λ e. refl, λ e. absurd (omega arith), λ e. absurd (omega arith))
+sizes laws (Overrun bytes) i = (λ e. absurd (omega arith), λ e. absurd (omega arith), λ e. absurd (omega arith))
+sizes laws (InnerMessage v) i =
+    let own = (own_is_lawful laws v i).own_type in (λ e. absurd (own.0 e), λ e. absurd (own.1 e), λ e. absurd (own.2 e))
+
+-- a payload of the protocol's own type reads as itself
+own_reads : {I : Type 0} {eq : I → I → Bool} {encoding : Encoding I} {decoding : Decoding I} → Laws eq encoding decoding → (x : NetlinkPayload I) → InnerInRange decoding x → (h : NetlinkHeader) → h.message_type ≡ payload_type encoding x → h.length ≡ 16 + length (payload_text encoding x) → IsOwnType h.message_type → decoding.reading h (payload_text encoding x) ≡ Some (payload_type encoding x, payload_text encoding x)
+own_reads laws (Done m) i h kind size own = absurd (own.2 kind)
+own_reads laws (Error m) i h kind size own = absurd (own.1 kind)
+own_reads laws Noop i h kind size own = absurd (own.0 kind)
+own_reads laws (Overrun bytes) i h kind size own = absurd (own.3 kind)
+own_reads laws (InnerMessage v) i h kind size own = (own_is_lawful laws v i).again h kind size
+
+-- what is written is canonical
+pub written_is_canonical : {I : Type 0} {eq : I → I → Bool} {encoding : Encoding I} {decoding : Decoding I} → Laws eq encoding decoding → (m : NetlinkMessage I) → Fits encoding m → InnerInRange decoding m.payload → IsCanonicalFrame decoding (canonical_frame encoding m)
+written_is_canonical {encoding = encoding} {decoding = decoding} laws m fits i =
+    let h : NetlinkHeader = (finalized encoding m).header in
+    let text : List ℕ = payload_text encoding m.payload in
+    let bytes : List ℕ = header_text h ++ text in
+    let head : header_of bytes ≡ h = header_of-header_text h text (finalized_in_range laws m fits i) in
+    let size : length bytes ≡ 16 + length text = length-append (header_text h) text ∙ ap (λ (n : ℕ). n + length text) (length-header_text h) in
+    let whole : (header_of bytes).length ≡ 16 + length text = ap (λ (j : NetlinkHeader). j.length) head in
+    let kind : (header_of bytes).message_type ≡ payload_type encoding m.payload = ap (λ (j : NetlinkHeader). j.message_type) head in
+    let rest : drop 16 bytes ≡ text = drop-header_text h text in
+    let of_type = sizes laws m.payload i in
+    let reads : IsOwnType h.message_type → decoding.reading h text ≡ Some (h.message_type, text) = own_reads laws m.payload i h refl refl in
+    record {
+      header = omega arith;
+      whole = whole ∙ sym size;
+      noop = λ e. size ∙ ap (λ (n : ℕ). 16 + n) (of_type.0 (sym kind ∙ e));
+      error = λ e. let four = of_type.1 (sym kind ∙ e) in omega arith;
+      done = λ e. let four = of_type.2 (sym kind ∙ e) in omega arith;
+      own = subst (λ (j : NetlinkHeader). IsOwnType j.message_type → decoding.reading j (drop 16 bytes) ≡ Some (j.message_type, drop 16 bytes)) (sym head)
+          (subst (λ (q : List ℕ). IsOwnType h.message_type → decoding.reading h q ≡ Some (h.message_type, q)) (sym rest) reads);
+    }
+
+-- one canonical frame is of one header and one payload text
+pub written_once : {I : Type 0} (encoding : Encoding I) (m n : NetlinkMessage I) → HeaderInRange (finalized encoding m).header → HeaderInRange (finalized encoding n).header → canonical_frame encoding m ≡ canonical_frame encoding n → ((finalized encoding m).header ≡ (finalized encoding n).header) × (payload_text encoding m.payload ≡ payload_text encoding n.payload)
+written_once encoding m n i j e = (
+  sym (header_of-header_text (finalized encoding m).header (payload_text encoding m.payload) i) ∙ ap header_of e ∙ header_of-header_text (finalized encoding n).header (payload_text encoding n.payload) j,
+  sym (drop-header_text (finalized encoding m).header (payload_text encoding m.payload)) ∙ ap (drop 16) e ∙ drop-header_text (finalized encoding n).header (payload_text encoding n.payload),
+)
+
+pub written_from : {I : Type 0} (encoding : Encoding I) (m n : NetlinkMessage I) → (finalized encoding m).header ≡ (finalized encoding n).header → payload_text encoding m.payload ≡ payload_text encoding n.payload → canonical_frame encoding m ≡ canonical_frame encoding n
+written_from encoding m n h t =
+    ap (λ (j : NetlinkHeader). header_text j ++ payload_text encoding m.payload) h
+    ∙ ap (λ (text : List ℕ). header_text (finalized encoding n).header ++ text) t

@@ -1,0 +1,53 @@
+use Rattle.std.proofs.Common.{◌≡◌, ◌≤◌, sym, ap, arith, length}
+use Rattle.netlink_packet_core.specs.Canonical.{canonical_frame, finalized}
+use Rattle.netlink_packet_core.specs.Payload.{payload_type}
+use Rattle.netlink_packet_core.proofs.Headers.{begins-holds}
+use Rattle.netlink_packet_core.proofs.Written.{Laws, written_is_canonical, written_once, written_from, reads_before, finalized_in_range}
+use Rattle.netlink_packet_core.proofs.Canonicals.{canonical_is_written, cut_holds_none, cut_short, cut_later}
+use Rattle.netlink_packet_core.proofs.Once.{headers_and, and_headers}
+use Rattle.netlink_packet_core.specs.declared.header.NetlinkHeader.{NetlinkHeader}
+use Rattle.netlink_packet_core.proofs.laws.reads_back.Given
+use Rattle.netlink_packet_core.proofs.laws.reads_back.Goals as goal
+
+laws : (g : Given.Over) → Laws g.I.PartialEq.eq g.I.NetlinkSerializable.encoding g.I.NetlinkDeserializable.decoding
+laws g = let met = g.met.I.NetlinkProtocol in record { own_pair = met.own_pair; equal_pairs = met.equal_pairs; value_is_lawful = met.value_is_lawful }
+
+pub returns-clause-canonical : goal.returns-clause-canonical
+returns-clause-canonical g c = written_is_canonical (laws g) c.args.m.now c.requires.first c.known.ensures
+
+pub returns-clause-only : goal.returns-clause-only
+returns-clause-only g c b canonical frame = sym (canonical_is_written (laws g) b (finalized g.I.NetlinkSerializable.encoding c.args.m.now) canonical frame)
+
+pub returns-clause-before : goal.returns-clause-before
+returns-clause-before g c = reads_before (laws g) c.args.m.now c.requires.first c.known.ensures c.args.c.now
+
+pub returns-clause-cut : goal.returns-clause-cut
+returns-clause-cut g c k proper x (payload, begins, body) =
+    let canonical = written_is_canonical (laws g) c.args.m.now c.requires.first c.known.ensures in
+    cut_holds_none (canonical_frame g.I.NetlinkSerializable.encoding c.args.m.now) k canonical.whole proper (begins-holds _ x.header payload begins)
+
+pub returns-clause-cut_short : goal.returns-clause-cut_short
+returns-clause-cut_short g c k few =
+    let canonical = written_is_canonical (laws g) c.args.m.now c.requires.first c.known.ensures in
+    let long : 16 ≤ length (canonical_frame g.I.NetlinkSerializable.encoding c.args.m.now) = canonical.header in
+    cut_short (canonical_frame g.I.NetlinkSerializable.encoding c.args.m.now) k (omega arith) few
+
+pub returns-clause-cut_later : goal.returns-clause-cut_later
+returns-clause-cut_later g c k many proper =
+    let canonical = written_is_canonical (laws g) c.args.m.now c.requires.first c.known.ensures in
+    cut_later (canonical_frame g.I.NetlinkSerializable.encoding c.args.m.now) k canonical.whole proper many
+
+pub returns-clause-equal : goal.returns-clause-equal
+returns-clause-equal g c =
+    let encoding = g.I.NetlinkSerializable.encoding in
+    let m = c.args.m.now in
+    let n = c.args.n.now in
+    let equal = c.equal_payloads.ensures m.payload n.payload c.requires.first.payload c.requires.second.payload c.known.ensures c.known-2.ensures in (
+      λ e.
+          let both = written_once encoding m n (finalized_in_range (laws g) m c.requires.first c.known.ensures) (finalized_in_range (laws g) n c.requires.second c.known-2.ensures) e in
+          let types : payload_type encoding m.payload ≡ payload_type encoding n.payload = ap (λ (h : NetlinkHeader). h.message_type) both.0 in
+          headers_and _ (finalized encoding m).header (finalized encoding n).header both.0 (equal.0 (types, both.1)),
+      λ t.
+          let both = and_headers _ (finalized encoding m).header (finalized encoding n).header t in
+          written_from encoding m n both.0 (equal.1 both.1).1,
+    )
