@@ -4,3 +4,9 @@ pub mod Header
 pub mod Payload
 pub mod Protocol
 pub mod Refusal
+
+-- the words of the crate below, for those who use this one alone
+pub use Rattle.netlink_bytes.specs.Causes
+pub use Rattle.netlink_bytes.specs.NumberLaws
+pub use Rattle.netlink_bytes.specs.Numbers
+pub use Rattle.netlink_bytes.specs.declared.error.DecodeError

@@ -1,0 +1,20 @@
+//! Ethernet protocol numbers, as linux/if_ether.h has them, and their names.
+//!
+//! `EthernetProtocol` has a variant for each of 102 numbers, and `Other` for every other number.
+//! It converts from and to the number by `From`, and prints the protocol's name by `Display`.
+//!
+//! A number's variant is found by comparing the number with those of a table in rising order.
+//! `look_up` does that, and counts its comparisons: at least one and at most seven. All contracts
+//! speak of one table, `row_of` in specs/Table.antt.
+#![tactic(auto)]
+
+mod comparisons;
+pub mod laws;
+mod protocol;
+mod table;
+#[cfg(test)]
+mod tests;
+
+pub use crate::comparisons::Comparisons;
+pub use crate::protocol::EthernetProtocol;
+pub use crate::table::look_up;

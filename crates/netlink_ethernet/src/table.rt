@@ -1,0 +1,157 @@
+//! The protocols that have names, by rising number, and the search for a number's protocol.
+
+ghost use Rattle.std.specs.Prelude.{◌≡◌, ◌≤◌, ◌<◌, ◌+◌, ◌-◌, ◌*◌, Some, slice_get};
+ghost use Rattle.netlink_ethernet.specs.Table.{named, protocol_of};
+
+use crate::comparisons::{Comparisons, ROWS};
+use crate::protocol::EthernetProtocol;
+use std::cmp::Ordering;
+
+const PROTOCOLS: [EthernetProtocol; ROWS] = [
+    EthernetProtocol::E802_3,
+    EthernetProtocol::Ax25,
+    EthernetProtocol::All,
+    EthernetProtocol::E802_2,
+    EthernetProtocol::Snap,
+    EthernetProtocol::Ddcmp,
+    EthernetProtocol::WanPpp,
+    EthernetProtocol::PppMp,
+    EthernetProtocol::Localtalk,
+    EthernetProtocol::Can,
+    EthernetProtocol::Canfd,
+    EthernetProtocol::Canxl,
+    EthernetProtocol::Ppptalk,
+    EthernetProtocol::Tr802_2,
+    EthernetProtocol::Mobitex,
+    EthernetProtocol::Control,
+    EthernetProtocol::Irda,
+    EthernetProtocol::Econet,
+    EthernetProtocol::Hdlc,
+    EthernetProtocol::Arcnet,
+    EthernetProtocol::Dsa,
+    EthernetProtocol::Trailer,
+    EthernetProtocol::Loop,
+    EthernetProtocol::Phonet,
+    EthernetProtocol::Ieee802154,
+    EthernetProtocol::Caif,
+    EthernetProtocol::Xdsa,
+    EthernetProtocol::Map,
+    EthernetProtocol::Mctp,
+    EthernetProtocol::Pup,
+    EthernetProtocol::Pupat,
+    EthernetProtocol::Ip,
+    EthernetProtocol::X25,
+    EthernetProtocol::Arp,
+    EthernetProtocol::Bpq,
+    EthernetProtocol::IeeePup,
+    EthernetProtocol::IeeePupat,
+    EthernetProtocol::Erspan2,
+    EthernetProtocol::Tsn,
+    EthernetProtocol::Batman,
+    EthernetProtocol::Dec,
+    EthernetProtocol::DnaDl,
+    EthernetProtocol::DnaRc,
+    EthernetProtocol::DnaRt,
+    EthernetProtocol::Lat,
+    EthernetProtocol::Diag,
+    EthernetProtocol::Cust,
+    EthernetProtocol::Sca,
+    EthernetProtocol::Teb,
+    EthernetProtocol::Rarp,
+    EthernetProtocol::Atalk,
+    EthernetProtocol::Aarp,
+    EthernetProtocol::E8021Q,
+    EthernetProtocol::Ipx,
+    EthernetProtocol::Ipv6,
+    EthernetProtocol::Pause,
+    EthernetProtocol::Slow,
+    EthernetProtocol::Wccp,
+    EthernetProtocol::MplsUc,
+    EthernetProtocol::MplsMc,
+    EthernetProtocol::Atmmpoa,
+    EthernetProtocol::PppDisc,
+    EthernetProtocol::PppSes,
+    EthernetProtocol::LinkCtl,
+    EthernetProtocol::Atmfate,
+    EthernetProtocol::Pae,
+    EthernetProtocol::Profinet,
+    EthernetProtocol::Realtek,
+    EthernetProtocol::Aoe,
+    EthernetProtocol::Ethercat,
+    EthernetProtocol::E8021Ad,
+    EthernetProtocol::E802Ex1,
+    EthernetProtocol::Erspan,
+    EthernetProtocol::MxlGsw,
+    EthernetProtocol::Preauth,
+    EthernetProtocol::Tipc,
+    EthernetProtocol::Lldp,
+    EthernetProtocol::Mrp,
+    EthernetProtocol::Macsec,
+    EthernetProtocol::E8021Ah,
+    EthernetProtocol::Mvrp,
+    EthernetProtocol::E1588,
+    EthernetProtocol::Ncsi,
+    EthernetProtocol::Prp,
+    EthernetProtocol::Cfm,
+    EthernetProtocol::Fcoe,
+    EthernetProtocol::Tdls,
+    EthernetProtocol::Fip,
+    EthernetProtocol::Iboe,
+    EthernetProtocol::E80221,
+    EthernetProtocol::Hsr,
+    EthernetProtocol::Nsh,
+    EthernetProtocol::Loopback,
+    EthernetProtocol::Qinq1,
+    EthernetProtocol::Qinq2,
+    EthernetProtocol::Qinq3,
+    EthernetProtocol::Yt921x,
+    EthernetProtocol::Edsa,
+    EthernetProtocol::Dsa8021Q,
+    EthernetProtocol::DsaA5psw,
+    EthernetProtocol::Ife,
+    EthernetProtocol::AfIucv,
+];
+
+// The protocol of the row at the index.
+fn protocol_at(index: usize) -> EthernetProtocol
+    requires { index < 102 }
+    ensures { slice_get named index ≡ Some result }
+{
+    PROTOCOLS[index]
+}
+
+// The row in the middle of those from low up to high, so that at most half of them are left on
+// either side.
+fn middle_of(low: usize, high: usize) -> usize
+    requires { low < high }
+    ensures from { low ≤ result }
+    ensures to { result < high }
+    ensures before { 2 * (result - low) ≤ high - low }
+    ensures after { 2 * (high - (result + 1)) ≤ high - low }
+{
+    low + (high - low) / 2
+}
+
+/// The protocol of the number, which is in host order, as `EthernetProtocol::from` gives it: the
+/// variant that stands for the number, or else `Other` of it.
+///
+/// It is found by comparisons with the rows of the table, of which at least one and at most seven
+/// are made, and these are added to the count. So there has to be room for seven more.
+pub fn look_up(sought: u16, comparisons: &mut Comparisons) -> EthernetProtocol
+    requires room { comparisons.old ≤ u32.MAX - 7 }
+    ensures protocol { result ≡ protocol_of sought }
+    ensures at_least_one { comparisons.old + 1 ≤ comparisons.new }
+    ensures at_most_seven { comparisons.new ≤ comparisons.old + 7 }
+{
+    let mut low = 0;
+    let mut high = ROWS;
+    while low < high {
+        let middle = middle_of(low, high);
+        match comparisons.compare(sought, middle) {
+            Ordering::Less => high = middle,
+            Ordering::Equal => return protocol_at(middle),
+            Ordering::Greater => low = middle + 1,
+        }
+    }
+    EthernetProtocol::Other(sought)
+}

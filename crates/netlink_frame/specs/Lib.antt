@@ -1,0 +1,3 @@
+pub mod PingPong
+pub mod PingPongLaws
+pub mod Run

@@ -1,0 +1,44 @@
+-- What a command writes for an input, the fault that it ends with, and what a run did.
+use Rattle.std.specs.Prelude.{◌≡◌, ◌≢◌, ℕ, List, [], Option, None, Some, Result, Ok, Err, codes}
+use Rattle.std.specs.Io.KnownBytes.{Appends}
+use Rattle.netlink_packet_core.specs.DecodeError.{DecodeError}
+use Rattle.netlink_packet_core.specs.DecodeError.TheVariants.{OutOfMemory}
+use Rattle.netlink_packet_core.specs.Causes.{cause_text}
+use Rattle.netlink_packet_core.specs.Canonical.{Fits, IsNormalizeFault, canonical_frame}
+use Rattle.netlink_packet_core.specs.Frame.{Frame}
+use Rattle.netlink_packet_core.specs.declared.message.NetlinkMessage.{NetlinkMessage}
+use Rattle.netlink_frame.specs.PingPong.{ping_pong_decoding, ping_pong_encoding, wants_memory}
+use Rattle.netlink_frame.specs.declared.ping_pong.PingPongMessage.{PingPongMessage}
+use Rattle.netlink_frame.specs.declared.command.Command.{Command}
+use Rattle.netlink_frame.specs.declared.command.Command.TheVariants.{Normalize}
+use Rattle.netlink_frame.specs.declared.run.Fault.{Fault}
+use Rattle.netlink_frame.specs.declared.run.Fault.TheVariants.{Read, Write, Decode}
+
+-- the bytes that a command writes for an input, and the fault that it ends with
+unfoldable pub Makes : Command → List ℕ → List ℕ → Option DecodeError → Type 0
+Makes Normalize input output None =
+    (m : NetlinkMessage PingPongMessage) × Frame ping_pong_decoding input m × Fits ping_pong_encoding m × (output ≡ canonical_frame ping_pong_encoding m)
+Makes Normalize input output (Some e) =
+    (output ≡ []) × (e ≢ OutOfMemory) × IsNormalizeFault ping_pong_encoding ping_pong_decoding wants_memory input e
+
+-- the writer took the output of the command and nothing else, and this is the fault
+abbrev pub Wrote : Command → List ℕ → Option (List ℕ) → Option (List ℕ) → Option DecodeError → Type 0
+Wrote command input old new fault = (output : List ℕ) × Makes command input output fault × Appends old new output
+
+-- what a run over the whole input did; want of memory and a failed write decide nothing here
+abbrev pub Answers : {A : Type 0} → Command → List ℕ → Option (List ℕ) → Option (List ℕ) → Result A Fault → Type 0
+Answers command input old new (Ok done) = Wrote command input old new None
+Answers command input old new (Err (Decode e)) = e ≢ OutOfMemory → Wrote command input old new (Some e)
+Answers command input old new (Err fault) = Unit {0}
+
+-- a fault before anything was written
+abbrev pub IsEarly : Fault → Type 0
+IsEarly Read = Unit {0}
+IsEarly Write = ⊥
+IsEarly (Decode e) = e ≡ OutOfMemory
+
+-- the text of a fault
+abbrev pub fault_text : Fault → List ℕ
+fault_text Read = codes "read failed"
+fault_text Write = codes "write failed"
+fault_text (Decode cause) = cause_text cause

@@ -1,0 +1,130 @@
+//! A sub-protocol of two messages, each of some bytes.
+
+ghost use Rattle.std.specs.Prelude.{◌≡◌, ◌<◌, length, IfOk, IfErr, OnErr, refl, Some};
+ghost use Rattle.netlink_frame.specs.PingPong.{error_text, ping_pong_decoding, ping_pong_encoding, wants_memory};
+ghost use Rattle.netlink_frame.specs.PingPongLaws.{equal_pairs, reading_is_lawful, value_is_lawful};
+
+use netlink_packet_core::{
+    NetlinkDeserializable, NetlinkHeader, NetlinkProtocol, NetlinkSerializable,
+};
+use std::alloc::Global;
+use std::error::Error;
+use std::fmt;
+
+/// The message type of a ping.
+pub const PING_MESSAGE: u16 = 18;
+
+/// The message type of a pong.
+pub const PONG_MESSAGE: u16 = 20;
+
+/// A ping or a pong; its text is the bytes that it carries.
+#[derive(Debug, Drop, PartialEq, Eq)]
+pub enum PingPongMessage {
+    /// Type 18.
+    Ping(Vec<u8>),
+    /// Type 20.
+    Pong(Vec<u8>),
+}
+
+/// Why a payload is no message of the protocol.
+#[derive(Clone, Copy, Debug, PartialEq, Eq)]
+pub enum DeserializeError {
+    /// The header has another type than 18 and 20.
+    InvalidType,
+    /// A request for memory was refused.
+    OutOfMemory,
+}
+
+impl fmt::Display for DeserializeError {
+    ghost output = { λ e. Some (error_text e) };
+
+    fn fmt<W: fmt::Write>(&self, f: &mut fmt::Formatter<W>) -> fmt::Result {
+        match self {
+            DeserializeError::InvalidType => {
+                f.write_str("invalid ping-pong message: invalid message type")
+            }
+            DeserializeError::OutOfMemory => f.write_str("out of memory"),
+        }
+    }
+}
+
+impl Error for DeserializeError {}
+
+impl NetlinkSerializable for PingPongMessage {
+    ghost encoding = { ping_pong_encoding };
+
+    fn message_type(&self) -> u16 {
+        match self {
+            PingPongMessage::Ping(_) => PING_MESSAGE,
+            PingPongMessage::Pong(_) => PONG_MESSAGE,
+        }
+    }
+
+    fn buffer_len(&self) -> usize {
+        match self {
+            PingPongMessage::Ping(bytes) | PingPongMessage::Pong(bytes) => bytes.len(),
+        }
+    }
+
+    fn serialize(&self, buffer: &mut [u8]) {
+        match self {
+            PingPongMessage::Ping(bytes) | PingPongMessage::Pong(bytes) => {
+                buffer.copy_from_slice(bytes);
+            }
+        }
+    }
+}
+
+impl NetlinkDeserializable for PingPongMessage {
+    type Error = DeserializeError;
+
+    ghost decoding = { ping_pong_decoding };
+
+    ghost wants_memory = { wants_memory };
+
+    fn deserialize(
+        alloc: Global,
+        header: &NetlinkHeader,
+        payload: &[u8],
+    ) -> Result<Self, DeserializeError> {
+        match header.message_type {
+            PING_MESSAGE => Ok(PingPongMessage::Ping(copied(alloc, payload)?)),
+            PONG_MESSAGE => Ok(PingPongMessage::Pong(copied(alloc, payload)?)),
+            _ => Err(DeserializeError::InvalidType),
+        }
+    }
+
+    fn is_out_of_memory(error: &DeserializeError) -> bool {
+        match error {
+            DeserializeError::InvalidType => false,
+            DeserializeError::OutOfMemory => true,
+        }
+    }
+}
+
+impl NetlinkProtocol for PingPongMessage {
+    fn in_widths(&self) {}
+
+    ghost own_pair = { λ v. refl };
+
+    ghost equal_pairs = { λ v w _ _. equal_pairs Self.eq (λ a b. refl) (λ a b. refl) (λ a b. refl) (λ a b. refl) v w };
+
+    ghost value_is_lawful = { λ v _. value_is_lawful v };
+
+    ghost reading_is_lawful = { reading_is_lawful };
+}
+
+/// A copy of the bytes, of their exact size. No bytes ask for no memory.
+fn copied(alloc: Global, bytes: &[u8]) -> Result<Vec<u8>, DeserializeError>
+    ensures ok { IfOk result (λ copy. copy.items ≡ bytes.now) }
+    ensures memory { IfErr result (λ e. e ≡ DeserializeError.OutOfMemory) }
+    ensures empty { OnErr result (0 < length bytes.now) }
+{
+    if bytes.is_empty() {
+        return Ok(Vec::new(alloc));
+    }
+    match Vec::from_slice(alloc, bytes) {
+        Ok(copy) => Ok(copy),
+        Err(_) => Err(DeserializeError::OutOfMemory),
+    }
+}

@@ -1,0 +1,128 @@
+//! A run of the program over a reader and a writer.
+
+ghost use Rattle.std.specs.Prelude.{◌≡◌, ◌≢◌, IfOk, IfErr, IfSome};
+ghost use Rattle.std.specs.Io.KnownBytes.{Keeps};
+ghost use Rattle.netlink_frame.specs.Run.{Answers, IsEarly, Makes, fault_text};
+
+use crate::command::Command;
+use crate::ping_pong::PingPongMessage;
+use netlink_packet_core::{DecodeError, normalize};
+use std::alloc::{AllocError, Global};
+use std::io::{Read, Write};
+use std::{fmt, io};
+
+/// Why a run did not end well.
+#[derive(Debug, Drop)]
+pub enum Fault {
+    /// The reader failed, or did not end within its bound of calls.
+    Read,
+    /// The writer failed; how much it took is not said.
+    Write,
+    /// The input was refused, or a request for memory was.
+    Decode(DecodeError),
+}
+
+impl fmt::Display for Fault {
+    ghost use Rattle.std.specs.Prelude.{Some};
+
+    ghost output = { λ fault. Some (fault_text fault) };
+
+    fn fmt<W: fmt::Write>(&self, f: &mut fmt::Formatter<W>) -> fmt::Result {
+        match self {
+            Fault::Read => f.write_str("read failed"),
+            Fault::Write => f.write_str("write failed"),
+            Fault::Decode(cause) => write!(f, "{cause}"),
+        }
+    }
+}
+
+/// The most calls of the reader in one run.
+const CALLS: u32 = 1_048_576;
+
+/// The most bytes of one call.
+const CHUNK: usize = 4096;
+
+/// What a command makes of an input.
+struct Answer {
+    output: Vec<u8>,
+    fault: Option<DecodeError>,
+}
+
+/// Writes what the command makes of all that the reader gives, in one piece, and ends with its fault.
+///
+/// The reader's end has to come within 1048576 calls, each for at most 4096 bytes; an interrupted
+/// call counts, and is made again. A `Read` fault, and want of memory, have written nothing. A
+/// `Write` fault comes before a `Decode` that would have followed; empty output is not written.
+pub fn run<R: Read, W: Write>(
+    alloc: Global,
+    command: Command,
+    reader: &mut R,
+    writer: &mut W,
+) -> Result<(), Fault>
+    ensures nothing { IfErr result (λ fault. IsEarly fault → Keeps (W.contents writer.old) (W.contents writer.new)) }
+    ensures answers { IfSome (R.remaining reader.old) (λ input.
+        Answers command input (W.contents writer.old) (W.contents writer.new) result) }
+{
+    let input = read_all(alloc, reader)?;
+    let Answer { output, fault } = match answer_to(alloc, command, input.as_slice()) {
+        Ok(answer) => answer,
+        Err(_) => return Err(Fault::Decode(DecodeError::OutOfMemory)),
+    };
+    if writer.write_all(output.as_slice()).is_err() {
+        return Err(Fault::Write);
+    }
+    match fault {
+        None => Ok(()),
+        Some(cause) => Err(Fault::Decode(cause)),
+    }
+}
+
+/// All that the reader gives.
+fn read_all<R: Read>(alloc: Global, reader: &mut R) -> Result<Vec<u8>, Fault>
+    ensures ok { IfOk result (λ input. IfSome (R.remaining reader.old) (λ all. input.items ≡ all)) }
+    ensures err { IfErr result IsEarly }
+{
+    let mut input = Vec::new(alloc);
+    let mut chunk = [0u8; CHUNK];
+    for _ in 0..CALLS {
+        match reader.read(&mut chunk) {
+            Ok(0) => return Ok(input),
+            Ok(n) => {
+                if input.extend_from_slice(&chunk[..n]).is_err() {
+                    return Err(Fault::Decode(DecodeError::OutOfMemory));
+                }
+            }
+            Err(e) => {
+                if e.kind() != io::ErrorKind::Interrupted {
+                    return Err(Fault::Read);
+                }
+            }
+        }
+    }
+    Err(Fault::Read)
+}
+
+/// The output of the command and its fault, or want of memory.
+#[tactic(auto, unfolding(crate::specs::Run::Makes))]
+fn answer_to(alloc: Global, command: Command, input: &[u8]) -> Result<Answer, AllocError>
+    ensures makes { IfOk result (λ answer. Makes command input.now answer.output.items answer.fault) }
+    ensures fault { IfOk result (λ answer. IfSome answer.fault (λ e. e ≢ DecodeError.OutOfMemory)) }
+{
+    match command {
+        Command::Normalize => match normalize::<PingPongMessage>(alloc, input) {
+            Ok(output) => Ok(Answer {
+                output,
+                fault: None,
+            }),
+            Err(cause) => {
+                if cause.is_out_of_memory() {
+                    return Err(AllocError);
+                }
+                Ok(Answer {
+                    output: Vec::new(alloc),
+                    fault: Some(cause),
+                })
+            }
+        },
+    }
+}
