@@ -6,6 +6,7 @@ use Rattle.netlink_packet_core.specs.DecodeError.TheVariants.{OutOfMemory}
 use Rattle.netlink_packet_core.specs.Causes.{cause_text}
 use Rattle.netlink_packet_core.specs.Canonical.{Fits, IsNormalizeFault, canonical_frame}
 use Rattle.netlink_packet_core.specs.Frame.{Frame}
+use Rattle.netlink_packet_core.specs.Refusal.{SameRefusal}
 use Rattle.netlink_packet_core.specs.declared.message.NetlinkMessage.{NetlinkMessage}
 use Rattle.netlink_frame.specs.PingPong.{ping_pong_decoding, ping_pong_encoding, wants_memory}
 use Rattle.netlink_frame.specs.declared.ping_pong.PingPongMessage.{PingPongMessage}
@@ -20,6 +21,12 @@ Makes Normalize input output None =
     (m : NetlinkMessage PingPongMessage) × Frame ping_pong_decoding input m × Fits ping_pong_encoding m × (output ≡ canonical_frame ping_pong_encoding m)
 Makes Normalize input output (Some e) =
     (output ≡ []) × (e ≢ OutOfMemory) × IsNormalizeFault ping_pong_encoding ping_pong_decoding wants_memory input e
+
+-- two faults are one, but for the words that follow the fixed beginning of a free text
+abbrev pub SameFault : Option DecodeError → Option DecodeError → Type 0
+SameFault None None = Unit {0}
+SameFault (Some e) (Some f) = SameRefusal e f
+SameFault _ _ = ⊥
 
 -- the writer took the output of the command and nothing else, and this is the fault
 abbrev pub Wrote : Command → List ℕ → Option (List ℕ) → Option (List ℕ) → Option DecodeError → Type 0

@@ -2,6 +2,7 @@
 #![tactic(auto)]
 
 mod command;
+pub mod laws;
 mod ping_pong;
 mod run;
 #[cfg(test)]

@@ -71,3 +71,8 @@ HasNothingToCopy message_type payload =
 -- reading these bytes asks for no memory: they hold no frame, or one with nothing to copy
 abbrev pub AsksNoMemory : List ℕ → Type 0
 AsksNoMemory bytes = HoldsFrame bytes → HasNothingToCopy (field 4 2 bytes) (payload_of bytes)
+
+-- two refusals are one, but for the words that follow the fixed beginning of a free text
+abbrev pub SameRefusal : DecodeError → DecodeError → Type 0
+SameRefusal (Message a) (Message b) = (message_type : ℕ) × (r : List ℕ) × (s : List ℕ) × (string_bytes a ≡ refusal_text message_type r) × (string_bytes b ≡ refusal_text message_type s)
+SameRefusal e f = e ≡ f

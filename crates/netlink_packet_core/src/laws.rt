@@ -1,16 +1,17 @@
 //! Laws over the definitions alone: each has an empty effect, and its contract is the law.
 
-ghost use Rattle.std.specs.Prelude.{◌≡◌, ◌↔◌, ◌<◌, ◌≤◌, ◌++◌, ℕ, List, true, IsTrue, take, length};
+ghost use Rattle.std.specs.Prelude.{◌≡◌, ◌≢◌, ◌↔◌, ◌<◌, ◌≤◌, ◌++◌, ℕ, List, true, IsTrue, take, length};
 ghost use Rattle.netlink_packet_core.specs.Canonical.{Fits, IsCanonicalFrame, canonical_frame, finalized};
 ghost use Rattle.netlink_packet_core.specs.Frame.{Frame};
 ghost use Rattle.netlink_packet_core.specs.Payload.{InnerInRange, PayloadInRange, payload_text, payload_type};
-ghost use Rattle.netlink_packet_core.specs.Refusal.{IsFrameFault};
+ghost use Rattle.netlink_packet_core.specs.Refusal.{IsFrameFault, IsRefusal, SameRefusal};
+ghost use Rattle.netlink_bytes.specs.declared.error.DecodeError.{DecodeError};
 ghost use Rattle.netlink_packet_core.specs.declared.message.NetlinkMessage.{NetlinkMessage};
 ghost use Rattle.netlink_packet_core.specs.declared.payload.NetlinkPayload.{NetlinkPayload};
 
 use crate::message::NetlinkMessage;
 use crate::payload::NetlinkPayload;
-use crate::traits::NetlinkProtocol;
+use crate::traits::{NetlinkDeserializable, NetlinkProtocol};
 use netlink_bytes::DecodeError;
 
 /// The inner value in hand is in range.
@@ -29,13 +30,26 @@ fn equal_payloads<I: NetlinkProtocol>()
         ↔ IsTrue (⟦<NetlinkPayload<I> as PartialEq>⟧.eq x y) }
 {}
 
-/// Bytes are the frame of one message at most, by `==`.
+/// Bytes are the frame of one message at most, by `==`, and have one canonical frame at most.
 pub fn frame_unique<I: NetlinkProtocol>()
     ensures unique { (bytes : List ℕ) (m n : NetlinkMessage I) → Frame I.decoding bytes m → Frame I.decoding bytes n
         → IsTrue (⟦<NetlinkMessage<I> as PartialEq>⟧.eq m n) }
+    ensures fits { (bytes : List ℕ) (m n : NetlinkMessage I) → Frame I.decoding bytes m → Frame I.decoding bytes n
+        → Fits I.encoding m → Fits I.encoding n }
+    ensures written { (bytes : List ℕ) (m n : NetlinkMessage I) → Frame I.decoding bytes m → Frame I.decoding bytes n
+        → canonical_frame I.encoding m ≡ canonical_frame I.encoding n }
 {
     equal_payloads::<I>();
 }
+
+/// Bytes are refused in one way at most, want of memory and a protocol's own words aside, and the
+/// frame of a message is refused for want of memory alone.
+pub fn refusal_unique<I: NetlinkDeserializable>()
+    ensures unique { (bytes : List ℕ) (e f : DecodeError) → IsRefusal I.decoding I.wants_memory bytes e → IsRefusal I.decoding I.wants_memory bytes f
+        → e ≢ DecodeError.OutOfMemory → f ≢ DecodeError.OutOfMemory → SameRefusal e f }
+    ensures frame { (bytes : List ℕ) (m : NetlinkMessage I) (e : DecodeError) → Frame I.decoding bytes m → IsRefusal I.decoding I.wants_memory bytes e
+        → e ≡ DecodeError.OutOfMemory }
+{}
 
 /// What is written of a message is its one canonical frame: it reads back as the finalized message,
 /// whatever follows, and is no frame at any proper cut. The canonical frames of two messages are
