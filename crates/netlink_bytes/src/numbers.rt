@@ -39,14 +39,14 @@ fn front<const N: usize>(buf: &mut [u8], bytes: [u8; N]) -> Result<(), DecodeErr
 pub fn parse_u16(payload: &[u8]) -> Result<u16, DecodeError>
     ensures reads { Reads number_le 2 payload.now result }
 {
-    Ok(u16::from_le_bytes(exactly(payload)?))
+    Ok(u16::from_ne_bytes(exactly(payload)?))
 }
 
 /// The number of exactly 4 bytes in native order; any other size is refused with C4.
 pub fn parse_u32(payload: &[u8]) -> Result<u32, DecodeError>
     ensures reads { Reads number_le 4 payload.now result }
 {
-    Ok(u32::from_le_bytes(exactly(payload)?))
+    Ok(u32::from_ne_bytes(exactly(payload)?))
 }
 
 /// The signed number of exactly 4 bytes in native order, two's complement; any other size is refused with C4.
@@ -61,7 +61,7 @@ pub fn parse_i32(payload: &[u8]) -> Result<i32, DecodeError>
 pub fn emit_u16(buf: &mut [u8], value: u16) -> Result<(), DecodeError>
     ensures writes { Writes (text_le value 2) 2 buf.old buf.new result }
 {
-    front(buf, value.to_le_bytes())
+    front::<2>(buf, value.to_ne_bytes())
 }
 
 /// Writes the number's 4 bytes in native order at the front and leaves the rest.
@@ -69,7 +69,7 @@ pub fn emit_u16(buf: &mut [u8], value: u16) -> Result<(), DecodeError>
 pub fn emit_u32(buf: &mut [u8], value: u32) -> Result<(), DecodeError>
     ensures writes { Writes (text_le value 4) 4 buf.old buf.new result }
 {
-    front(buf, value.to_le_bytes())
+    front::<4>(buf, value.to_ne_bytes())
 }
 
 /// Writes the signed number's 4 bytes, two's complement in native order, at the front and leaves the rest.
