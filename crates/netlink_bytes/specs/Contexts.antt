@@ -24,3 +24,11 @@ ResultTakesLine (Err e) = TakesLine e
 abbrev pub ResultHasLine : {U : Type 0} → List ℕ → Result U DecodeError → Result U DecodeError → Type 0
 ResultHasLine line (Ok value) new = new ≡ Ok value
 ResultHasLine line (Err old) new = IsErrAnd new (HasLine line old)
+
+-- of two lines the later one stands first, where memory was not refused
+abbrev pub LinesChain : Type 0
+LinesChain =
+    (first later : List ℕ) (old between new : DecodeError)
+    → HasLine first old between → HasLine later between new
+    → TakesLine old → TakesLine between → TakesLine new
+    → cause_text new ≡ text_with later (text_with first (cause_text old))

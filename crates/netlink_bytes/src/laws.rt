@@ -1,5 +1,6 @@
-//! Laws of numbers and their bytes, for callers to cite.
+//! Laws of numbers and their bytes and of contexts, for callers to cite.
 
+ghost use Rattle.netlink_bytes.specs.Contexts.{LinesChain};
 ghost use Rattle.netlink_bytes.specs.Laws.{BytesReadBack, NumberIsSum, SignedReadsBack, TextIsBytes, TextReadsBack, UnsignedReadsBack, WrittenIsRead, WrittenSignedIsRead};
 
 /// The number of bytes is the sum of each byte by its place, and a text of so many bytes is a list of so many bytes.
@@ -24,4 +25,9 @@ pub fn signed_numbers_read_back()
 pub fn written_is_read()
     ensures numbers { WrittenIsRead }
     ensures signed { WrittenSignedIsRead }
+{}
+
+/// Of two contexts the later one stands first: `b caused by a caused by` the text of the error, memory aside.
+pub fn contexts_chain()
+    ensures chain { LinesChain }
 {}

@@ -12,6 +12,7 @@ mod storage;
 #[cfg(test)]
 mod tests;
 mod text;
+mod traits;
 
 pub use crate::addresses::{IpAddr, parse_i8, parse_ip, parse_ipv6, parse_mac, parse_u8};
 pub use crate::context::ErrorContext;
@@ -29,5 +30,6 @@ pub use crate::numbers::unsigned::{
     parse_u32, parse_u32_be, parse_u32_le, parse_u64, parse_u64_be, parse_u64_le, parse_u128,
     parse_u128_be, parse_u128_le,
 };
-pub use crate::storage::Storage;
+pub use crate::storage::{Storage, StorageMut};
 pub use crate::text::parse_string;
+pub use crate::traits::{Emitable, Parseable, ParseableParametrized};

@@ -5,3 +5,4 @@ mod contexts;
 mod numbers;
 mod readers;
 mod storage;
+mod traits;
