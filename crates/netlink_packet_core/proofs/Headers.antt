@@ -26,6 +26,12 @@ pub length-header_text : (h : NetlinkHeader) → length (header_text h) ≡ 16
 unfolding text_le
 length-header_text h = refl
 
+pub ruleset header_size = (length-header_text)
+
+-- the size of a header's text and of what stands behind it
+pub length-header_and : (h : NetlinkHeader) (more : List ℕ) → length (header_text h ++ more) ≡ 16 + length more
+length-header_and h more = length-append (header_text h) more ∙ ap (λ (n : ℕ). n + length more) (length-header_text h)
+
 -- what stands behind a header's text
 pub drop-header_text : (h : NetlinkHeader) (more : List ℕ) → drop 16 (header_text h ++ more) ≡ more
 unfolding text_le

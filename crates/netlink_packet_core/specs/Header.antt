@@ -1,5 +1,5 @@
 -- The header of a message: its text, and what bytes say of it.
-use Rattle.std.specs.Prelude.{ℕ, ◌+◌, ◌<◌, ◌≤◌, ◌^◌, List, ◌++◌, length, slice_range}
+use Rattle.std.specs.Prelude.{◌≡◌, ℕ, ◌+◌, ◌<◌, ◌≤◌, ◌^◌, List, ◌++◌, length, slice_range}
 use Rattle.netlink_bytes.specs.Numbers.{number_le, text_le}
 use Rattle.netlink_packet_core.specs.declared.header.NetlinkHeader.{NetlinkHeader}
 
@@ -15,6 +15,16 @@ pub record HeaderInRange (h : NetlinkHeader) : Type 0 where
   pub flags : h.flags < 2 ^ 16
   pub sequence_number : h.sequence_number < 2 ^ 32
   pub port_number : h.port_number < 2 ^ 32
+
+-- bytes begin with this header, whatever follows
+pub record IsHeader (bytes : List ℕ) (h : NetlinkHeader) : Type 0 where
+  pub rest : List ℕ
+  pub whole : bytes ≡ header_text h ++ rest
+  pub in_range : HeaderInRange h
+
+-- the header of a message that was not sent yet
+abbrev pub default_header : NetlinkHeader
+default_header = record { length = 0; message_type = 0; flags = 0; sequence_number = 0; port_number = 0 }
 
 -- the number of w bytes at a place
 abbrev pub field : ℕ → ℕ → List ℕ → ℕ

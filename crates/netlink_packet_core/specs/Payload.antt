@@ -1,5 +1,5 @@
 -- What is written of a payload.
-use Rattle.std.specs.Prelude.{ℕ, ℤ, pos, List, [], ◌++◌, Option, Some, None, IsTrue}
+use Rattle.std.specs.Prelude.{ℕ, ℤ, pos, List, [], ◌++◌, Option, Some, None, IsTrue, codes, decimal, unsigned_abs}
 use Rattle.netlink_bytes.specs.Numbers.{IsSigned, text_le, unsigned}
 use Rattle.netlink_bytes.specs.NonZero.{number_of}
 use Rattle.netlink_bytes.specs.declared.nonzero.NonZeroI32.{NonZeroI32}
@@ -15,6 +15,10 @@ code_text code = text_le (unsigned 4 code) 4
 abbrev pub raw_code : Option NonZeroI32 → ℤ
 raw_code None = pos 0
 raw_code (Some code) = number_of code
+
+-- what is printed of a code: the number of its error
+abbrev pub errno_text : ℤ → List ℕ
+errno_text code = codes "os error " ++ decimal (unsigned_abs code)
 
 -- the message type of a payload
 abbrev pub payload_type : {I : Type 0} → Encoding I → NetlinkPayload I → ℕ

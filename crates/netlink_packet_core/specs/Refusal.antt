@@ -54,11 +54,14 @@ IsBodyFault decoding wants_memory h payload e =
     ⊎ (((h.message_type ≡ 4) × IsOverrunFault payload e)
     ⊎ (IsOwnType h.message_type × IsInnerFault decoding wants_memory h payload e)))
 
+-- bytes that hold a whole frame are refused for a fault of its payload
+abbrev pub IsPayloadFault : {I E : Type 0} → Decoding I → (E → Bool) → List ℕ → DecodeError → Type 0
+IsPayloadFault decoding wants_memory bytes e =
+    (h : NetlinkHeader) × (payload : List ℕ) × Begins bytes h payload × IsBodyFault decoding wants_memory h payload e
+
 -- bytes are refused for a fault of the frame, or of the payload in a whole frame
 abbrev pub IsRefusal : {I E : Type 0} → Decoding I → (E → Bool) → List ℕ → DecodeError → Type 0
-IsRefusal decoding wants_memory bytes e =
-    IsFrameFault true bytes e
-    ⊎ ((h : NetlinkHeader) × (payload : List ℕ) × Begins bytes h payload × IsBodyFault decoding wants_memory h payload e)
+IsRefusal decoding wants_memory bytes e = IsFrameFault true bytes e ⊎ IsPayloadFault decoding wants_memory bytes e
 
 -- a payload of this type has nothing to copy, and the protocol is not asked
 abbrev pub HasNothingToCopy : ℕ → List ℕ → Type 0

@@ -1,16 +1,20 @@
 //! A view of a message's bytes.
 
-ghost use Rattle.std.specs.Prelude.{◌≡◌, ◌≤◌, length, OnOk, IfErr, IfOk, false};
-ghost use Rattle.netlink_packet_core.specs.Header.{field, header_of, payload_of, HoldsFrame};
+ghost use Rattle.std.specs.Prelude.{◌≡◌, ◌+◌, ◌≤◌, length, OnOk, IfErr, IfOk, false};
+ghost use Rattle.std.specs.Borrow.{Lends, Array, sem, u8 as byte};
+ghost use Rattle.netlink_packet_core.specs.contracts.buffer.NetlinkBuffer.{the_row};
+ghost use Rattle.netlink_bytes.specs.Numbers.{text_le};
+ghost use Rattle.netlink_bytes.specs.Storage.{put_at};
+ghost use Rattle.netlink_packet_core.specs.Header.{field, header_of, payload_of, HoldsFrame, IsHeader};
 ghost use Rattle.netlink_packet_core.specs.Refusal.{IsFrameFault};
 
-use crate::bytes::{u16_at, u32_at};
+use crate::bytes::{put_u16, put_u32, u16_at, u32_at};
 use crate::constants::NETLINK_HEADER_LEN;
 use crate::header::NetlinkHeader;
-use netlink_bytes::{DecodeError, Storage};
+use netlink_bytes::{DecodeError, Storage, StorageMut};
 
 /// The bytes of a message, looked at in place. No call asks for memory.
-#[derive(Debug, Drop)]
+#[derive(Clone, Copy, Debug, PartialEq, Eq, Drop)]
 pub struct NetlinkBuffer<T: Storage> {
     /// What holds the bytes.
     pub buffer: T,
@@ -81,18 +85,84 @@ impl<T: Storage> NetlinkBuffer<T> {
         u32_at(self.buffer.bytes(), 12)
     }
 
-    /// The five fields.
-    pub(crate) fn header(&self) -> NetlinkHeader
-        requires { 16 ≤ length (T.held self.now.buffer) }
-        ensures { result ≡ header_of (T.held self.now.buffer) }
+    /// The size of the payload in bytes, by the length field, also where that exceeds the storage.
+    #[inline]
+    pub fn payload_length(&self) -> usize
+        requires field { 4 ≤ length (T.held self.now.buffer) }
+        requires header { 16 ≤ field 0 4 (T.held self.now.buffer) }
+        ensures size { 16 + result ≡ field 0 4 (T.held self.now.buffer) }
     {
-        NetlinkHeader {
-            length: self.length(),
-            message_type: self.message_type(),
-            flags: self.flags(),
-            sequence_number: self.sequence_number(),
-            port_number: self.port_number(),
-        }
+        self.length() as usize - NETLINK_HEADER_LEN
+    }
+
+    /// What holds the bytes.
+    #[inline]
+    pub fn into_inner(self) -> T
+        ensures keeps { result ≡ self.buffer }
+    {
+        self.buffer
+    }
+}
+
+impl<T: StorageMut> NetlinkBuffer<T> {
+    /// Sets the length field, and changes nothing else.
+    #[inline]
+    pub fn set_length(&mut self, value: u32)
+        requires field { 4 ≤ length (T.held self.old.buffer) }
+        ensures bytes { T.held self.new.buffer ≡ put_at (T.held self.old.buffer) 0 (text_le value 4) }
+        ensures same_storage { self.new.buffer ≡ T.holding self.old.buffer (put_at (T.held self.old.buffer) 0 (text_le value 4)) }
+    {
+        put_u32(self.buffer.part_mut(0, 4), value);
+    }
+
+    /// Sets the message type, and changes nothing else.
+    #[inline]
+    pub fn set_message_type(&mut self, value: u16)
+        requires field { 6 ≤ length (T.held self.old.buffer) }
+        ensures bytes { T.held self.new.buffer ≡ put_at (T.held self.old.buffer) 4 (text_le value 2) }
+        ensures same_storage { self.new.buffer ≡ T.holding self.old.buffer (put_at (T.held self.old.buffer) 4 (text_le value 2)) }
+    {
+        put_u16(self.buffer.part_mut(4, 6), value);
+    }
+
+    /// Sets the flags, and changes nothing else.
+    #[inline]
+    pub fn set_flags(&mut self, value: u16)
+        requires field { 8 ≤ length (T.held self.old.buffer) }
+        ensures bytes { T.held self.new.buffer ≡ put_at (T.held self.old.buffer) 6 (text_le value 2) }
+        ensures same_storage { self.new.buffer ≡ T.holding self.old.buffer (put_at (T.held self.old.buffer) 6 (text_le value 2)) }
+    {
+        put_u16(self.buffer.part_mut(6, 8), value);
+    }
+
+    /// Sets the sequence number, and changes nothing else.
+    #[inline]
+    pub fn set_sequence_number(&mut self, value: u32)
+        requires field { 12 ≤ length (T.held self.old.buffer) }
+        ensures bytes { T.held self.new.buffer ≡ put_at (T.held self.old.buffer) 8 (text_le value 4) }
+        ensures same_storage { self.new.buffer ≡ T.holding self.old.buffer (put_at (T.held self.old.buffer) 8 (text_le value 4)) }
+    {
+        put_u32(self.buffer.part_mut(8, 12), value);
+    }
+
+    /// Sets the port number, and changes nothing else.
+    #[inline]
+    pub fn set_port_number(&mut self, value: u32)
+        requires field { 16 ≤ length (T.held self.old.buffer) }
+        ensures bytes { T.held self.new.buffer ≡ put_at (T.held self.old.buffer) 12 (text_le value 4) }
+        ensures same_storage { self.new.buffer ≡ T.holding self.old.buffer (put_at (T.held self.old.buffer) 12 (text_le value 4)) }
+    {
+        put_u32(self.buffer.part_mut(12, 16), value);
+    }
+
+    /// The payload, lent for writing: the bytes from 16 up to the length become what is written, and no others.
+    pub fn payload_mut(&mut self) -> &mut [u8]
+        requires whole { HoldsFrame (T.held self.old.buffer) }
+        ensures* writes_back { sem 𝓛 (Lends (the_row T.row) (Array byte 0) self.entry result (λ part. record { buffer = T.holding self.old.buffer (put_at (T.held self.old.buffer) 16 part) })) }
+        ensures value { result.now ≡ payload_of (T.held self.old.buffer) }
+    {
+        let end = self.length() as usize;
+        self.buffer.part_mut(NETLINK_HEADER_LEN, end)
     }
 }
 
@@ -105,6 +175,22 @@ impl<'a> NetlinkBuffer<&'a [u8]> {
     {
         let end = self.length() as usize;
         &self.buffer[NETLINK_HEADER_LEN..end]
+    }
+}
+
+/// The five fields in front of the bytes.
+pub(crate) fn read_header(bytes: &[u8]) -> NetlinkHeader
+    requires { 16 ≤ length bytes.now }
+    ensures is { IsHeader bytes.now result }
+    ensures fields { result ≡ header_of bytes.now }
+{
+    let view = NetlinkBuffer::new(bytes);
+    NetlinkHeader {
+        length: view.length(),
+        message_type: view.message_type(),
+        flags: view.flags(),
+        sequence_number: view.sequence_number(),
+        port_number: view.port_number(),
     }
 }
 

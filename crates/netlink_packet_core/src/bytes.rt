@@ -1,7 +1,7 @@
 //! Bytes of a message: numbers at their places, a code and what stands behind it, copies.
 
 ghost use Rattle.std.specs.Prelude.{◌≡◌, ◌+◌, ◌<◌, ◌≤◌, ◌++◌, length, IfOk, IfErr, OnErr};
-ghost use Rattle.netlink_bytes.specs.Numbers.{text_le};
+ghost use Rattle.netlink_bytes.specs.Numbers.{signed, text_le};
 ghost use Rattle.netlink_packet_core.specs.Header.{field};
 ghost use Rattle.netlink_packet_core.specs.Payload.{code_text};
 ghost use Rattle.netlink_packet_core.specs.Frame.{IsCodeAndRest};
@@ -45,6 +45,24 @@ pub(crate) fn put_u32(buffer: &mut [u8], value: u32)
     let _written = emit_u32(buffer, value);
 }
 
+/// Writes the code into 4 bytes.
+#[inline]
+pub(crate) fn put_i32(buffer: &mut [u8], code: i32)
+    requires { length buffer.old ≡ 4 }
+    ensures { buffer.new ≡ code_text code }
+{
+    let _written = emit_i32(buffer, code);
+}
+
+/// The code in front.
+#[inline]
+pub(crate) fn code_at(bytes: &[u8]) -> i32
+    requires { 4 ≤ length bytes.now }
+    ensures { result ≡ signed 4 (field 0 4 bytes.now) }
+{
+    parse_i32(&bytes[..4]).unwrap()
+}
+
 /// The code in front, and what stands behind it.
 pub(crate) fn split_code(payload: &[u8]) -> (i32, &[u8])
     requires { 4 ≤ length payload.now }
@@ -61,7 +79,7 @@ pub(crate) fn put_code(buffer: &mut [u8], code: i32, rest: &[u8])
     ensures { buffer.new ≡ code_text code ++ rest.now }
 {
     let (front, back) = buffer.split_at_mut(4);
-    let _written = emit_i32(front, code);
+    put_i32(front, code);
     back.copy_from_slice(rest);
 }
 

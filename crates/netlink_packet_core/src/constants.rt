@@ -17,3 +17,54 @@ pub const NLMSG_OVERRUN: u16 = 4;
 
 /// Messages of a datagram start at multiples of this many bytes.
 pub const NLMSG_ALIGNTO: u16 = 4;
+
+/// Flag: a request.
+pub const NLM_F_REQUEST: u16 = 1;
+
+/// Flag: part of a multipart message, which `NLMSG_DONE` terminates.
+pub const NLM_F_MULTIPART: u16 = 2;
+
+/// Flag: an answer with a code is asked for.
+pub const NLM_F_ACK: u16 = 4;
+
+/// Flag: the request is to be echoed.
+pub const NLM_F_ECHO: u16 = 8;
+
+/// Flag: a dump was inconsistent, since what it lists changed.
+pub const NLM_F_DUMP_INTR: u16 = 16;
+
+/// Flag: a dump was filtered as the request asked.
+pub const NLM_F_DUMP_FILTERED: u16 = 32;
+
+/// Flag of a get request: the root of the tree is asked for.
+pub const NLM_F_ROOT: u16 = 256;
+
+/// Flag of a get request: all that matches is asked for.
+pub const NLM_F_MATCH: u16 = 512;
+
+/// Flag of a get request: one consistent picture is asked for.
+pub const NLM_F_ATOMIC: u16 = 1024;
+
+/// Flag of a get request: a dump: the root and all that matches.
+pub const NLM_F_DUMP: u16 = 768;
+
+/// Flag of a new request: what is there is replaced.
+pub const NLM_F_REPLACE: u16 = 256;
+
+/// Flag of a new request: nothing is touched that is there.
+pub const NLM_F_EXCL: u16 = 512;
+
+/// Flag of a new request: what is not there is made.
+pub const NLM_F_CREATE: u16 = 1024;
+
+/// Flag of a new request: it is added at the end of the list.
+pub const NLM_F_APPEND: u16 = 2048;
+
+/// Flag of a delete request: it is not deleted recursively.
+pub const NLM_F_NONREC: u16 = 256;
+
+/// Flag of an acknowledgement: the request behind the code was cut off.
+pub const NLM_F_CAPPED: u16 = 256;
+
+/// Flag of an acknowledgement: attributes of an extended acknowledgement follow.
+pub const NLM_F_ACK_TLVS: u16 = 512;

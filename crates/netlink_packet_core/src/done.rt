@@ -1,8 +1,100 @@
 //! The end of a multipart message.
 
-use crate::bytes::{copied, split_code};
-use netlink_bytes::DecodeError;
+ghost use Rattle.std.specs.Prelude.{◌≡◌, ◌+◌, ◌<◌, ◌≤◌, [], pos, length, drop, OnOk, OnErr, IfOk, IfErr, false};
+ghost use Rattle.std.specs.Borrow.{Lends, Array, sem, u8 as byte};
+ghost use Rattle.netlink_packet_core.specs.contracts.done.DoneBuffer.{the_row};
+ghost use Rattle.netlink_bytes.specs.Numbers.{signed};
+ghost use Rattle.netlink_bytes.specs.Storage.{put_at};
+ghost use Rattle.netlink_packet_core.specs.Header.{field};
+ghost use Rattle.netlink_packet_core.specs.Payload.{code_text};
+
+use crate::bytes::{code_at, copied, put_code, put_i32, split_code};
+use netlink_bytes::{DecodeError, Emitable, Parseable, Storage, StorageMut};
 use std::alloc::Global;
+
+/// The body of a message of type `NLMSG_DONE`, looked at in place: a code in 4 bytes, and what
+/// stands behind it. No call asks for memory.
+#[derive(Clone, Copy, Debug, PartialEq, Eq, Drop)]
+pub struct DoneBuffer<T: Storage> {
+    /// What holds the bytes.
+    pub buffer: T,
+}
+
+impl<T: Storage> DoneBuffer<T> {
+    /// A view of any bytes.
+    #[inline]
+    pub fn new(buffer: T) -> Self
+        ensures keeps { result.buffer ≡ buffer }
+    {
+        DoneBuffer { buffer }
+    }
+
+    /// A view of at least 4 bytes. Fewer are refused with C12; the storage is then given up.
+    pub fn new_checked(buffer: T) -> Result<Self, DecodeError>
+        ensures keeps { IfOk result (λ view. view.buffer ≡ buffer) }
+        ensures whole { OnOk result (4 ≤ length (T.held buffer)) }
+        ensures refuses { IfErr result (λ e. (length (T.held buffer) < 4) × (e ≡ DecodeError.DoneShort (length (T.held buffer)) false)) }
+    {
+        let size = buffer.bytes().len();
+        if size < 4 {
+            return Err(DecodeError::DoneShort {
+                size,
+                inside: false,
+            });
+        }
+        Ok(DoneBuffer { buffer })
+    }
+
+    /// What holds the bytes.
+    #[inline]
+    pub fn into_inner(self) -> T
+        ensures keeps { result ≡ self.buffer }
+    {
+        self.buffer
+    }
+
+    /// The code: 0, or the negated number of an error.
+    #[inline]
+    pub fn code(&self) -> i32
+        requires field { 4 ≤ length (T.held self.now.buffer) }
+        ensures number { result ≡ signed 4 (field 0 4 (T.held self.now.buffer)) }
+    {
+        code_at(self.buffer.bytes())
+    }
+}
+
+impl<'a> DoneBuffer<&'a [u8]> {
+    /// The bytes behind the code.
+    #[inline]
+    pub fn extended_ack(&self) -> &'a [u8]
+        requires field { 4 ≤ length self.now.buffer.now }
+        ensures bytes { result.now ≡ drop 4 self.now.buffer.now }
+    {
+        &self.buffer[4..]
+    }
+}
+
+impl<T: StorageMut> DoneBuffer<T> {
+    /// Sets the code, and changes nothing else.
+    #[inline]
+    pub fn set_code(&mut self, code: i32)
+        requires field { 4 ≤ length (T.held self.old.buffer) }
+        ensures bytes { T.held self.new.buffer ≡ put_at (T.held self.old.buffer) 0 (code_text code) }
+        ensures same_storage { self.new.buffer ≡ T.holding self.old.buffer (put_at (T.held self.old.buffer) 0 (code_text code)) }
+    {
+        put_i32(self.buffer.part_mut(0, 4), code);
+    }
+
+    /// The bytes behind the code, lent for writing; no others change.
+    pub fn extended_ack_mut(&mut self) -> &mut [u8]
+        requires field { 4 ≤ length (T.held self.old.buffer) }
+        ensures* writes_back { sem 𝓛 (Lends (the_row T.row) (Array byte 0) self.entry result (λ part. record { buffer = T.holding self.old.buffer (put_at (T.held self.old.buffer) 4 part) })) }
+        ensures value { result.now ≡ drop 4 (T.held self.old.buffer) }
+    {
+        let end = self.buffer.bytes().len();
+        self.buffer.part_mut(4, end)
+    }
+}
 
 /// The body of a message of type `NLMSG_DONE`: a code in 4 bytes, and what the kernel says of it.
 #[derive(Debug, Drop, PartialEq, Eq)]
@@ -14,9 +106,32 @@ pub struct DoneMessage {
 }
 
 impl DoneMessage {
-    ghost use Rattle.std.specs.Prelude.{IfOk, IfErr};
-    ghost use Rattle.netlink_packet_core.specs.Frame.{IsDone};
+    ghost use Rattle.netlink_packet_core.specs.Frame.{IsCodeAndRest, IsDone};
     ghost use Rattle.netlink_packet_core.specs.Refusal.{IsDoneFault};
+
+    /// Code 0 with no bytes. Asks for no memory.
+    pub fn empty(alloc: Global) -> Self
+        ensures code { result.code ≡ pos 0 }
+        ensures bytes { result.extended_ack.items ≡ [] }
+    {
+        DoneMessage {
+            code: 0,
+            extended_ack: Vec::new(alloc),
+        }
+    }
+
+    /// A message of the same code and bytes, which is equal by `==`; C16, never without bytes to copy.
+    pub fn try_clone(&self, alloc: Global) -> Result<Self, DecodeError>
+        ensures code { IfOk result (λ copy. copy.code ≡ self.now.code) }
+        ensures bytes { IfOk result (λ copy. copy.extended_ack.items ≡ self.now.extended_ack.items) }
+        ensures memory { IfErr result (λ e. e ≡ DecodeError.OutOfMemory) }
+        ensures empty { OnErr result (0 < length self.now.extended_ack.items) }
+    {
+        Ok(DoneMessage {
+            code: self.code,
+            extended_ack: copied(alloc, &self.extended_ack)?,
+        })
+    }
 
     /// What the bytes of a payload say. None at all stand for code 0.
     pub(crate) fn of_payload(alloc: Global, payload: &[u8]) -> Result<Self, DecodeError>
@@ -25,16 +140,62 @@ impl DoneMessage {
     {
         let size = payload.len();
         if size == 0 {
-            return Ok(DoneMessage {
-                code: 0,
-                extended_ack: Vec::new(alloc),
-            });
+            return Ok(DoneMessage::empty(alloc));
         }
         if size < 4 {
             return Err(DecodeError::DoneShort { size, inside: true });
         }
-        let (code, rest) = split_code(payload);
+        DoneMessage::of_code_and_rest(alloc, payload)
+    }
+
+    /// The code in front, and a copy of what stands behind it.
+    fn of_code_and_rest(alloc: Global, bytes: &[u8]) -> Result<Self, DecodeError>
+        requires { 4 ≤ length bytes.now }
+        ensures ok { IfOk result (λ m. IsCodeAndRest bytes.now m.code m.extended_ack.items) }
+        ensures memory { IfErr result (λ e. e ≡ DecodeError.OutOfMemory) }
+        ensures copied { OnErr result (4 < length bytes.now) }
+    {
+        let (code, rest) = split_code(bytes);
         let extended_ack = copied(alloc, rest)?;
         Ok(DoneMessage { code, extended_ack })
+    }
+}
+
+impl Emitable for DoneMessage {
+    ghost use Rattle.std.specs.Prelude.{◌++◌};
+
+    ghost text = { λ m. code_text m.code ++ m.extended_ack.items };
+
+    ghost can_emit = { λ _. Unit {0} };
+
+    ghost takes_longer = { false };
+
+    /// 4 and the bytes.
+    #[tactic(auto, using(crate::proofs::Numbers::code_size))]
+    fn buffer_len(&self) -> usize {
+        4 + self.extended_ack.len()
+    }
+
+    /// Fills a buffer of exactly `buffer_len` bytes with the code and the bytes.
+    #[tactic(auto, using(crate::proofs::Numbers::code_size))]
+    fn emit(&self, buffer: &mut [u8]) {
+        put_code(buffer, self.code, &self.extended_ack);
+    }
+}
+
+impl<'a> Parseable<DoneBuffer<&'a [u8]>> for DoneMessage {
+    ghost use Rattle.netlink_packet_core.specs.Frame.{IsCodeAndRest};
+
+    ghost can_parse = { λ view. 4 ≤ length view.buffer.now };
+
+    ghost reads = { λ view m. IsCodeAndRest view.buffer.now m.code m.extended_ack.items };
+
+    ghost refusal = { λ _ _. ⊥ };
+
+    ghost needs_no_memory = { λ view. length view.buffer.now ≡ 4 };
+
+    /// The code and a copy of the bytes; C16 where there are some and memory was refused for them.
+    fn parse(alloc: Global, buf: &DoneBuffer<&'a [u8]>) -> Result<Self, DecodeError> {
+        DoneMessage::of_code_and_rest(alloc, buf.buffer)
     }
 }

@@ -1,11 +1,15 @@
 //! What stands in front of each message.
 
-ghost use Rattle.std.specs.Prelude.{◌≡◌, length};
+ghost use Rattle.std.specs.Prelude.{◌≡◌, ◌≤◌, length, true};
 
+use crate::buffer::{NetlinkBuffer, read_header};
 use crate::bytes::{put_u16, put_u32};
+use crate::constants::NETLINK_HEADER_LEN;
+use netlink_bytes::{DecodeError, Emitable, Parseable};
+use std::alloc::Global;
 
 /// The header of a message (`struct nlmsghdr`), 16 bytes on the wire, all numbers in native order.
-#[derive(Clone, Copy, Debug, Default, PartialEq, Eq, Hash)]
+#[derive(Clone, Copy, Debug, PartialEq, Eq, Hash)]
 pub struct NetlinkHeader {
     /// The size of the message in bytes, this header included.
     pub length: u32,
@@ -44,5 +48,62 @@ impl NetlinkHeader {
         put_u16(&mut buffer[6..8], self.flags);
         put_u32(&mut buffer[8..12], self.sequence_number);
         put_u32(&mut buffer[12..16], self.port_number);
+    }
+}
+
+impl Default for NetlinkHeader {
+    ghost use Rattle.netlink_packet_core.specs.Header.{default_header};
+
+    ghost is_default = { λ h. h ≡ default_header };
+
+    /// Five zeros.
+    fn default() -> Self {
+        NetlinkHeader {
+            length: 0,
+            message_type: 0,
+            flags: 0,
+            sequence_number: 0,
+            port_number: 0,
+        }
+    }
+}
+
+impl Emitable for NetlinkHeader {
+    ghost use Rattle.netlink_packet_core.specs.Header.{header_text};
+
+    ghost text = { header_text };
+
+    ghost can_emit = { λ _. Unit {0} };
+
+    ghost takes_longer = { true };
+
+    /// 16.
+    #[tactic(auto, using(crate::proofs::Headers::header_size))]
+    fn buffer_len(&self) -> usize {
+        NETLINK_HEADER_LEN
+    }
+
+    /// Writes the five fields into the first 16 bytes, and leaves the rest.
+    #[tactic(auto, using(crate::proofs::Headers::header_size))]
+    fn emit(&self, buffer: &mut [u8]) {
+        let (head, _) = buffer.split_at_mut(NETLINK_HEADER_LEN);
+        self.write(head);
+    }
+}
+
+impl<'a> Parseable<NetlinkBuffer<&'a [u8]>> for NetlinkHeader {
+    ghost use Rattle.netlink_packet_core.specs.Header.{IsHeader};
+
+    ghost can_parse = { λ view. 16 ≤ length view.buffer.now };
+
+    ghost reads = { λ view h. IsHeader view.buffer.now h };
+
+    ghost refusal = { λ _ _. ⊥ };
+
+    ghost needs_no_memory = { λ _. Unit {0} };
+
+    /// The header that the bytes begin with; always Ok.
+    fn parse(_alloc: Global, buf: &NetlinkBuffer<&'a [u8]>) -> Result<Self, DecodeError> {
+        Ok(read_header(buf.buffer))
     }
 }

@@ -1,19 +1,20 @@
 //! A message: a header and what it carries.
 
-ghost use Rattle.std.specs.Prelude.{◌≡◌, ◌≢◌, ◌+◌, ◌++◌, ◌<◌, ◌≤◌, ◌^◌, ◌↔◌, drop, length, IsTrue, IfOk, IfErr, IsOkUnless};
+ghost use Rattle.std.specs.Prelude.{◌≡◌, ◌≢◌, ◌+◌, ◌++◌, ◌<◌, ◌≤◌, ◌^◌, ◌↔◌, drop, length, true, IsTrue, IfOk, IfErr, IsOkUnless};
 ghost use Rattle.netlink_packet_core.specs.Canonical.{Fits, finalized};
 ghost use Rattle.netlink_packet_core.specs.Frame.{Frame};
-ghost use Rattle.netlink_packet_core.specs.Header.{HoldsFrame, header_text};
+ghost use Rattle.netlink_packet_core.specs.Header.{HoldsFrame, default_header, header_text};
 ghost use Rattle.netlink_packet_core.specs.Payload.{payload_text};
-ghost use Rattle.netlink_packet_core.specs.Refusal.{AsksNoMemory, IsRefusal};
+ghost use Rattle.netlink_packet_core.specs.Refusal.{AsksNoMemory, IsPayloadFault, IsRefusal};
+ghost use Rattle.netlink_packet_core.specs.declared.payload.NetlinkPayload.TheVariants.{InnerMessage};
 ghost use Rattle.netlink_packet_core.specs.declared.message.NetlinkMessage.{NetlinkMessage};
 
-use crate::buffer::{NetlinkBuffer, check_frame};
+use crate::buffer::{NetlinkBuffer, check_frame, read_header};
 use crate::constants::NETLINK_HEADER_LEN;
 use crate::header::NetlinkHeader;
 use crate::payload::{NetlinkPayload, read_payload};
 use crate::traits::{NetlinkDeserializable, NetlinkSerializable};
-use netlink_bytes::DecodeError;
+use netlink_bytes::{DecodeError, Emitable, Parseable};
 use std::alloc::Global;
 
 /// A message of a sub-protocol: a header and a payload.
@@ -31,6 +32,16 @@ impl<I> NetlinkMessage<I> {
         ensures keeps { result ≡ record { header = header; payload = payload } }
     {
         NetlinkMessage { header, payload }
+    }
+
+    /// A message of the sub-protocol, in a header of five zeros. `finalize` fills in its length and type.
+    pub fn from_inner(message: I) -> Self
+        ensures is { result ≡ record { header = default_header; payload = InnerMessage message } }
+    {
+        NetlinkMessage::new(
+            NetlinkHeader::default(),
+            NetlinkPayload::InnerMessage(message),
+        )
     }
 
     /// The parts of the message.
@@ -69,12 +80,27 @@ fn read_frame<I: NetlinkDeserializable>(
 ) -> Result<NetlinkMessage<I>, DecodeError>
     requires { HoldsFrame bytes.now }
     ensures ok { IfOk result (λ m. Frame I.decoding bytes.now m) }
-    ensures err { IfErr result (IsRefusal I.decoding I.wants_memory bytes.now) }
+    ensures err { IfErr result (IsPayloadFault I.decoding I.wants_memory bytes.now) }
 {
+    let header = read_header(bytes);
     let view = NetlinkBuffer::new(bytes);
-    let header = view.header();
     let payload = read_payload(alloc, &header, view.payload())?;
     Ok(NetlinkMessage { header, payload })
+}
+
+impl<'a, I: NetlinkDeserializable> Parseable<NetlinkBuffer<&'a [u8]>> for NetlinkMessage<I> {
+    ghost can_parse = { λ view. HoldsFrame view.buffer.now };
+
+    ghost reads = { λ view m. Frame I.decoding view.buffer.now m };
+
+    ghost refusal = { λ view e. IsPayloadFault I.decoding I.wants_memory view.buffer.now e };
+
+    ghost needs_no_memory = { λ view. AsksNoMemory view.buffer.now };
+
+    /// What `deserialize` answers of the view's bytes, which have to hold a whole frame.
+    fn parse(alloc: Global, buf: &NetlinkBuffer<&'a [u8]>) -> Result<Self, DecodeError> {
+        read_frame(alloc, buf.buffer)
+    }
 }
 
 impl<I: NetlinkSerializable> NetlinkMessage<I> {
@@ -118,5 +144,23 @@ impl<I: NetlinkSerializable> NetlinkMessage<I> {
         self.header.write(head);
         let (body, _) = rest.split_at_mut(length - NETLINK_HEADER_LEN);
         self.payload.emit(body);
+    }
+}
+
+impl<I: NetlinkSerializable> Emitable for NetlinkMessage<I> {
+    ghost text = { λ m. header_text m.header ++ payload_text I.encoding m.payload };
+
+    ghost can_emit = { λ m. m.header.length ≡ 16 + length (payload_text I.encoding m.payload) };
+
+    ghost takes_longer = { true };
+
+    /// The size of the written message in bytes.
+    fn buffer_len(&self) -> usize {
+        NetlinkMessage::buffer_len(self)
+    }
+
+    /// Writes as `serialize` does.
+    fn emit(&self, buffer: &mut [u8]) {
+        self.serialize(buffer);
     }
 }

@@ -1,4 +1,4 @@
-use Rattle.std.proofs.Common.{◌≡◌, List, ℕ, inr, arith, ap, ◌∙◌}
+use Rattle.std.proofs.Common.{◌≡◌, List, ℕ, arith, ap, ◌∙◌}
 use Rattle.std.proofs.lemmas.Result.{err_from_is_err_and}
 use Rattle.netlink_bytes.specs.Numbers.{IsBytes}
 use Rattle.netlink_packet_core.specs.Header.{HoldsFrame, header_of, payload_of}
@@ -13,16 +13,16 @@ begins bytes h payload each holds h-is payload-is = rw (h-is, payload-is) (begin
 pub returns-in_err-payload-clause-err : goal.returns-in_err-payload-clause-err
 returns-in_err-payload-clause-err g c =
     let p = err_from_is_err_and c.from_residual.result c.from_residual.ensures.1 in
-    rw (p.1, p.2) (inr (
-      c.header-header.result,
+    rw (p.1, p.2) (
+      c.read_header-header.result,
       c.payload.result.now,
-      begins c.args.bytes.now _ _ (λ i. omega (arith, c.type_inv.bytes i)) c.requires (c.header-header.ensures ∙ ap (λ (s : _). header_of s.now) c.new-view.ensures.keeps) (c.payload.ensures.bytes ∙ ap (λ (s : _). payload_of s.now) c.new-view.ensures.keeps),
+      begins c.args.bytes.now _ _ (λ i. omega (arith, c.type_inv.bytes i)) c.requires c.read_header-header.ensures.fields (c.payload.ensures.bytes ∙ ap (λ (s : _). payload_of s.now) c.new-view.ensures.keeps),
       c.in_err-payload.ensures.err,
-    ))
+    )
 
 pub returns-clause-ok : goal.returns-clause-ok
 returns-clause-ok g c = (
   c.payload.result.now,
-  begins c.args.bytes.now _ _ (λ i. omega (arith, c.type_inv.bytes i)) c.requires (c.header-header.ensures ∙ ap (λ (s : _). header_of s.now) c.new-view.ensures.keeps) (c.payload.ensures.bytes ∙ ap (λ (s : _). payload_of s.now) c.new-view.ensures.keeps),
+  begins c.args.bytes.now _ _ (λ i. omega (arith, c.type_inv.bytes i)) c.requires c.read_header-header.ensures.fields (c.payload.ensures.bytes ∙ ap (λ (s : _). payload_of s.now) c.new-view.ensures.keeps),
   c.in_ok-payload.ensures.ok,
 )

@@ -1,4 +1,4 @@
-use Rattle.std.proofs.Common.{inl}
+use Rattle.std.proofs.Common.{inl, inr}
 use Rattle.std.proofs.lemmas.Result.{err_from_is_err_and, IfErr-weaker}
 use Rattle.netlink_packet_core.proofs.Refusals.{frame_refused, no_memory_wanted}
 use Rattle.netlink_packet_core.proofs.message.NetlinkMessage.deserialize.Goals as goal
@@ -10,8 +10,8 @@ returns-in_err-check_frame-clause-complete g c m frame =
 
 pub returns-clause-complete : goal.returns-clause-complete
 returns-clause-complete g c m frame =
-    IfErr-weaker c.read_frame.result _ _ (λ e refusal. frame_refused g.I.NetlinkDeserializable.decoding g.I.NetlinkDeserializable.wants_memory c.args.buffer.now m e frame refusal) c.read_frame.ensures.err
+    IfErr-weaker c.read_frame.result _ _ (λ e refusal. frame_refused g.I.NetlinkDeserializable.decoding g.I.NetlinkDeserializable.wants_memory c.args.buffer.now m e frame (inr refusal)) c.read_frame.ensures.err
 
 pub returns-clause-no_memory : goal.returns-clause-no_memory
 returns-clause-no_memory g c asks_none =
-    IfErr-weaker c.read_frame.result _ _ (λ e refusal. no_memory_wanted g.I.NetlinkDeserializable.decoding g.I.NetlinkDeserializable.wants_memory c.args.buffer.now e asks_none refusal) c.read_frame.ensures.err
+    IfErr-weaker c.read_frame.result _ _ (λ e refusal. no_memory_wanted g.I.NetlinkDeserializable.decoding g.I.NetlinkDeserializable.wants_memory c.args.buffer.now e asks_none (inr refusal)) c.read_frame.ensures.err
