@@ -4,6 +4,7 @@ use Rattle.std.proofs.lemmas.List.{take-append-drop, length-take, length-take-le
 use Rattle.netlink_bytes.specs.Numbers.{IsBytes, number_le, text_le}
 use Rattle.netlink_bytes.specs.NumberLaws.{number_le-text_le}
 use Rattle.netlink_packet_core.specs.Header.{header_text, header_of, payload_of, HeaderInRange, HoldsFrame, field}
+use Rattle.netlink_packet_core.specs.Sizes.{length-header_text}
 use Rattle.netlink_packet_core.specs.Frame.{Begins}
 use Rattle.netlink_packet_core.specs.declared.header.NetlinkHeader.{NetlinkHeader}
 use Rattle.netlink_packet_core.proofs.Numbers.{IsBytes-drop, IsBytes-take, split_number, number-fits}
@@ -21,16 +22,6 @@ header_of-header_text h more fits = same_header _ _
     (number_le-text_le h.flags 2 fits.flags)
     (number_le-text_le h.sequence_number 4 fits.sequence_number)
     (number_le-text_le h.port_number 4 fits.port_number)
-
-pub length-header_text : (h : NetlinkHeader) → length (header_text h) ≡ 16
-unfolding text_le
-length-header_text h = refl
-
-pub ruleset header_size = (length-header_text)
-
--- the size of a header's text and of what stands behind it
-pub length-header_and : (h : NetlinkHeader) (more : List ℕ) → length (header_text h ++ more) ≡ 16 + length more
-length-header_and h more = length-append (header_text h) more ∙ ap (λ (n : ℕ). n + length more) (length-header_text h)
 
 -- what stands behind a header's text
 pub drop-header_text : (h : NetlinkHeader) (more : List ℕ) → drop 16 (header_text h ++ more) ≡ more

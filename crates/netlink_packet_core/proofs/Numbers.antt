@@ -3,6 +3,7 @@ use Rattle.std.proofs.Common.{◌≡◌, ℕ, zero, suc, ℤ, ◌+◌, ◌<◌, 
 use Rattle.std.proofs.lemmas.List.{take-append-drop, length-take-le, get_or-drop, take_at, drop_at}
 use Rattle.netlink_bytes.specs.Numbers.{IsBytes, IsSigned, number_le, text_le, signed, unsigned}
 use Rattle.netlink_bytes.specs.NumberLaws.{length-text_le, number_le-text_le, number_le-fits, text_le-number_le, signed-unsigned, unsigned-signed, unsigned-fits, signed-fits}
+use Rattle.netlink_packet_core.specs.Sizes.{length-code}
 use Rattle.netlink_packet_core.specs.Payload.{code_text}
 use Rattle.netlink_packet_core.specs.Frame.{IsCodeAndRest}
 
@@ -26,12 +27,7 @@ split_number w bytes each long =
 pub number-fits : (w : ℕ) (bytes : List ℕ) → IsBytes bytes → length bytes ≡ w → number_le bytes < 256 ^ w
 number-fits w bytes each size = let fits = number_le-fits bytes each in rw size at fits
 
--- the size of a code and of what stands behind it
-pub length-code : (n : ℕ) (rest : List ℕ) → length (text_le n 4 ++ rest) ≡ 4 + length rest
-length-code n rest = length-append (text_le n 4) rest ∙ ap (λ (k : ℕ). k + length rest) (length-text_le n 4)
-
-pub ruleset code_size = (length-code)
-
+-- the size of a payload that has a code
 pub length-code_and_rest : (payload : List ℕ) (code : ℤ) (rest : List ℕ) → IsCodeAndRest payload code rest → length payload ≡ 4 + length rest
 length-code_and_rest payload code rest is = ap length is.whole ∙ length-code (unsigned 4 code) rest
 

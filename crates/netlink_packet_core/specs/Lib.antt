@@ -4,7 +4,7 @@ pub mod Header
 pub mod Payload
 pub mod Protocol
 pub mod Refusal
-
+pub mod Sizes
 -- the words of the crate below, for those who use this one alone
 pub use Rattle.netlink_bytes.specs.Causes
 pub use Rattle.netlink_bytes.specs.NumberLaws

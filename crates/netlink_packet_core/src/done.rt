@@ -171,13 +171,13 @@ impl Emitable for DoneMessage {
     ghost takes_longer = { false };
 
     /// 4 and the bytes.
-    #[tactic(auto, using(crate::proofs::Numbers::code_size))]
+    #[tactic(auto, using(crate::specs::Sizes::text_sizes))]
     fn buffer_len(&self) -> usize {
         4 + self.extended_ack.len()
     }
 
     /// Fills a buffer of exactly `buffer_len` bytes with the code and the bytes.
-    #[tactic(auto, using(crate::proofs::Numbers::code_size))]
+    #[tactic(auto, using(crate::specs::Sizes::text_sizes))]
     fn emit(&self, buffer: &mut [u8]) {
         put_code(buffer, self.code, &self.extended_ack);
     }

@@ -201,13 +201,13 @@ impl Emitable for ErrorMessage {
     ghost takes_longer = { false };
 
     /// 4 and the bytes.
-    #[tactic(auto, using(crate::proofs::Numbers::code_size))]
+    #[tactic(auto, using(crate::specs::Sizes::text_sizes))]
     fn buffer_len(&self) -> usize {
         4 + self.header.len()
     }
 
     /// Fills a buffer of exactly `buffer_len` bytes with the code and the bytes.
-    #[tactic(auto, using(crate::proofs::Numbers::code_size))]
+    #[tactic(auto, using(crate::specs::Sizes::text_sizes))]
     fn emit(&self, buffer: &mut [u8]) {
         put_code(buffer, self.raw_code(), &self.header);
     }

@@ -78,13 +78,13 @@ impl Emitable for NetlinkHeader {
     ghost takes_longer = { true };
 
     /// 16.
-    #[tactic(auto, using(crate::proofs::Headers::header_size))]
+    #[tactic(auto, using(crate::specs::Sizes::text_sizes))]
     fn buffer_len(&self) -> usize {
         NETLINK_HEADER_LEN
     }
 
     /// Writes the five fields into the first 16 bytes, and leaves the rest.
-    #[tactic(auto, using(crate::proofs::Headers::header_size))]
+    #[tactic(auto, using(crate::specs::Sizes::text_sizes))]
     fn emit(&self, buffer: &mut [u8]) {
         let (head, _) = buffer.split_at_mut(NETLINK_HEADER_LEN);
         self.write(head);

@@ -45,7 +45,7 @@ impl<I: NetlinkSerializable> NetlinkPayload<I> {
     }
 
     /// The size of the payload's text in bytes.
-    #[tactic(auto, using(crate::proofs::Numbers::code_size))]
+    #[tactic(auto, using(crate::specs::Sizes::text_sizes))]
     pub(crate) fn buffer_len(&self) -> usize
         requires { length (payload_text I.encoding self.now) < 2 ^ 64 }
         ensures { result ≡ length (payload_text I.encoding self.now) }
@@ -60,7 +60,7 @@ impl<I: NetlinkSerializable> NetlinkPayload<I> {
     }
 
     /// Whether the payload's text has at most so many bytes.
-    #[tactic(auto, using(crate::proofs::Numbers::code_size))]
+    #[tactic(auto, using(crate::specs::Sizes::text_sizes))]
     pub(crate) fn is_at_most(&self, limit: usize) -> bool
         ensures { IsTrue result ↔ (length (payload_text I.encoding self.now) ≤ limit) }
     {
@@ -89,7 +89,7 @@ impl<I: NetlinkSerializable> NetlinkPayload<I> {
     }
 
     /// Writes the payload's text, which fills the buffer.
-    #[tactic(auto, using(crate::proofs::Numbers::code_size))]
+    #[tactic(auto, using(crate::specs::Sizes::text_sizes))]
     pub(crate) fn emit(&self, buffer: &mut [u8])
         requires { length buffer.old ≡ length (payload_text I.encoding self.now) }
         ensures { buffer.new ≡ payload_text I.encoding self.now }

@@ -1,6 +1,6 @@
 use Rattle.std.proofs.Common.{arith}
 use Rattle.netlink_packet_core.specs.Payload.{payload_text}
-use Rattle.netlink_packet_core.proofs.Headers.{length-header_and}
+use Rattle.netlink_packet_core.specs.Sizes.{length-header_and}
 use Rattle.netlink_packet_core.proofs.message.NetlinkMessageEmitable.buffer_len.Goals as goal
 
 pub buffer_len-requires : goal.buffer_len-requires

@@ -1,6 +1,6 @@
 use Rattle.std.proofs.Common.{arith}
 use Rattle.netlink_packet_core.specs.Payload.{payload_text}
-use Rattle.netlink_packet_core.proofs.Headers.{length-header_and}
+use Rattle.netlink_packet_core.specs.Sizes.{length-header_and}
 use Rattle.netlink_packet_core.proofs.message.NetlinkMessageEmitable.emit.Goals as goal
 
 pub serialize-requires-clause-room : goal.serialize-requires-clause-room
