@@ -1,16 +1,23 @@
--- Normalising has one output and one fault.
-use Rattle.std.proofs.Common.{◌≡◌, List, ℕ, refl, sym, ◌∙◌, subst, inl, inr, arith, Option, Some, None}
-use Rattle.std.specs.Prelude.{◌≢◌}
+-- Each command has one output and one fault.
+use Rattle.std.proofs.Common.{◌≡◌, ◌++◌, List, [], ◌∷◌, ℕ, ℤ, ap, refl, sym, ◌∙◌, subst, inl, inr, arith, Option, Some, None}
+use Rattle.std.specs.Prelude.{◌≢◌, codes}
+use Rattle.std.specs.Fmt.{signed_decimal}
 use Rattle.netlink_packet_core.specs.Canonical.{Fits, IsNormalizeFault, canonical_frame}
 use Rattle.netlink_packet_core.specs.DecodeError.{DecodeError}
 use Rattle.netlink_packet_core.specs.DecodeError.TheVariants.{OutOfMemory, TooLong}
-use Rattle.netlink_packet_core.specs.Frame.{Frame}
+use Rattle.netlink_packet_core.specs.Frame.{Frame, SamePayload}
+use Rattle.netlink_packet_core.specs.Payload.{raw_code}
+use Rattle.netlink_packet_core.specs.declared.header.NetlinkHeader.{NetlinkHeader}
+use Rattle.netlink_packet_core.specs.declared.payload.NetlinkPayload.{NetlinkPayload}
+use Rattle.netlink_packet_core.specs.declared.payload.NetlinkPayload.TheVariants.{Done, Error, Noop, Overrun, InnerMessage}
 use Rattle.netlink_packet_core.specs.Refusal.{IsRefusal, SameRefusal}
 use Rattle.netlink_packet_core.specs.declared.message.NetlinkMessage.{NetlinkMessage}
+use Rattle.netlink_frame.specs.Lines.{header_lines, inner_text, message_lines, payload_words, shown}
 use Rattle.netlink_frame.specs.PingPong.{ping_pong_decoding, ping_pong_encoding, wants_memory}
 use Rattle.netlink_frame.specs.Run.{Makes, SameFault}
-use Rattle.netlink_frame.specs.declared.command.Command.TheVariants.{Normalize}
+use Rattle.netlink_frame.specs.declared.command.Command.TheVariants.{Normalize, Show}
 use Rattle.netlink_frame.specs.declared.ping_pong.PingPongMessage.{PingPongMessage}
+use Rattle.netlink_frame.specs.declared.ping_pong.PingPongMessage.TheVariants.{Ping, Pong}
 
 abbrev pub IsFrame : List ℕ → NetlinkMessage PingPongMessage → Type 0
 IsFrame = Frame ping_pong_decoding
@@ -20,6 +27,7 @@ IsRefused = IsRefusal ping_pong_decoding wants_memory
 
 -- what the laws of the core say of the protocol
 pub record Uniqueness : Type 0 where
+  pub same : (bytes : List ℕ) (m n : NetlinkMessage PingPongMessage) → IsFrame bytes m → IsFrame bytes n → (m.header ≡ n.header) × SamePayload ping_pong_decoding m.payload n.payload
   pub fits : (bytes : List ℕ) (m n : NetlinkMessage PingPongMessage) → IsFrame bytes m → IsFrame bytes n → Fits ping_pong_encoding m → Fits ping_pong_encoding n
   pub written : (bytes : List ℕ) (m n : NetlinkMessage PingPongMessage) → IsFrame bytes m → IsFrame bytes n → canonical_frame ping_pong_encoding m ≡ canonical_frame ping_pong_encoding n
   pub refusal : (bytes : List ℕ) (e f : DecodeError) → IsRefused bytes e → IsRefused bytes f → e ≢ OutOfMemory → f ≢ OutOfMemory → SameRefusal e f
@@ -46,3 +54,38 @@ normalizes_once unique input first second None None (m, frame, fits, is) (n, fra
 normalizes_once unique input first second None (Some f) (m, frame, fits, is) (none, known, fault) = absurd (no_fault unique input m f frame fits fault known)
 normalizes_once unique input first second (Some e) None (none, known, fault) (m, frame, fits, is) = absurd (no_fault unique input m e frame fits fault known)
 normalizes_once unique input first second (Some e) (Some f) (none, known, fault) (none', known', fault') = (none ∙ sym none', fault_once unique input e f fault fault' known known')
+
+-- a refused input has no message
+no_refusal : Uniqueness → (bytes : List ℕ) (m : NetlinkMessage PingPongMessage) (e : DecodeError) → IsFrame bytes m → IsRefused bytes e → e ≢ OutOfMemory → ⊥
+no_refusal unique bytes m e frame refusal known = known (unique.frame bytes m e frame refusal)
+
+inner_once : (v w : PingPongMessage) → ping_pong_decoding.stands_for v ≡ ping_pong_decoding.stands_for w → inner_text v ≡ inner_text w
+inner_once (Ping a) (Ping b) same = ap (λ (t : List ℕ). codes "ping " ++ shown t) (ap (λ (p : ℕ × List ℕ). p.1) same)
+inner_once (Pong a) (Pong b) same = ap (λ (t : List ℕ). codes "pong " ++ shown t) (ap (λ (p : ℕ × List ℕ). p.1) same)
+inner_once (Ping a) (Pong b) same = absurd (omega (arith, ap (λ (p : ℕ × List ℕ). p.0) same))
+inner_once (Pong a) (Ping b) same = absurd (omega (arith, ap (λ (p : ℕ × List ℕ). p.0) same))
+
+-- payloads that say the same are shown alike
+words_once : (x y : NetlinkPayload PingPongMessage) → SamePayload ping_pong_decoding x y → payload_words x ≡ payload_words y
+words_once Noop Noop same = refl
+words_once (Done m) (Done n) (code, bytes) =
+    ap (λ (z : ℤ). codes "done " ++ (signed_decimal z ++ (codes " " ++ shown m.extended_ack.items))) code
+    ∙ ap (λ (t : List ℕ). codes "done " ++ (signed_decimal n.code ++ (codes " " ++ shown t))) bytes
+words_once (Error m) (Error n) (code, bytes) =
+    ap (λ (z : ℤ). codes "error " ++ (signed_decimal z ++ (codes " " ++ shown m.header.items))) code
+    ∙ ap (λ (t : List ℕ). codes "error " ++ (signed_decimal (raw_code n.code) ++ (codes " " ++ shown t))) bytes
+words_once (Overrun a) (Overrun b) same = ap (λ (t : List ℕ). codes "overrun " ++ shown t) same
+words_once (InnerMessage v) (InnerMessage w) same = inner_once v w same
+words_once x y same = absurd same
+
+message_once : (m n : NetlinkMessage PingPongMessage) → (m.header ≡ n.header) × SamePayload ping_pong_decoding m.payload n.payload → message_lines m ≡ message_lines n
+message_once m n (header, payload) =
+    ap (λ (h : NetlinkHeader). header_lines h ++ (codes "payload " ++ (payload_words m.payload ++ (10 ∷ [])))) header
+    ∙ ap (λ (t : List ℕ). header_lines n.header ++ (codes "payload " ++ (t ++ (10 ∷ [])))) (words_once m.payload n.payload payload)
+
+pub shows_once : Uniqueness → (input first second : List ℕ) (e f : Option DecodeError) → Makes Show input first e → Makes Show input second f → (first ≡ second) × SameFault e f
+unfolding Makes
+shows_once unique input first second None None (m, frame, is) (n, frame', is') = (is ∙ message_once m n (unique.same input m n frame frame') ∙ sym is', tt)
+shows_once unique input first second None (Some f) (m, frame, is) (none, known, fault) = absurd (no_refusal unique input m f frame fault known)
+shows_once unique input first second (Some e) None (none, known, fault) (m, frame, is) = absurd (no_refusal unique input m e frame fault known)
+shows_once unique input first second (Some e) (Some f) (none, known, fault) (none', known', fault') = (none ∙ sym none', unique.refusal input e f fault fault' known known')

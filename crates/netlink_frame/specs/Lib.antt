@@ -1,3 +1,4 @@
+pub mod Lines
 pub mod PingPong
 pub mod PingPongLaws
 pub mod Run

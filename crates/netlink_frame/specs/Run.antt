@@ -6,12 +6,13 @@ use Rattle.netlink_packet_core.specs.DecodeError.TheVariants.{OutOfMemory}
 use Rattle.netlink_packet_core.specs.Causes.{cause_text}
 use Rattle.netlink_packet_core.specs.Canonical.{Fits, IsNormalizeFault, canonical_frame}
 use Rattle.netlink_packet_core.specs.Frame.{Frame}
-use Rattle.netlink_packet_core.specs.Refusal.{SameRefusal}
+use Rattle.netlink_packet_core.specs.Refusal.{IsRefusal, SameRefusal}
 use Rattle.netlink_packet_core.specs.declared.message.NetlinkMessage.{NetlinkMessage}
+use Rattle.netlink_frame.specs.Lines.{message_lines}
 use Rattle.netlink_frame.specs.PingPong.{ping_pong_decoding, ping_pong_encoding, wants_memory}
 use Rattle.netlink_frame.specs.declared.ping_pong.PingPongMessage.{PingPongMessage}
 use Rattle.netlink_frame.specs.declared.command.Command.{Command}
-use Rattle.netlink_frame.specs.declared.command.Command.TheVariants.{Normalize}
+use Rattle.netlink_frame.specs.declared.command.Command.TheVariants.{Normalize, Show}
 use Rattle.netlink_frame.specs.declared.run.Fault.{Fault}
 use Rattle.netlink_frame.specs.declared.run.Fault.TheVariants.{Read, Write, Decode}
 
@@ -21,6 +22,9 @@ Makes Normalize input output None =
     (m : NetlinkMessage PingPongMessage) × Frame ping_pong_decoding input m × Fits ping_pong_encoding m × (output ≡ canonical_frame ping_pong_encoding m)
 Makes Normalize input output (Some e) =
     (output ≡ []) × (e ≢ OutOfMemory) × IsNormalizeFault ping_pong_encoding ping_pong_decoding wants_memory input e
+Makes Show input output None =
+    (m : NetlinkMessage PingPongMessage) × Frame ping_pong_decoding input m × (output ≡ message_lines m)
+Makes Show input output (Some e) = (output ≡ []) × (e ≢ OutOfMemory) × IsRefusal ping_pong_decoding wants_memory input e
 
 -- two faults are one, but for the words that follow the fixed beginning of a free text
 abbrev pub SameFault : Option DecodeError → Option DecodeError → Type 0

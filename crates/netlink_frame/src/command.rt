@@ -7,15 +7,19 @@ ghost use Rattle.std.specs.Prelude.{◌≡◌, ◌↔◌, Some, codes};
 pub enum Command {
     /// The canonical frame of the message whose frame the input begins with.
     Normalize,
+    /// The six lines of that message.
+    Show,
 }
 
 impl Command {
     /// The command of a word, `None` for every other text.
     pub fn from_text(word: &str) -> Option<Command>
         ensures normalize { (result ≡ Some Command.Normalize) ↔ (word.now ≡ codes "normalize") }
+        ensures show { (result ≡ Some Command.Show) ↔ (word.now ≡ codes "show") }
     {
         match word {
             "normalize" => Some(Command::Normalize),
+            "show" => Some(Command::Show),
             _ => None,
         }
     }

@@ -7,6 +7,7 @@ mod ping_pong;
 mod run;
 #[cfg(test)]
 mod tests;
+mod text;
 
 use crate::command::Command;
 use crate::run::run;

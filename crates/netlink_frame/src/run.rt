@@ -1,12 +1,14 @@
 //! A run of the program over a reader and a writer.
 
-ghost use Rattle.std.specs.Prelude.{◌≡◌, ◌≢◌, IfOk, IfErr, IfSome};
+ghost use Rattle.std.specs.Prelude.{◌≡◌, ◌≢◌, [], Some, IfOk, IfErr, IfSome};
 ghost use Rattle.std.specs.Io.KnownBytes.{Keeps};
+ghost use Rattle.netlink_frame.specs.declared.command.Command.TheVariants.{Normalize, Show};
 ghost use Rattle.netlink_frame.specs.Run.{Answers, IsEarly, Makes, fault_text};
 
 use crate::command::Command;
 use crate::ping_pong::PingPongMessage;
-use netlink_packet_core::{DecodeError, normalize};
+use crate::text::show_text;
+use netlink_packet_core::{DecodeError, NetlinkMessage, normalize};
 use std::alloc::{AllocError, Global};
 use std::io::{Read, Write};
 use std::{fmt, io};
@@ -103,26 +105,58 @@ fn read_all<R: Read>(alloc: Global, reader: &mut R) -> Result<Vec<u8>, Fault>
 }
 
 /// The output of the command and its fault, or want of memory.
-#[tactic(auto, unfolding(crate::specs::Run::Makes))]
 fn answer_to(alloc: Global, command: Command, input: &[u8]) -> Result<Answer, AllocError>
     ensures makes { IfOk result (λ answer. Makes command input.now answer.output.items answer.fault) }
     ensures fault { IfOk result (λ answer. IfSome answer.fault (λ e. e ≢ DecodeError.OutOfMemory)) }
 {
     match command {
-        Command::Normalize => match normalize::<PingPongMessage>(alloc, input) {
-            Ok(output) => Ok(Answer {
-                output,
+        Command::Normalize => normalized(alloc, input),
+        Command::Show => shown(alloc, input),
+    }
+}
+
+/// The canonical frame of a message, or the refusal.
+#[tactic(auto, unfolding(crate::specs::Run::Makes))]
+fn normalized(alloc: Global, input: &[u8]) -> Result<Answer, AllocError>
+    ensures makes { IfOk result (λ answer. Makes Normalize input.now answer.output.items answer.fault) }
+    ensures fault { IfOk result (λ answer. IfSome answer.fault (λ e. e ≢ DecodeError.OutOfMemory)) }
+{
+    match normalize::<PingPongMessage>(alloc, input) {
+        Ok(output) => Ok(Answer {
+            output,
+            fault: None,
+        }),
+        Err(cause) => refused(alloc, cause),
+    }
+}
+
+/// The lines of a message, or the refusal.
+#[tactic(auto, unfolding(crate::specs::Run::Makes))]
+fn shown(alloc: Global, input: &[u8]) -> Result<Answer, AllocError>
+    ensures makes { IfOk result (λ answer. Makes Show input.now answer.output.items answer.fault) }
+    ensures fault { IfOk result (λ answer. IfSome answer.fault (λ e. e ≢ DecodeError.OutOfMemory)) }
+{
+    match NetlinkMessage::<PingPongMessage>::deserialize(alloc, input) {
+        Ok(message) => match show_text(alloc, &message) {
+            Ok(text) => Ok(Answer {
+                output: text.into_bytes(),
                 fault: None,
             }),
-            Err(cause) => {
-                if cause.is_out_of_memory() {
-                    return Err(AllocError);
-                }
-                Ok(Answer {
-                    output: Vec::new(alloc),
-                    fault: Some(cause),
-                })
-            }
+            Err(_) => Err(AllocError),
         },
+        Err(cause) => refused(alloc, cause),
     }
+}
+
+/// No output and the fault; want of memory is no fault of the input.
+fn refused(alloc: Global, cause: DecodeError) -> Result<Answer, AllocError>
+    ensures ok { IfOk result (λ answer. (answer.output.items ≡ []) × (answer.fault ≡ Some cause) × (cause ≢ DecodeError.OutOfMemory)) }
+{
+    if cause.is_out_of_memory() {
+        return Err(AllocError);
+    }
+    Ok(Answer {
+        output: Vec::new(alloc),
+        fault: Some(cause),
+    })
 }

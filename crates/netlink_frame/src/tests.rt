@@ -1,3 +1,4 @@
 mod messages;
 mod refusals;
 mod runs;
+mod shown;

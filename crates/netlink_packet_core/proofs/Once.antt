@@ -3,9 +3,9 @@ use Rattle.std.proofs.Common.{◌≡◌, ℕ, ℤ, ◌+◌, Bool, List, ◌++◌
 use Rattle.netlink_bytes.specs.Numbers.{IsSigned}
 use Rattle.netlink_packet_core.specs.Payload.{code_text, payload_text, payload_type, PayloadInRange, InnerInRange}
 use Rattle.netlink_packet_core.specs.Protocol.{Encoding, Decoding}
-use Rattle.netlink_packet_core.specs.Frame.{Body, Frame, IsDone}
+use Rattle.netlink_packet_core.specs.Frame.{Body, Frame, IsDone, SamePayload}
 use Rattle.netlink_packet_core.specs.Canonical.{canonical_frame, finalized}
-use Rattle.netlink_packet_core.proofs.Numbers.{length-code_and_rest}
+use Rattle.netlink_packet_core.proofs.Numbers.{length-code_and_rest, code_once}
 use Rattle.netlink_packet_core.proofs.Headers.{same_header, same_start}
 use Rattle.netlink_packet_core.proofs.Written.{Laws, written_from}
 use Rattle.netlink_packet_core.specs.declared.header.NetlinkHeader.{NetlinkHeader}
@@ -53,6 +53,47 @@ body_once {encoding = encoding} {decoding = decoding} laws (InnerMessage a) (Inn
     let pairs : decoding.stands_for a ≡ decoding.stands_for b = cc in
     let own : (encoding.type_of a, encoding.text_of a) ≡ (encoding.type_of b, encoding.text_of b) = sym (laws.own_pair a) ∙ pairs ∙ laws.own_pair b in
     (ap (λ (s : ℕ × List ℕ). s.0) own, ap (λ (s : ℕ × List ℕ). s.1) own)
+
+done_same : (a b : DoneMessage) (payload : List ℕ) → IsDone payload a → IsDone payload b → (a.code ≡ b.code) × (a.extended_ack.items ≡ b.extended_ack.items)
+done_same a b payload (inl p) (inl q) = (p.1 ∙ sym q.1, p.2 ∙ sym q.2)
+done_same a b payload (inl p) (inr q) = absurd (omega (arith, ap length p.0, length-code_and_rest payload _ _ q))
+done_same a b payload (inr p) (inl q) = absurd (omega (arith, ap length q.0, length-code_and_rest payload _ _ p))
+done_same a b payload (inr p) (inr q) = code_once payload _ _ _ _ p q
+
+-- two payloads of one body say the same
+payload_same : {I : Type 0} (decoding : Decoding I) (x y : NetlinkPayload I) (h : NetlinkHeader) (payload : List ℕ) → Body decoding h payload x → Body decoding h payload y → SamePayload decoding x y
+payload_same decoding (Done a) (Done b) h payload p q = done_same a b payload p.1 q.1
+payload_same decoding (Done a) (Error b) h payload p q = omega (arith, p.0, q.0)
+payload_same decoding (Done a) Noop h payload p q = omega (arith, p.0, q)
+payload_same decoding (Done a) (Overrun b) h payload p q = omega (arith, p.0, q.0)
+payload_same decoding (Done a) (InnerMessage b) h payload p q = q.0.2 p.0
+payload_same decoding (Error a) (Done b) h payload p q = omega (arith, p.0, q.0)
+payload_same decoding (Error a) (Error b) h payload p q = code_once payload _ _ _ _ p.1 q.1
+payload_same decoding (Error a) Noop h payload p q = omega (arith, p.0, q)
+payload_same decoding (Error a) (Overrun b) h payload p q = omega (arith, p.0, q.0)
+payload_same decoding (Error a) (InnerMessage b) h payload p q = q.0.1 p.0
+payload_same decoding Noop (Done b) h payload p q = omega (arith, p, q.0)
+payload_same decoding Noop (Error b) h payload p q = omega (arith, p, q.0)
+payload_same decoding Noop Noop h payload p q = tt
+payload_same decoding Noop (Overrun b) h payload p q = omega (arith, p, q.0)
+payload_same decoding Noop (InnerMessage b) h payload p q = q.0.0 p
+payload_same decoding (Overrun a) (Done b) h payload p q = omega (arith, p.0, q.0)
+payload_same decoding (Overrun a) (Error b) h payload p q = omega (arith, p.0, q.0)
+payload_same decoding (Overrun a) Noop h payload p q = omega (arith, p.0, q)
+payload_same decoding (Overrun a) (Overrun b) h payload p q = p.1 ∙ sym q.1
+payload_same decoding (Overrun a) (InnerMessage b) h payload p q = q.0.3 p.0
+payload_same decoding (InnerMessage a) (Done b) h payload p q = p.0.2 q.0
+payload_same decoding (InnerMessage a) (Error b) h payload p q = p.0.1 q.0
+payload_same decoding (InnerMessage a) Noop h payload p q = p.0.0 q
+payload_same decoding (InnerMessage a) (Overrun b) h payload p q = p.0.3 q.0
+payload_same decoding (InnerMessage a) (InnerMessage b) h payload p q =
+    let same : Some (decoding.stands_for a) ≡ Some (decoding.stands_for b) = sym p.2 ∙ q.2 in cc
+
+pub frame_same : {I : Type 0} (decoding : Decoding I) (bytes : List ℕ) (m n : NetlinkMessage I) → Frame decoding bytes m → Frame decoding bytes n → (m.header ≡ n.header) × SamePayload decoding m.payload n.payload
+frame_same decoding bytes m n (p, begins, body) (q, begins', body') =
+    let same = same_start bytes m.header n.header p q begins begins' in
+    let moved : Body decoding m.header p n.payload = subst (λ (h : NetlinkHeader). Body decoding h p n.payload) (sym same.0) (subst (λ (r : List ℕ). Body decoding n.header r n.payload) (sym same.1) body') in
+    (same.0, payload_same decoding m.payload n.payload m.header p body moved)
 
 pub record SameMessage {I : Type 0} (encoding : Encoding I) (m n : NetlinkMessage I) : Type 0 where
   pub header : m.header ≡ n.header

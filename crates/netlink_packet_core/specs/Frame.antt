@@ -44,3 +44,12 @@ pub record Begins (bytes : List ℕ) (h : NetlinkHeader) (payload : List ℕ) : 
 -- bytes begin with the frame of a message, whatever follows
 abbrev pub Frame : {I : Type 0} → Decoding I → List ℕ → NetlinkMessage I → Type 0
 Frame decoding bytes m = (payload : List ℕ) × Begins bytes m.header payload × Body decoding m.header payload m.payload
+
+-- payloads say the same, an inner one to its protocol
+abbrev pub SamePayload : {I : Type 0} → Decoding I → NetlinkPayload I → NetlinkPayload I → Type 0
+SamePayload decoding Noop Noop = Unit {0}
+SamePayload decoding (Error m) (Error n) = (raw_code m.code ≡ raw_code n.code) × (m.header.items ≡ n.header.items)
+SamePayload decoding (Done m) (Done n) = (m.code ≡ n.code) × (m.extended_ack.items ≡ n.extended_ack.items)
+SamePayload decoding (Overrun a) (Overrun b) = a.items ≡ b.items
+SamePayload decoding (InnerMessage v) (InnerMessage w) = decoding.stands_for v ≡ decoding.stands_for w
+SamePayload decoding _ _ = ⊥

@@ -2,7 +2,7 @@
 
 ghost use Rattle.std.specs.Prelude.{◌≡◌, ◌≢◌, ◌↔◌, ◌<◌, ◌≤◌, ◌++◌, ℕ, List, true, IsTrue, take, length};
 ghost use Rattle.netlink_packet_core.specs.Canonical.{Fits, IsCanonicalFrame, canonical_frame, finalized};
-ghost use Rattle.netlink_packet_core.specs.Frame.{Frame};
+ghost use Rattle.netlink_packet_core.specs.Frame.{Frame, SamePayload};
 ghost use Rattle.netlink_packet_core.specs.Payload.{InnerInRange, PayloadInRange, payload_text, payload_type};
 ghost use Rattle.netlink_packet_core.specs.Refusal.{IsFrameFault, IsRefusal, SameRefusal};
 ghost use Rattle.netlink_bytes.specs.declared.error.DecodeError.{DecodeError};
@@ -34,6 +34,8 @@ fn equal_payloads<I: NetlinkProtocol>()
 pub fn frame_unique<I: NetlinkProtocol>()
     ensures unique { (bytes : List ℕ) (m n : NetlinkMessage I) → Frame I.decoding bytes m → Frame I.decoding bytes n
         → IsTrue (⟦<NetlinkMessage<I> as PartialEq>⟧.eq m n) }
+    ensures same { (bytes : List ℕ) (m n : NetlinkMessage I) → Frame I.decoding bytes m → Frame I.decoding bytes n
+        → (m.header ≡ n.header) × SamePayload I.decoding m.payload n.payload }
     ensures fits { (bytes : List ℕ) (m n : NetlinkMessage I) → Frame I.decoding bytes m → Frame I.decoding bytes n
         → Fits I.encoding m → Fits I.encoding n }
     ensures written { (bytes : List ℕ) (m n : NetlinkMessage I) → Frame I.decoding bytes m → Frame I.decoding bytes n

@@ -3,8 +3,8 @@
 use crate::ping_pong::PingPongMessage;
 use netlink_packet_core::laws::{frame_unique, reads_back, refusal_unique};
 use netlink_packet_core::{
-    DoneMessage, ErrorMessage, NetlinkHeader, NetlinkMessage, NetlinkPayload, NetlinkSerializable,
-    NonZeroI32, normalize,
+    DoneMessage, Emitable, ErrorMessage, NetlinkBuffer, NetlinkHeader, NetlinkMessage,
+    NetlinkPayload, NetlinkSerializable, NonZeroI32, Parseable, normalize,
 };
 use std::alloc::Global;
 use std::test::Fail;
@@ -44,15 +44,12 @@ const LONG_ERROR: [u8; 24] = [
     0x18, 0, 0, 0, 2, 0, 0, 0, 0, 0, 0, 0, 0, 0, 0, 0, 0xc3, 0xdd, 0xff, 0xff, 6, 7, 8, 9,
 ];
 
-const OVERRUN: [u8; 19] = [
-    0x13, 0, 0, 0, 4, 0, 0, 0, 0, 0, 0, 0, 0, 0, 0, 0, 7, 8, 9,
-];
+const OVERRUN: [u8; 19] = [0x13, 0, 0, 0, 4, 0, 0, 0, 0, 0, 0, 0, 0, 0, 0, 0, 7, 8, 9];
 
 #[test]
 fn a_ping_is_written_and_read_back(rt: HostRuntime) -> Result<(), Fail> {
     let bytes = [0u8, 1, 2, 3].to_vec(rt.alloc())?;
-    let inner = NetlinkPayload::InnerMessage(PingPongMessage::Ping(bytes));
-    let mut message = Message::new(NetlinkHeader::default(), inner);
+    let mut message = Message::from_inner(PingPongMessage::Ping(bytes));
     assert!(rt; message.fits());
     reads_back(&message, &message, &[0x21]);
     message.finalize();
@@ -63,6 +60,11 @@ fn a_ping_is_written_and_read_back(rt: HostRuntime) -> Result<(), Fail> {
     assert_eq!(rt; buffer[20], 0x55);
     let back = Message::deserialize(rt.alloc(), &buffer)?;
     assert!(rt; back == message);
+    let view = NetlinkBuffer::new_checked(&PING[..])?;
+    assert!(rt; Message::parse(rt.alloc(), &view)? == message);
+    let mut again = [0x55u8; 21];
+    message.emit(&mut again);
+    assert_eq!(rt; again, buffer);
     let (header, payload) = back.into_parts();
     assert_eq!(rt; header.length, 20);
     assert_eq!(rt; payload.message_type(), 18);
@@ -133,7 +135,9 @@ fn parts(message: &Message) -> (u16, i32, &[u8]) {
 #[test]
 fn shared_payloads(rt: HostRuntime) -> Result<(), Fail> {
     let nothing: &[u8] = &[];
-    let plain_done: [u8; 20] = [0x14, 0, 0, 0, 3, 0, 0, 0, 0, 0, 0, 0, 0, 0, 0, 0, 0, 0, 0, 0];
+    let plain_done: [u8; 20] = [
+        0x14, 0, 0, 0, 3, 0, 0, 0, 0, 0, 0, 0, 0, 0, 0, 0, 0, 0, 0, 0,
+    ];
     let plain_noop: [u8; 16] = [0x10, 0, 0, 0, 1, 0, 0, 0, 0, 0, 0, 0, 0, 0, 0, 0];
     let rows: [(&[u8], u16, i32, &[u8], &[u8]); 7] = [
         (&NOOP, 1, 0, nothing, &plain_noop),
@@ -162,7 +166,10 @@ fn inner_messages_are_normalised(rt: HostRuntime) -> Result<(), Fail> {
     let mut longer = PING.to_vec(rt.alloc())?;
     longer.push(0xff)?;
     assert_eq!(rt; normal_of(rt.alloc(), &longer)?.as_slice(), PING.as_slice());
-    assert_eq!(rt; normal_of(rt.alloc(), &REQUEST)?.as_slice(), REQUEST.as_slice());
+    assert_eq!(rt;
+        normal_of(rt.alloc(), &REQUEST)?.as_slice(),
+        REQUEST.as_slice()
+    );
     refusal_unique::<PingPongMessage>();
     Ok(())
 }

@@ -6,9 +6,7 @@ use netlink_packet_core::{DecodeError, normalize};
 use std::alloc::Global;
 use std::test::Fail;
 
-const SHORT_DONE: [u8; 19] = [
-    0x13, 0, 0, 0, 3, 0, 0, 0, 0, 0, 0, 0, 0, 0, 0, 0, 1, 2, 3,
-];
+const SHORT_DONE: [u8; 19] = [0x13, 0, 0, 0, 3, 0, 0, 0, 0, 0, 0, 0, 0, 0, 0, 0, 1, 2, 3];
 
 const EMPTY_ERROR: [u8; 16] = [0x10, 0, 0, 0, 2, 0, 0, 0, 0, 0, 0, 0, 0, 0, 0, 0];
 

@@ -65,7 +65,17 @@ fn a_closed_writer(rt: HostRuntime) {
 #[test]
 fn words_and_faults(rt: HostRuntime) -> Result<(), Fail> {
     assert!(rt; Command::from_text("normalize") == Some(Command::Normalize));
-    for word in ["", "Normalize", "normalise", "normalize ", "show", "nlas", "canon", "frames"] {
+    assert!(rt; Command::from_text("show") == Some(Command::Show));
+    for word in [
+        "",
+        "Normalize",
+        "normalise",
+        "normalize ",
+        "shows",
+        "nlas",
+        "canon",
+        "frames",
+    ] {
         assert!(rt; Command::from_text(word).is_none());
     }
     let read = Fault::Read.to_string(rt.alloc())?;

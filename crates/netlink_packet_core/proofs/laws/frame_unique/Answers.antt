@@ -1,4 +1,4 @@
-use Rattle.netlink_packet_core.proofs.Once.{frame_once, body_in_range, headers_and}
+use Rattle.netlink_packet_core.proofs.Once.{frame_same, frame_once, body_in_range, headers_and}
 use Rattle.netlink_packet_core.proofs.Normalized.{fits_alike, written_alike}
 use Rattle.netlink_packet_core.proofs.Written.{Laws}
 use Rattle.netlink_packet_core.proofs.laws.frame_unique.Given
@@ -20,3 +20,6 @@ returns-clause-fits g c bytes m n f k = fits_alike (laws g) bytes n m k f
 
 pub returns-clause-written : goal.returns-clause-written
 returns-clause-written g c bytes m n f k = written_alike (laws g) bytes m n f k
+
+pub returns-clause-same : goal.returns-clause-same
+returns-clause-same g c bytes m n f k = frame_same g.I.NetlinkDeserializable.decoding bytes m n f k

@@ -1,0 +1,12 @@
+use Rattle.std.proofs.Common.{arith}
+use Rattle.netlink_frame.specs.Lines.{hex_digits}
+use Rattle.netlink_frame.proofs.Lines.{two_digits}
+use Rattle.netlink_frame.proofs.text.hex_text.Goals as goal
+
+pub loop-byte-init : goal.loop-byte-init
+unfolding hex_digits
+loop-byte-init c = c.new-text.ensures.bytes
+
+pub loop-byte-preserved : goal.loop-byte-preserved
+loop-byte-preserved c =
+    two_digits c.args.bytes.now _ _ _ _ _ c.loop-byte.byte-index (omega arith) c.loop-byte.invariant c.in_ok-push_str.ensures.bytes c.in_ok-push_str-2.ensures.bytes c.digit.ensures c.digit-in-loop-byte.ensures

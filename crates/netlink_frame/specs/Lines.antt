@@ -1,0 +1,53 @@
+-- The lines of what is shown. Every line ends with a line feed, 10.
+use Rattle.std.specs.Prelude.{ℕ, ◌+◌, ◌/◌, ◌%◌, nat_lt, if◌then◌else◌, List, [], ◌∷◌, ◌++◌, codes, decimal}
+use Rattle.std.specs.Fmt.{signed_decimal}
+use Rattle.netlink_packet_core.specs.Payload.{raw_code}
+use Rattle.netlink_packet_core.specs.declared.header.NetlinkHeader.{NetlinkHeader}
+use Rattle.netlink_packet_core.specs.declared.payload.NetlinkPayload.{NetlinkPayload}
+use Rattle.netlink_packet_core.specs.declared.payload.NetlinkPayload.TheVariants.{Done, Error, Noop, Overrun, InnerMessage}
+use Rattle.netlink_packet_core.specs.declared.message.NetlinkMessage.{NetlinkMessage}
+use Rattle.netlink_frame.specs.declared.ping_pong.PingPongMessage.{PingPongMessage}
+use Rattle.netlink_frame.specs.declared.ping_pong.PingPongMessage.TheVariants.{Ping, Pong}
+
+-- a hexadecimal digit in lower case
+abbrev pub hex_digit : ℕ → ℕ
+hex_digit n = if nat_lt n 10 then 48 + n else 87 + n
+
+-- two hexadecimal digits a byte
+unfoldable pub hex_digits : List ℕ → List ℕ
+hex_digits [] = []
+hex_digits (b ∷ bytes) = hex_digit (b / 16) ∷ (hex_digit (b % 16) ∷ hex_digits bytes)
+
+-- bytes as they are shown
+abbrev pub shown : List ℕ → List ℕ
+shown [] = codes "-"
+shown (b ∷ bytes) = hex_digits (b ∷ bytes)
+
+-- a line of a name and a number in decimal
+abbrev pub number_line : List ℕ → ℕ → List ℕ
+number_line name n = name ++ (decimal n ++ (10 ∷ []))
+
+-- what a payload is, its code and its bytes
+abbrev pub inner_text : PingPongMessage → List ℕ
+inner_text (Ping bytes) = codes "ping " ++ shown bytes.items
+inner_text (Pong bytes) = codes "pong " ++ shown bytes.items
+
+abbrev pub payload_words : NetlinkPayload PingPongMessage → List ℕ
+payload_words Noop = codes "noop"
+payload_words (Done m) = codes "done " ++ (signed_decimal m.code ++ (codes " " ++ shown m.extended_ack.items))
+payload_words (Error m) = codes "error " ++ (signed_decimal (raw_code m.code) ++ (codes " " ++ shown m.header.items))
+payload_words (Overrun bytes) = codes "overrun " ++ shown bytes.items
+payload_words (InnerMessage v) = inner_text v
+
+-- the five lines of a header
+abbrev pub header_lines : NetlinkHeader → List ℕ
+header_lines h =
+    number_line (codes "length ") h.length
+    ++ (number_line (codes "type ") h.message_type
+    ++ (number_line (codes "flags ") h.flags
+    ++ (number_line (codes "sequence ") h.sequence_number
+    ++ number_line (codes "port ") h.port_number)))
+
+-- the six lines of a message
+abbrev pub message_lines : NetlinkMessage PingPongMessage → List ℕ
+message_lines m = header_lines m.header ++ (codes "payload " ++ (payload_words m.payload ++ (10 ∷ [])))

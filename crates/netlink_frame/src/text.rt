@@ -1,0 +1,126 @@
+//! What the program shows.
+
+ghost use Rattle.std.specs.Prelude.{◌≡◌, ◌<◌, ◌++◌, [], ◌∷◌, OnOk, IfOk, IfErr, string_bytes};
+ghost use Rattle.netlink_frame.specs.Lines.{header_lines, hex_digit, inner_text, message_lines, number_line, payload_words, shown};
+
+use crate::ping_pong::PingPongMessage;
+use netlink_packet_core::{DecodeError, NetlinkHeader, NetlinkMessage, NetlinkPayload};
+use std::alloc::{AllocError, Global};
+
+/// The six lines of a message: its header's fields in decimal, and its payload, with bytes as two
+/// lower-case hexadecimal digits each, or `-` where there are none. C16 is the only error.
+pub fn show_text(
+    alloc: Global,
+    message: &NetlinkMessage<PingPongMessage>,
+) -> Result<String, DecodeError>
+    ensures lines { IfOk result (λ text. string_bytes text ≡ message_lines message.now) }
+    ensures memory { IfErr result (λ e. e ≡ DecodeError.OutOfMemory) }
+{
+    let mut text = header_text(alloc, &message.header)?;
+    let words = payload_text(alloc, &message.payload)?;
+    let line = format!(in alloc; "payload {words}\n")?;
+    text.push_str(line.as_str())?;
+    Ok(text)
+}
+
+/// The five lines of a header.
+fn header_text(alloc: Global, header: &NetlinkHeader) -> Result<String, AllocError>
+    ensures { IfOk result (λ text. string_bytes text ≡ header_lines header.now) }
+{
+    let mut text = number_text(alloc, "length ", header.length)?;
+    text.push_str(number_text(alloc, "type ", u32::from(header.message_type))?.as_str())?;
+    text.push_str(number_text(alloc, "flags ", u32::from(header.flags))?.as_str())?;
+    text.push_str(number_text(alloc, "sequence ", header.sequence_number)?.as_str())?;
+    text.push_str(number_text(alloc, "port ", header.port_number)?.as_str())?;
+    Ok(text)
+}
+
+/// A line of a name and a number.
+fn number_text(alloc: Global, name: &str, number: u32) -> Result<String, AllocError>
+    ensures { IfOk result (λ text. string_bytes text ≡ number_line name.now number) }
+{
+    format!(in alloc; "{name}{number}\n")
+}
+
+/// What a payload is, its code and its bytes.
+fn payload_text(
+    alloc: Global,
+    payload: &NetlinkPayload<PingPongMessage>,
+) -> Result<String, AllocError>
+    ensures { IfOk result (λ text. string_bytes text ≡ payload_words payload.now) }
+{
+    match payload {
+        NetlinkPayload::Noop => String::from_str(alloc, "noop"),
+        NetlinkPayload::Done(body) => {
+            let code = body.code;
+            let bytes = hex_text(alloc, &body.extended_ack)?;
+            format!(in alloc; "done {code} {bytes}")
+        }
+        NetlinkPayload::Error(body) => {
+            let code = body.raw_code();
+            let bytes = hex_text(alloc, &body.header)?;
+            format!(in alloc; "error {code} {bytes}")
+        }
+        NetlinkPayload::Overrun(bytes) => {
+            let bytes = hex_text(alloc, bytes)?;
+            format!(in alloc; "overrun {bytes}")
+        }
+        NetlinkPayload::InnerMessage(message) => ping_pong_text(alloc, message),
+    }
+}
+
+/// Which of the two messages it is, and its bytes.
+fn ping_pong_text(alloc: Global, message: &PingPongMessage) -> Result<String, AllocError>
+    ensures { IfOk result (λ text. string_bytes text ≡ inner_text message.now) }
+{
+    match message {
+        PingPongMessage::Ping(bytes) => {
+            let bytes = hex_text(alloc, bytes)?;
+            format!(in alloc; "ping {bytes}")
+        }
+        PingPongMessage::Pong(bytes) => {
+            let bytes = hex_text(alloc, bytes)?;
+            format!(in alloc; "pong {bytes}")
+        }
+    }
+}
+
+/// The bytes as they are shown.
+pub(crate) fn hex_text(alloc: Global, bytes: &[u8]) -> Result<String, AllocError>
+    ensures { IfOk result (λ text. string_bytes text ≡ shown bytes.now) }
+{
+    if bytes.is_empty() {
+        return String::from_str(alloc, "-");
+    }
+    let mut text = String::new(alloc);
+    for byte in bytes {
+        text.push_str(digit(*byte / 16))?;
+        text.push_str(digit(*byte % 16))?;
+    }
+    Ok(text)
+}
+
+/// A hexadecimal digit.
+fn digit(n: u8) -> &'static str
+    requires { n < 16 }
+    ensures { result.now ≡ hex_digit n ∷ [] }
+{
+    match n {
+        0 => "0",
+        1 => "1",
+        2 => "2",
+        3 => "3",
+        4 => "4",
+        5 => "5",
+        6 => "6",
+        7 => "7",
+        8 => "8",
+        9 => "9",
+        10 => "a",
+        11 => "b",
+        12 => "c",
+        13 => "d",
+        14 => "e",
+        _ => "f",
+    }
+}
