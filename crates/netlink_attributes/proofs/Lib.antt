@@ -1,0 +1,5 @@
+pub mod Blocks
+pub mod Fields
+pub mod Passing
+pub mod Starting
+pub mod Walking

@@ -1,0 +1,6 @@
+pub mod Attribute
+pub mod Block
+pub mod Places
+pub mod Steps
+pub mod Views
+pub mod Walk

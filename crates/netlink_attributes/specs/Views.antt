@@ -1,0 +1,32 @@
+-- The fields of an attribute's bytes, and what a view shows.
+use Rattle.std.specs.Prelude.{ℕ, ◌≤◌, List, length, slice_range}
+use denote.Ref.{Bor}
+use Rattle.netlink_bytes.specs.Numbers.{number_le}
+use Rattle.netlink_attributes.specs.Attribute.{Attribute}
+use Rattle.netlink_attributes.specs.declared.buffer.NlaBuffer.{NlaBuffer}
+
+-- the size that the attribute says it has, its header included
+abbrev pub length_field : List ℕ → ℕ
+length_field bytes = number_le (slice_range bytes 0 2)
+
+-- the kind, its two flag bits among it
+abbrev pub raw_kind : List ℕ → ℕ
+raw_kind bytes = number_le (slice_range bytes 2 4)
+
+-- the attribute that the bytes begin with, where they hold a whole one
+abbrev pub attribute_of : List ℕ → Attribute
+attribute_of bytes = record { kind = raw_kind bytes; value = slice_range bytes 4 (length_field bytes) }
+
+-- the bytes hold a whole attribute, but perhaps not its padding
+pub record HoldsAttribute (bytes : List ℕ) : Type 0 where
+  pub header : 4 ≤ length bytes
+  pub least : 4 ≤ length_field bytes
+  pub most : length_field bytes ≤ length bytes
+
+-- what a view stands over
+abbrev pub storage_of : {T : Type 0} → NlaBuffer T → T
+storage_of view = view.buffer
+
+-- the bytes that a view over a slice shows
+abbrev pub shown : NlaBuffer (Bor (List ℕ)) → List ℕ
+shown view = view.buffer.now

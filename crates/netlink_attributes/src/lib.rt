@@ -1,0 +1,15 @@
+//! Netlink attributes: looked at in place, written, and walked one after another.
+#![tactic(auto)]
+
+mod align;
+mod buffer;
+mod constants;
+mod iterator;
+pub mod laws;
+
+pub use crate::align::nla_align;
+pub use crate::buffer::NlaBuffer;
+pub use crate::constants::{
+    NLA_ALIGNTO, NLA_F_NESTED, NLA_F_NET_BYTEORDER, NLA_HEADER_SIZE, NLA_TYPE_MASK,
+};
+pub use crate::iterator::NlasIterator;
