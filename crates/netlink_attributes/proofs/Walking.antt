@@ -78,11 +78,11 @@ has_walk bytes each = fueled_walk (length bytes) bytes (omega arith) each
 
 walk_of_steps : (s : NlasIterator (Bor (List ℕ))) (items : List Item) → Drains steps s items → (all : List Attribute) × (fault : Option DecodeError) × Walk (unread s) all fault × AreItems items all fault
 walk_of_steps s [] (u, (t, same, (done, left))) = ([], None, ap unread same ∙ done, tt)
-walk_of_steps s (Ok view ∷ items) (u, (t, (j, (shows, starts), more), last)) =
+walk_of_steps s (Ok view ∷ items) (u, (t, (j, (shows, holds, starts), more), last)) =
     let later = walk_of_steps j items (u, (t, more, last)) in
     (attribute_of (unread s) ∷ later.0, later.1, (unread j, starts, later.2), (ap attribute_of shows, later.3))
 walk_of_steps s (Err fault ∷ []) (u, (t, (j, (some, is, none), more), last)) = ([], Some fault, (some, is), (refl, refl))
-walk_of_steps s (Err fault ∷ (Ok view ∷ items)) (u, (t, (j, (some, is, none), (k, (shows, starts), more)), last)) = absurd (nothing_starts _ _ _ none starts)
+walk_of_steps s (Err fault ∷ (Ok view ∷ items)) (u, (t, (j, (some, is, none), (k, (shows, holds, starts), more)), last)) = absurd (nothing_starts _ _ _ none starts)
 walk_of_steps s (Err fault ∷ (Err other ∷ items)) (u, (t, (j, (some, is, none), (k, (again, other_is, end), more)), last)) = absurd (again none)
 
 some_bytes : (bytes : List ℕ) → bytes ≢ [] → 0 < length bytes
@@ -121,5 +121,5 @@ gives_walk s each =
 -- where nothing is unread, `next` gives `None`, and nothing is unread
 pub nothing_given : (item : Option Item) (rest : List ℕ) → Gives [] item rest → (item ≡ None) × (rest ≡ [])
 nothing_given None rest (none, end) = (refl, end)
-nothing_given (Some (Ok view)) rest (shows, starts) = absurd (nothing_starts _ _ _ refl starts)
+nothing_given (Some (Ok view)) rest (shows, holds, starts) = absurd (nothing_starts _ _ _ refl starts)
 nothing_given (Some (Err fault)) rest (some, is, end) = absurd (some refl)

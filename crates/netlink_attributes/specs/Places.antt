@@ -17,9 +17,13 @@ ends_from at (a ∷ more) = (at, at + (4 + length a.value)) ∷ ends_from (at + 
 abbrev pub ends_of : List Attribute → List (ℕ × ℕ)
 ends_of all = ends_from 0 all
 
+-- the place of the value in the place of its attribute
+abbrev pub value_part : ℕ × ℕ → ℕ × ℕ
+value_part place = (place.0 + 4, place.1)
+
 -- where the value of the attribute with this index starts and ends, if there is such an attribute
 abbrev pub value_place : List Attribute → ℕ → Option (ℕ × ℕ)
-value_place all index = option_map (λ p. (p.0 + 4, p.1)) (slice_get (ends_of all) index)
+value_place all index = option_map value_part (slice_get (ends_of all) index)
 
 -- that place, in the walk of these bytes
 abbrev pub IsPlace : List ℕ → ℕ → Option (ℕ × ℕ) → Type 0

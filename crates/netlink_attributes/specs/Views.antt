@@ -1,5 +1,5 @@
 -- The fields of an attribute's bytes, and what a view shows.
-use Rattle.std.specs.Prelude.{ℕ, ◌≤◌, List, length, slice_range}
+use Rattle.std.specs.Prelude.{ℕ, ◌≤◌, ◌%◌, ◌^◌, Bool, nat_le, List, length, slice_range}
 use denote.Ref.{Bor}
 use Rattle.netlink_bytes.specs.Numbers.{number_le}
 use Rattle.netlink_attributes.specs.Attribute.{Attribute}
@@ -12,6 +12,18 @@ length_field bytes = number_le (slice_range bytes 0 2)
 -- the kind, its two flag bits among it
 abbrev pub raw_kind : List ℕ → ℕ
 raw_kind bytes = number_le (slice_range bytes 2 4)
+
+-- the kind without its two flag bits
+abbrev pub masked : ℕ → ℕ
+masked kind = kind % 2 ^ 14
+
+-- the highest bit: the value holds attributes
+abbrev pub is_nested : ℕ → Bool
+is_nested kind = nat_le (2 ^ 15) kind
+
+-- the next bit: the value is in network byte order
+abbrev pub is_network_byteorder : ℕ → Bool
+is_network_byteorder kind = nat_le (2 ^ 14) (kind % 2 ^ 15)
 
 -- the attribute that the bytes begin with, where they hold a whole one
 abbrev pub attribute_of : List ℕ → Attribute

@@ -4,7 +4,7 @@ use denote.Ref.{Bor}
 use Rattle.netlink_bytes.specs.declared.error.DecodeError.{DecodeError}
 use Rattle.netlink_bytes.specs.declared.error.DecodeError.TheVariants.{NlaBufferTooSmall, NlaLengthMismatch, NlaInvalidLength}
 use Rattle.netlink_attributes.specs.Attribute.{Attribute, FitsAttribute, attribute_text, padding}
-use Rattle.netlink_attributes.specs.Views.{length_field, attribute_of, shown}
+use Rattle.netlink_attributes.specs.Views.{length_field, attribute_of, shown, HoldsAttribute}
 use Rattle.netlink_attributes.specs.declared.buffer.NlaBuffer.{NlaBuffer}
 
 -- why bytes do not begin with an attribute, with the numbers; no two of these are of the same bytes
@@ -32,11 +32,11 @@ Walk bytes (a ∷ more) fault = (rest : List ℕ) × Starts bytes a rest × Walk
 abbrev pub Item : Type 0
 Item = Result (NlaBuffer (Bor (List ℕ))) DecodeError
 
--- one step of a walk at these bytes, and what is then still to be walked
+-- one step of a walk at these bytes, and what is then still to be walked; a view may be asked for its value
 abbrev pub Gives : List ℕ → Option Item → List ℕ → Type 0
 Gives bytes None rest = (bytes ≡ []) × (rest ≡ [])
 Gives bytes (Some (Err fault)) rest = (bytes ≢ []) × IsFault bytes fault × (rest ≡ [])
-Gives bytes (Some (Ok view)) rest = (shown view ≡ bytes) × Starts bytes (attribute_of bytes) rest
+Gives bytes (Some (Ok view)) rest = (shown view ≡ bytes) × HoldsAttribute (shown view) × Starts bytes (attribute_of bytes) rest
 
 -- the items are views that begin with these attributes, and then the fault, if there is one
 abbrev pub AreItems : List Item → List Attribute → Option DecodeError → Type 0

@@ -1,10 +1,10 @@
 //! A view of an attribute's bytes.
 
-ghost use Rattle.std.specs.Prelude.{◌≡◌, ◌≤◌, length, slice_range, IfErr, IfOk, OnOk};
-ghost use Rattle.netlink_attributes.specs.Views.{length_field, raw_kind, storage_of, shown, HoldsAttribute};
+ghost use Rattle.std.specs.Prelude.{◌≡◌, ◌+◌, ◌≤◌, length, IfErr, IfOk, OnOk};
+ghost use Rattle.netlink_attributes.specs.Views.{length_field, raw_kind, masked, is_nested, is_network_byteorder, attribute_of, storage_of, shown, HoldsAttribute};
 ghost use Rattle.netlink_attributes.specs.Walk.{IsFault};
 
-use crate::constants::NLA_HEADER_SIZE;
+use crate::constants::{NLA_F_NESTED, NLA_F_NET_BYTEORDER, NLA_HEADER_SIZE, NLA_TYPE_MASK};
 use netlink_bytes::{DecodeError, Storage};
 
 /// The bytes of an attribute (`struct nlattr` of linux/netlink.h), looked at in place. No call asks for memory.
@@ -22,7 +22,38 @@ impl<T: Storage> NlaBuffer<T> {
         NlaBuffer { buffer }
     }
 
-    /// The length field: the size of header and value in bytes, without padding.
+    /// A view of bytes that hold a whole attribute. Others are refused as by `check_buffer_length`;
+    /// the storage is then given up.
+    #[inline]
+    pub fn new_checked(buffer: T) -> Result<Self, DecodeError>
+        ensures keeps { IfOk result (λ view. storage_of view ≡ buffer) }
+        ensures whole { OnOk result (HoldsAttribute (T.held buffer)) }
+        ensures refuses { IfErr result (IsFault (T.held buffer)) }
+    {
+        checked_length(buffer.bytes())?;
+        Ok(NlaBuffer { buffer })
+    }
+
+    /// Whether the bytes hold a whole attribute, its padding aside. Fewer than 4 bytes are refused with
+    /// C5, a length field above their number with C6, and one below 4 with C7.
+    #[inline]
+    pub fn check_buffer_length(&self) -> Result<(), DecodeError>
+        ensures whole { OnOk result (HoldsAttribute (T.held (storage_of self.now))) }
+        ensures refuses { IfErr result (IsFault (T.held (storage_of self.now))) }
+    {
+        checked_length(self.buffer.bytes())?;
+        Ok(())
+    }
+
+    /// The storage that the view stands over.
+    #[inline]
+    pub fn into_inner(self) -> T
+        ensures keeps { result ≡ storage_of self }
+    {
+        self.buffer
+    }
+
+    /// The length field (`nla_len`): the size of header and value in bytes, without padding.
     #[inline]
     pub fn length(&self) -> u16
         requires field { 2 ≤ length (T.held (storage_of self.now)) }
@@ -30,6 +61,80 @@ impl<T: Storage> NlaBuffer<T> {
     {
         length_at(self.buffer.bytes())
     }
+
+    /// The kind with its two flag bits, as it stands in the field (`nla_type`).
+    #[inline]
+    pub fn raw_kind(&self) -> u16
+        requires field { 4 ≤ length (T.held (storage_of self.now)) }
+        ensures number { result ≡ raw_kind (T.held (storage_of self.now)) }
+    {
+        kind_at(self.buffer.bytes())
+    }
+
+    /// The kind without its two flag bits.
+    #[inline]
+    pub fn kind(&self) -> u16
+        requires field { 4 ≤ length (T.held (storage_of self.now)) }
+        ensures number { result ≡ masked (raw_kind (T.held (storage_of self.now))) }
+    {
+        self.raw_kind() & NLA_TYPE_MASK
+    }
+
+    /// Whether the bit `NLA_F_NESTED` of the kind is set.
+    #[inline]
+    pub fn nested_flag(&self) -> bool
+        requires field { 4 ≤ length (T.held (storage_of self.now)) }
+        ensures flag { result ≡ is_nested (raw_kind (T.held (storage_of self.now))) }
+    {
+        is_nested_kind(self.raw_kind())
+    }
+
+    /// Whether the bit `NLA_F_NET_BYTEORDER` of the kind is set.
+    #[inline]
+    pub fn network_byte_order_flag(&self) -> bool
+        requires field { 4 ≤ length (T.held (storage_of self.now)) }
+        ensures flag { result ≡ is_network_byteorder (raw_kind (T.held (storage_of self.now))) }
+    {
+        is_network_kind(self.raw_kind())
+    }
+
+    /// The size of the value in bytes: the length field less the header's size.
+    #[inline]
+    pub fn value_length(&self) -> usize
+        requires field { 2 ≤ length (T.held (storage_of self.now)) }
+        requires least { 4 ≤ length_field (T.held (storage_of self.now)) }
+        ensures number { result + 4 ≡ length_field (T.held (storage_of self.now)) }
+    {
+        self.length() as usize - NLA_HEADER_SIZE
+    }
+}
+
+impl<'a> NlaBuffer<&'a [u8]> {
+    /// The value: the bytes from 4 up to the length. What follows is not looked at.
+    #[inline]
+    pub fn value(&self) -> &'a [u8]
+        requires whole { HoldsAttribute (shown self.now) }
+        ensures bytes { result.now ≡ (attribute_of (shown self.now)).value }
+    {
+        let end = self.length() as usize;
+        &self.buffer[NLA_HEADER_SIZE..end]
+    }
+}
+
+/// Whether a kind has the bit of nested attributes.
+#[inline(always)]
+pub(crate) fn is_nested_kind(kind: u16) -> bool
+    ensures { result ≡ is_nested kind }
+{
+    kind & NLA_F_NESTED != 0
+}
+
+/// Whether a kind has the bit of network byte order.
+#[inline(always)]
+pub(crate) fn is_network_kind(kind: u16) -> bool
+    ensures { result ≡ is_network_byteorder kind }
+{
+    kind & !NLA_F_NESTED >= NLA_F_NET_BYTEORDER
 }
 
 /// The length field of an attribute's bytes.
@@ -40,6 +145,16 @@ fn length_at(bytes: &[u8]) -> u16
     ensures { result ≡ length_field bytes.now }
 {
     u16::from_le_bytes([bytes[0], bytes[1]])
+}
+
+/// The kind field of an attribute's bytes.
+#[tactic(auto, using(crate::proofs::Fields::by_item))]
+#[inline(always)]
+fn kind_at(bytes: &[u8]) -> u16
+    requires { 4 ≤ length bytes.now }
+    ensures { result ≡ raw_kind bytes.now }
+{
+    u16::from_le_bytes([bytes[2], bytes[3]])
 }
 
 /// The length field of bytes that hold a whole attribute, or their fault.

@@ -1,8 +1,8 @@
 //! The attributes of a block, one after another.
 
-ghost use Rattle.std.specs.Prelude.{◌≡◌, ◌+◌, ◌≤◌, length, IfErr, IfOk};
+ghost use Rattle.std.specs.Prelude.{◌≡◌, ◌+◌, ◌≤◌, length, IfErr, IfOk, OnOk};
 ghost use Rattle.std.specs.Iterator.{at_most};
-ghost use Rattle.netlink_attributes.specs.Views.{attribute_of};
+ghost use Rattle.netlink_attributes.specs.Views.{attribute_of, HoldsAttribute};
 ghost use Rattle.netlink_attributes.specs.Walk.{Starts, IsFault};
 ghost use Rattle.netlink_attributes.specs.Steps.{unread, steps, item_bound, GivesWalk};
 
@@ -60,6 +60,7 @@ impl<'a> Iterator for NlasIterator<&'a [u8]> {
 #[inline(always)]
 fn behind_first(bytes: &[u8]) -> Result<&[u8], DecodeError>
     ensures starts { IfOk result (λ rest. Starts bytes.now (attribute_of bytes.now) rest.now) }
+    ensures whole { OnOk result (HoldsAttribute bytes.now) }
     ensures shorter { IfOk result (λ rest. length rest.now + 4 ≤ length bytes.now) }
     ensures refuses { IfErr result (IsFault bytes.now) }
 {

@@ -2,14 +2,18 @@
 #![tactic(auto)]
 
 mod align;
+mod block;
 mod buffer;
 mod constants;
 mod iterator;
 pub mod laws;
+mod place;
 
 pub use crate::align::nla_align;
+pub use crate::block::{append_nla, normalize_nlas};
 pub use crate::buffer::NlaBuffer;
 pub use crate::constants::{
     NLA_ALIGNTO, NLA_F_NESTED, NLA_F_NET_BYTEORDER, NLA_HEADER_SIZE, NLA_TYPE_MASK,
 };
 pub use crate::iterator::NlasIterator;
+pub use crate::place::nla_place;
