@@ -1,4 +1,11 @@
 pub mod Causes
+pub mod ContextLaws
+pub mod Contexts
+pub mod Laws
 pub mod NonZero
 pub mod NumberLaws
 pub mod Numbers
+pub mod Storage
+pub mod StorageLaws
+pub mod Text
+pub mod Traits

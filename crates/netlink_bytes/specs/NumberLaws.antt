@@ -1,11 +1,14 @@
 -- Laws of numbers and their bytes, for callers to cite.
-use Rattle.std.specs.Prelude.{◌≡◌, ◌<◌, ℕ, zero, suc, ◌+◌, ◌*◌, ◌/◌, ◌%◌, ◌^◌, List, [], ◌∷◌, length, ℤ, pos, negsuc, refl}
-use Rattle.std.proofs.Common.{arith}
-use Rattle.std.proofs.Math.Nat.{pow-suc}
-use Rattle.std.proofs.lemmas.Nat.{div_below}
-use Rattle.std.proofs.Math.Nat.{pow-succ'}
+use Rattle.std.specs.Prelude.{◌≡◌, ◌<◌, ℕ, zero, suc, ◌+◌, ◌*◌, ◌/◌, ◌%◌, ◌^◌, List, [], ◌∷◌, ◌++◌, length, reverse, take, ℤ, pos, negsuc, refl}
+use Rattle.std.proofs.Common.{ap, arith, sym, ◌∙◌}
+use Rattle.std.proofs.Math.Arith.{mod-mul}
+use Rattle.std.proofs.Math.Nat.{pow-suc, pow-succ'}
+use Rattle.std.proofs.Math.Seq.{take-append_seam}
+use Rattle.std.proofs.lemmas.Grind.{reverse_onto}
 use Rattle.std.proofs.lemmas.Int.{ints}
-use Rattle.netlink_bytes.specs.Numbers.{IsBytes, IsSigned, number_le, text_le, signed, unsigned}
+use Rattle.std.proofs.lemmas.List.{length-reverse, reverse-reverse}
+use Rattle.std.proofs.lemmas.Nat.{div_below}
+use Rattle.netlink_bytes.specs.Numbers.{IsBytes, IsSigned, number_le, number_be, text_le, text_be, signed, unsigned}
 
 -- the text of w bytes has w bytes
 pub length-text_le : (n w : ℕ) → length (text_le n w) ≡ w
@@ -67,3 +70,76 @@ unsigned-signed w n fits = grind (arith, ints)
 pub signed-fits : (w n : ℕ) → n < 256 ^ suc w → IsSigned (suc w) (signed (suc w) n)
 unfolding signed
 signed-fits w n fits = grind (arith, ints)
+
+-- ---- any number, and the highest byte first
+
+pub length-text_be : (n w : ℕ) → length (text_be n w) ≡ w
+unfolding text_be
+length-text_be n w = length-reverse (text_le n w) ∙ length-text_le n w
+
+-- how long a text is
+pub ruleset text_sizes = (length-text_le, length-text_be)
+
+pow-positive : (w : ℕ) → 0 < 256 ^ w
+pow-positive zero = omega arith
+pow-positive (suc w) = let less : 0 < 256 ^ w = pow-positive w in rw (pow-suc 256 w) (omega arith)
+
+-- a text of w bytes is that of the remainder by 256 to the power w
+pub number_le-text_le_mod : (n w : ℕ) → number_le (text_le n w) ≡ n % 256 ^ w
+unfolding number_le text_le
+number_le-text_le_mod n zero = omega arith
+number_le-text_le_mod n (suc w) =
+    let rest = number_le-text_le_mod (n / 256) w in
+    let power : 256 ^ suc w ≡ 256 ^ w * 256 = pow-suc 256 w in
+    let digits : n % (256 ^ w * 256) ≡ (n / 256 % 256 ^ w) * 256 + n % 256 = mod-mul n (pow-positive w) (omega arith) in
+    rw (rest, power, digits) (omega arith)
+
+pub number_be-text_be_mod : (n w : ℕ) → number_be (text_be n w) ≡ n % 256 ^ w
+unfolding number_be text_be
+number_be-text_be_mod n w = ap number_le (reverse-reverse (text_le n w)) ∙ number_le-text_le_mod n w
+
+pub number_be-text_be : (n w : ℕ) → n < 256 ^ w → number_be (text_be n w) ≡ n
+unfolding number_be text_be
+number_be-text_be n w fits = ap number_le (reverse-reverse (text_le n w)) ∙ number_le-text_le n w fits
+
+-- the items of a text are bytes
+pub IsBytes-text_le : (n w : ℕ) → IsBytes (text_le n w)
+unfolding text_le
+IsBytes-text_le n zero i = omega arith
+IsBytes-text_le n (suc w) zero = omega arith
+IsBytes-text_le n (suc w) (suc i) = IsBytes-text_le (n / 256) w i
+
+pub IsBytes-append : (xs ys : List ℕ) → IsBytes xs → IsBytes ys → IsBytes (xs ++ ys)
+IsBytes-append [] ys first later i = later i
+IsBytes-append (x ∷ xs) ys first later zero = first zero
+IsBytes-append (x ∷ xs) ys first later (suc i) = IsBytes-append xs ys (IsBytes-tail x xs first) later i
+
+IsBytes_alone : (b : ℕ) → b < 256 → IsBytes (b ∷ [])
+IsBytes_alone b small zero = small
+IsBytes_alone b small (suc i) = omega arith
+
+pub IsBytes-reverse : (bytes : List ℕ) → IsBytes bytes → IsBytes (reverse bytes)
+IsBytes-reverse [] each = each
+IsBytes-reverse (b ∷ bytes) each =
+    rw (reverse_onto bytes b []) (IsBytes-append (reverse bytes) (b ∷ []) (IsBytes-reverse bytes (IsBytes-tail b bytes each)) (IsBytes_alone b (each 0)))
+
+pub IsBytes-text_be : (n w : ℕ) → IsBytes (text_be n w)
+unfolding text_be
+IsBytes-text_be n w = IsBytes-reverse (text_le n w) (IsBytes-text_le n w)
+
+pub number_be-fits : (bytes : List ℕ) → IsBytes bytes → number_be bytes < 256 ^ length bytes
+unfolding number_be
+number_be-fits bytes each = rw (length-reverse bytes) at (number_le-fits (reverse bytes) (IsBytes-reverse bytes each))
+
+pub text_be-number_be : (bytes : List ℕ) → IsBytes bytes → text_be (number_be bytes) (length bytes) ≡ bytes
+unfolding number_be text_be
+text_be-number_be bytes each =
+    let backward : text_le (number_le (reverse bytes)) (length bytes) ≡ reverse bytes = ap (text_le (number_le (reverse bytes))) (sym (length-reverse bytes)) ∙ text_le-number_le (reverse bytes) (IsBytes-reverse bytes each) in
+    ap reverse backward ∙ reverse-reverse bytes
+
+-- a text in front is read again, whatever follows
+pub take-text_le : (n w : ℕ) (rest : List ℕ) → take w (text_le n w ++ rest) ≡ text_le n w
+take-text_le n w rest = ap (λ (k : ℕ). take k (text_le n w ++ rest)) (sym (length-text_le n w)) ∙ take-append_seam (text_le n w) rest
+
+pub take-text_be : (n w : ℕ) (rest : List ℕ) → take w (text_be n w ++ rest) ≡ text_be n w
+take-text_be n w rest = ap (λ (k : ℕ). take k (text_be n w ++ rest)) (sym (length-text_be n w)) ∙ take-append_seam (text_be n w) rest

@@ -1,8 +1,8 @@
-use crate::DecodeError;
-use std::test::Fail;
+//! Rows of the tables, with ample memory.
 
-#[test]
-fn nothing(rt: HostRuntime) -> Result<(), Fail> {
-    assert_eq!(rt; DecodeError::too_long().number(), 15);
-    Ok(())
-}
+mod causes;
+mod contexts;
+mod numbers;
+mod readers;
+mod storage;
+mod traits;

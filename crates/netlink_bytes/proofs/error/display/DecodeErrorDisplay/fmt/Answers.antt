@@ -2,7 +2,7 @@
 use Rattle.std.proofs.Common.{subst, sym}
 use Rattle.std.specs.Fmt.{HasWritten}
 use Rattle.netlink_bytes.specs.Causes.{cause_text}
-use Rattle.netlink_bytes.proofs.error.DecodeErrorDisplay.fmt.Goals as goal
+use Rattle.netlink_bytes.proofs.error.display.DecodeErrorDisplay.fmt.Goals as goal
 
 pub returns-in-NlaBufferTooSmall-clause-writes : goal.returns-in-NlaBufferTooSmall-clause-writes
 returns-in-NlaBufferTooSmall-clause-writes g c = λ plain ok.

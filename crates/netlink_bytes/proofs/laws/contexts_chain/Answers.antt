@@ -1,0 +1,5 @@
+use Rattle.netlink_bytes.specs.ContextLaws.{lines_chain}
+use Rattle.netlink_bytes.proofs.laws.contexts_chain.Goals as goal
+
+pub returns : goal.returns
+returns c = record { chain = lines_chain }

@@ -1,0 +1,53 @@
+-- What holds of numbers and their bytes at every width, and of two contexts.
+use Rattle.std.specs.Prelude.{◌≡◌, ◌<◌, ◌+◌, ◌*◌, ◌%◌, ◌^◌, ℕ, ℤ, suc, List, [], ◌∷◌, ◌++◌, length, reverse, take}
+use Rattle.netlink_bytes.specs.Numbers.{IsBytes, IsSigned, number_le, number_be, text_le, text_be, signed, unsigned}
+
+-- byte 0 times 256 to the power i, byte 1 times 256 to the power i + 1, and so on, added up
+abbrev pub weighed : ℕ → List ℕ → ℕ
+weighed i [] = 0
+weighed i (b ∷ bytes) = b * 256 ^ i + weighed (suc i) bytes
+
+-- the number of bytes is the sum of each by its place
+abbrev pub NumberIsSum : Type 0
+NumberIsSum =
+    (bytes : List ℕ) → (number_le bytes ≡ weighed 0 bytes) × (number_be bytes ≡ weighed 0 (reverse bytes))
+
+-- a text of w bytes is a list of w bytes
+abbrev pub TextIsBytes : Type 0
+TextIsBytes =
+    (n w : ℕ) → (length (text_le n w) ≡ w) × (length (text_be n w) ≡ w) × IsBytes (text_le n w) × IsBytes (text_be n w)
+
+-- the number of a text of w bytes is the remainder by 256 to the power w
+abbrev pub TextReadsBack : Type 0
+TextReadsBack =
+    (n w : ℕ) → (number_le (text_le n w) ≡ n % 256 ^ w) × (number_be (text_be n w) ≡ n % 256 ^ w)
+
+-- bytes are the text of their number, which fits them
+abbrev pub BytesReadBack : Type 0
+BytesReadBack =
+    (bytes : List ℕ) (w : ℕ) → length bytes ≡ w → IsBytes bytes
+    → (text_le (number_le bytes) w ≡ bytes) × (text_be (number_be bytes) w ≡ bytes)
+    × (number_le bytes < 256 ^ w) × (number_be bytes < 256 ^ w)
+
+-- a signed number stands for one number of its width, which stands for it
+abbrev pub SignedReadsBack : Type 0
+SignedReadsBack =
+    (w : ℕ) (z : ℤ) → IsSigned (suc w) z
+    → (unsigned (suc w) z < 256 ^ suc w) × (signed (suc w) (unsigned (suc w) z) ≡ z)
+
+abbrev pub UnsignedReadsBack : Type 0
+UnsignedReadsBack =
+    (w n : ℕ) → n < 256 ^ suc w
+    → IsSigned (suc w) (signed (suc w) n) × (unsigned (suc w) (signed (suc w) n) ≡ n)
+
+-- what a writer put at the front of a buffer, a reader reads, whatever follows
+abbrev pub WrittenIsRead : Type 0
+WrittenIsRead =
+    (n w : ℕ) (rest : List ℕ) → n < 256 ^ w
+    → (number_le (take w (text_le n w ++ rest)) ≡ n) × (number_be (take w (text_be n w ++ rest)) ≡ n)
+
+abbrev pub WrittenSignedIsRead : Type 0
+WrittenSignedIsRead =
+    (w : ℕ) (z : ℤ) (rest : List ℕ) → IsSigned (suc w) z
+    → (signed (suc w) (number_le (take (suc w) (text_le (unsigned (suc w) z) (suc w) ++ rest))) ≡ z)
+    × (signed (suc w) (number_be (take (suc w) (text_be (unsigned (suc w) z) (suc w) ++ rest))) ≡ z)

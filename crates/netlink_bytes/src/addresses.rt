@@ -1,0 +1,74 @@
+//! Single bytes and addresses.
+#![tactic(auto, using(crate::proofs::Bytes::single_byte))]
+
+ghost use Rattle.std.specs.Prelude.{◌≡◌, ◌≢◌, length, Ok, Err};
+ghost use Rattle.netlink_bytes.specs.Numbers.{Reads, number_le, signed};
+ghost use Rattle.netlink_bytes.specs.declared.error.DecodeError.TheVariants.{InvalidIpAddress, InvalidMacAddress};
+
+use crate::error::DecodeError;
+use crate::numbers::exactly;
+
+/// An IP address by its bytes, in the order in which they are sent.
+#[derive(Clone, Copy, Debug, PartialEq, Eq)]
+pub enum IpAddr {
+    /// An address of version 4.
+    V4([u8; 4]),
+    /// An address of version 6.
+    V6([u8; 16]),
+}
+
+/// The single byte; any other size is refused with C4. Asks for no memory.
+pub fn parse_u8(payload: &[u8]) -> Result<u8, DecodeError>
+    ensures reads { Reads number_le 1 payload.now result }
+{
+    let [byte] = exactly::<1>(payload)?;
+    Ok(byte)
+}
+
+/// The single byte as a signed number, two's complement; any other size is refused with C4. Asks for no memory.
+pub fn parse_i8(payload: &[u8]) -> Result<i8, DecodeError>
+    ensures reads { Reads (λ bytes. signed 1 (number_le bytes)) 1 payload.now result }
+{
+    Ok(parse_u8(payload)?.cast_signed())
+}
+
+/// The 6 bytes of a MAC address; any other size is refused with C2. Asks for no memory.
+pub fn parse_mac(payload: &[u8]) -> Result<[u8; 6], DecodeError>
+    ensures ok { length payload.now ≡ 6 → result ≡ Ok payload.now }
+    ensures err { length payload.now ≢ 6 → result ≡ Err (InvalidMacAddress (length payload.now)) }
+{
+    match exactly(payload) {
+        Ok(address) => Ok(address),
+        Err(_) => Err(DecodeError::InvalidMacAddress {
+            received: payload.len(),
+        }),
+    }
+}
+
+/// The 16 bytes of an address of version 6; any other size is refused with C3. Asks for no memory.
+pub fn parse_ipv6(payload: &[u8]) -> Result<[u8; 16], DecodeError>
+    ensures ok { length payload.now ≡ 16 → result ≡ Ok payload.now }
+    ensures err { length payload.now ≢ 16 → result ≡ Err (InvalidIpAddress (length payload.now)) }
+{
+    match exactly(payload) {
+        Ok(address) => Ok(address),
+        Err(_) => Err(DecodeError::InvalidIpAddress {
+            received: payload.len(),
+        }),
+    }
+}
+
+/// An address of version 4 where there are 4 bytes, and of version 6 where there are 16;
+/// any other size is refused with C3. Asks for no memory.
+pub fn parse_ip(payload: &[u8]) -> Result<IpAddr, DecodeError>
+    ensures v4 { length payload.now ≡ 4 → result ≡ Ok (IpAddr.V4 payload.now) }
+    ensures v6 { length payload.now ≡ 16 → result ≡ Ok (IpAddr.V6 payload.now) }
+    ensures err { length payload.now ≢ 4 → length payload.now ≢ 16
+        → result ≡ Err (InvalidIpAddress (length payload.now)) }
+{
+    if payload.len() == 4 {
+        Ok(IpAddr::V4(exactly(payload)?))
+    } else {
+        Ok(IpAddr::V6(parse_ipv6(payload)?))
+    }
+}

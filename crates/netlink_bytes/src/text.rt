@@ -1,0 +1,50 @@
+//! Texts in bytes.
+
+ghost use Rattle.std.specs.Prelude.{◌≡◌, ◌++◌, ◌⊎◌, ℕ, List, [], codes, string_bytes, IsOk, IsErr, IfOk, IfErr, IsOkUnless};
+ghost use Rattle.std.specs.Str.{IsUtf8};
+ghost use Rattle.netlink_bytes.specs.Causes.{TextBegins};
+ghost use Rattle.netlink_bytes.specs.Text.{without_last_zero};
+ghost use Rattle.netlink_bytes.specs.declared.error.DecodeError.TheVariants.{OutOfMemory};
+
+use crate::error::DecodeError;
+use std::alloc::{AllocError, Global};
+use std::str::Utf8Error;
+
+/// The text of the bytes without one zero byte at their end.
+///
+/// What is then not UTF-8 is refused with C14, whose text begins `Invalid UTF-8 sequence: `; C16 where
+/// there is no memory for either text. No bytes and a lone zero byte are the empty text and ask for no memory.
+pub fn parse_string(alloc: Global, payload: &[u8]) -> Result<String, DecodeError>
+    ensures text { IfOk result (λ text. string_bytes text ≡ without_last_zero payload.now) }
+    ensures utf8 { IsUtf8 (without_last_zero payload.now) → IsOkUnless result OutOfMemory }
+    ensures not_utf8 { (IsUtf8 (without_last_zero payload.now) → ⊥) → IsErr result }
+    ensures refused { IfErr result (TextBegins (codes "Invalid UTF-8 sequence: ")) }
+    ensures empty { without_last_zero payload.now ≡ [] → IsOk result }
+{
+    let bytes = cut_last_zero(payload);
+    if bytes.is_empty() {
+        return Ok(String::new(alloc));
+    }
+    match std::str::from_utf8(bytes) {
+        Ok(text) => Ok(String::from_str(alloc, text)?),
+        Err(error) => Err(DecodeError::Message(not_utf8(alloc, error)?)),
+    }
+}
+
+/// The bytes without their last one, where that is a zero.
+fn cut_last_zero(bytes: &[u8]) -> &[u8]
+    ensures { result.now ≡ without_last_zero bytes.now }
+{
+    match bytes {
+        [front @ .., 0] => front,
+        whole => whole,
+    }
+}
+
+/// The text of an error of UTF-8, behind its fixed beginning.
+fn not_utf8(alloc: Global, error: Utf8Error) -> Result<String, AllocError>
+    ensures { IfOk result (λ text. (rest : List ℕ) × (string_bytes text ≡ codes "Invalid UTF-8 sequence: " ++ rest)) }
+{
+    let fault = error.to_string(alloc)?;
+    format!(in alloc; "Invalid UTF-8 sequence: {fault}")
+}

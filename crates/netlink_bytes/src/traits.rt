@@ -1,0 +1,78 @@
+//! What is written as bytes and what is read from them.
+
+ghost use Rattle.std.specs.Prelude.{◌≡◌, ◌≢◌, ◌<◌, ◌⊎◌, ◌++◌, ◌^◌, Bool, List, ℕ, length, drop, IfOk, IfErr, IsOkUnless};
+ghost use Rattle.netlink_bytes.specs.Traits.{HasRoom};
+ghost use Rattle.netlink_bytes.specs.declared.error.DecodeError.{DecodeError as Cause};
+ghost use Rattle.netlink_bytes.specs.declared.error.DecodeError.TheVariants.{OutOfMemory};
+
+use crate::error::DecodeError;
+use std::alloc::Global;
+
+/// A value that is written as bytes.
+pub trait Emitable {
+    /// The bytes that stand for a value.
+    ghost text: { Self → List ℕ };
+
+    /// The value can be written.
+    ghost can_emit: { Self → Type 0 };
+
+    /// A buffer longer than the text is taken; otherwise it has to be of the text's size.
+    ghost takes_longer: { Bool };
+
+    /// The size of the text in bytes. Asks for no memory.
+    fn buffer_len(&self) -> usize
+        requires in_size { length (text self.now) < 2 ^ 64 }
+        ensures size { result ≡ length (text self.now) };
+
+    /// Writes the text at the start of the buffer and leaves the rest. Asks for no memory.
+    fn emit(&self, buffer: &mut [u8])
+        requires can { can_emit self.now }
+        requires room { HasRoom takes_longer (length (text self.now)) (length buffer.old) }
+        ensures written { buffer.new ≡ text self.now ++ drop (length (text self.now)) buffer.old };
+}
+
+/// A value that is read from a `T`.
+pub trait Parseable<T> {
+    /// It can be called.
+    ghost can_parse: { T → Type 0 };
+
+    /// The value is what is read, a partial reading.
+    ghost reads: { T → Self → Type 0 };
+
+    /// The cause is why nothing is read, want of memory aside.
+    ghost refusal: { T → Cause → Type 0 };
+
+    /// It is read, or refused, without memory.
+    ghost needs_no_memory: { T → Type 0 };
+
+    /// The value that is read; its refusal where there is none; C16 only where memory may be asked for.
+    fn parse(alloc: Global, buf: &T) -> Result<Self, DecodeError>
+        requires can { can_parse buf.now }
+        ensures accepts { IfOk result (reads buf.now) }
+        ensures complete { (value : Self) → reads buf.now value → IsOkUnless result OutOfMemory }
+        ensures refuses { IfErr result (λ e. (e ≡ OutOfMemory) ⊎ refusal buf.now e) }
+        ensures no_memory { needs_no_memory buf.now → IfErr result (λ e. e ≢ OutOfMemory) };
+}
+
+/// A value that is read from a `T` by a parameter.
+pub trait ParseableParametrized<T, P> {
+    /// It can be called.
+    ghost can_parse: { T → P → Type 0 };
+
+    /// The value is what is read, a partial reading.
+    ghost reads: { T → P → Self → Type 0 };
+
+    /// The cause is why nothing is read, want of memory aside.
+    ghost refusal: { T → P → Cause → Type 0 };
+
+    /// It is read, or refused, without memory.
+    ghost needs_no_memory: { T → P → Type 0 };
+
+    /// The value that is read; its refusal where there is none; C16 only where memory may be asked for.
+    fn parse_with_param(alloc: Global, buf: &T, params: P) -> Result<Self, DecodeError>
+        requires can { can_parse buf.now params }
+        ensures accepts { IfOk result (reads buf.now params) }
+        ensures complete { (value : Self) → reads buf.now params value → IsOkUnless result OutOfMemory }
+        ensures refuses { IfErr result (λ e. (e ≡ OutOfMemory) ⊎ refusal buf.now params e) }
+        ensures no_memory { needs_no_memory buf.now params → IfErr result (λ e. e ≢ OutOfMemory) };
+}
