@@ -5,3 +5,4 @@ pub mod Normalizing
 pub mod Placing
 pub mod Starting
 pub mod Walking
+pub mod Writing

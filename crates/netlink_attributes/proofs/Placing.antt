@@ -41,6 +41,14 @@ place_step whole rest next a (b ∷ later) fault left inside starts (then, begin
       second _ _ left some ∙ ap (λ xs. slice_get xs (left - 1)) (same_places _ _ then later fault walk (after_one whole rest then b inside begin) ∙ ap (λ (r : List ℕ). ends_from (whole - length r) later) rests),
     )
 
+-- and so is a place that is known to be that one
+pub place_next : (whole : ℕ) (rest next : List ℕ) (a : Attribute) (more : List Attribute) (fault : Option DecodeError) (left : ℕ) (sought : Option (ℕ × ℕ)) → length rest ≤ whole → Starts rest a next → Walk rest more fault → 0 < left
+    → sought ≡ slice_get (ends_from (whole - length rest) more) left
+    → (later : List Attribute) × Walk next later fault × (sought ≡ slice_get (ends_from (whole - length next) later) (left - 1))
+place_next whole rest next a more fault left sought inside starts walk some is =
+    let step = place_step whole rest next a more fault left inside starts walk some in
+    (step.0, step.1, is ∙ step.2)
+
 -- the attribute at the front is the one that is sought
 pub place_here : (at : ℕ) (rest next : List ℕ) (a : Attribute) (more : List Attribute) (fault : Option DecodeError) (left : ℕ) → Starts rest a next → Walk rest more fault → left ≡ 0 → slice_get (ends_from at more) left ≡ Some (at, at + length_field rest)
 place_here at rest next a [] None left starts walk first = absurd (nothing_starts rest a next walk starts)

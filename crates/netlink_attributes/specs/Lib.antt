@@ -1,5 +1,6 @@
 pub mod Attribute
 pub mod Block
+pub mod Nla
 pub mod Places
 pub mod Steps
 pub mod Views

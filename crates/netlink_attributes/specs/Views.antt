@@ -1,7 +1,8 @@
 -- The fields of an attribute's bytes, and what a view shows.
-use Rattle.std.specs.Prelude.{ℕ, ◌≤◌, ◌%◌, ◌^◌, Bool, nat_le, List, length, slice_range}
+use Rattle.std.specs.Prelude.{ℕ, ◌+◌, ◌≤◌, ◌%◌, ◌^◌, Bool, nat_le, List, length, slice_range}
 use denote.Ref.{Bor}
-use Rattle.netlink_bytes.specs.Numbers.{number_le}
+use Rattle.netlink_bytes.specs.Numbers.{number_le, text_le}
+use Rattle.netlink_bytes.specs.Storage.{put_at}
 use Rattle.netlink_attributes.specs.Attribute.{Attribute}
 use Rattle.netlink_attributes.specs.declared.buffer.NlaBuffer.{NlaBuffer}
 
@@ -13,9 +14,23 @@ length_field bytes = number_le (slice_range bytes 0 2)
 abbrev pub raw_kind : List ℕ → ℕ
 raw_kind bytes = number_le (slice_range bytes 2 4)
 
+-- the bytes with another length field, and with another kind field
+abbrev pub with_length : List ℕ → ℕ → List ℕ
+with_length bytes field = put_at bytes 0 (text_le field 2)
+
+abbrev pub with_kind : List ℕ → ℕ → List ℕ
+with_kind bytes field = put_at bytes 2 (text_le field 2)
+
 -- the kind without its two flag bits
 abbrev pub masked : ℕ → ℕ
 masked kind = kind % 2 ^ 14
+
+-- with one of these alone
+abbrev pub nested : ℕ → ℕ
+nested kind = masked kind + 2 ^ 15
+
+abbrev pub network_byteorder : ℕ → ℕ
+network_byteorder kind = masked kind + 2 ^ 14
 
 -- the highest bit: the value holds attributes
 abbrev pub is_nested : ℕ → Bool
@@ -38,6 +53,10 @@ pub record HoldsAttribute (bytes : List ℕ) : Type 0 where
 -- what a view stands over
 abbrev pub storage_of : {T : Type 0} → NlaBuffer T → T
 storage_of view = view.buffer
+
+-- the view over it
+abbrev pub view_over : {T : Type 0} → T → NlaBuffer T
+view_over storage = record { buffer = storage }
 
 -- the bytes that a view over a slice shows
 abbrev pub shown : NlaBuffer (Bor (List ℕ)) → List ℕ

@@ -1,11 +1,16 @@
 //! A view of an attribute's bytes.
 
-ghost use Rattle.std.specs.Prelude.{◌≡◌, ◌+◌, ◌≤◌, length, IfErr, IfOk, OnOk};
-ghost use Rattle.netlink_attributes.specs.Views.{length_field, raw_kind, masked, is_nested, is_network_byteorder, attribute_of, storage_of, shown, HoldsAttribute};
+ghost use Rattle.std.specs.Prelude.{◌≡◌, ◌+◌, ◌≤◌, length, IfErr, IfOk, OnOk, ⊤};
+ghost use Rattle.std.specs.Borrow.{Lends, Array, sem, u8 as byte};
+ghost use denote.Follow.{follows_so};
+ghost use mathlib.Core.Option.{none};
+ghost use Rattle.netlink_bytes.specs.Storage.{put_at};
+ghost use Rattle.netlink_attributes.specs.contracts.buffer.NlaBuffer.{the_row};
+ghost use Rattle.netlink_attributes.specs.Views.{length_field, raw_kind, masked, nested, network_byteorder, with_length, with_kind, is_nested, is_network_byteorder, attribute_of, storage_of, view_over, shown, HoldsAttribute};
 ghost use Rattle.netlink_attributes.specs.Walk.{IsFault};
 
 use crate::constants::{NLA_F_NESTED, NLA_F_NET_BYTEORDER, NLA_HEADER_SIZE, NLA_TYPE_MASK};
-use netlink_bytes::{DecodeError, Storage};
+use netlink_bytes::{DecodeError, Storage, StorageMut};
 
 /// The bytes of an attribute (`struct nlattr` of linux/netlink.h), looked at in place. No call asks for memory.
 #[derive(Clone, Copy, Debug, PartialEq, Eq, Drop)]
@@ -51,6 +56,24 @@ impl<T: Storage> NlaBuffer<T> {
         ensures keeps { result ≡ storage_of self }
     {
         self.buffer
+    }
+
+    /// The storage, looked at. The view is left as it is.
+    #[inline]
+    pub fn inner(&mut self) -> &T
+        ensures* unchanged { sem 𝓛 (follows_so (the_row T.row) (the_row T.row) self.entry.ghost_name none (λ _ _. ⊤) (λ last. last ≡ self.old)) }
+        ensures value { result.now ≡ storage_of self.old }
+    {
+        &self.buffer
+    }
+
+    /// The storage, lent for writing: the view ends over what it is then.
+    #[inline]
+    pub fn inner_mut(&mut self) -> &mut T
+        ensures* writes_back { sem 𝓛 (Lends (the_row T.row) T.row self.entry result view_over) }
+        ensures value { result.now ≡ storage_of self.old }
+    {
+        &mut self.buffer
     }
 
     /// The length field (`nla_len`): the size of header and value in bytes, without padding.
@@ -106,6 +129,79 @@ impl<T: Storage> NlaBuffer<T> {
         ensures number { result + 4 ≡ length_field (T.held (storage_of self.now)) }
     {
         self.length() as usize - NLA_HEADER_SIZE
+    }
+}
+
+impl<T: StorageMut> NlaBuffer<T> {
+    /// Sets the length field (`nla_len`), and no other byte.
+    #[tactic(auto, unfolding(netlink_bytes::specs::Numbers::text_le))]
+    #[inline]
+    pub fn set_length(&mut self, value: u16)
+        requires field { 2 ≤ length (T.held (storage_of self.old)) }
+        ensures bytes { T.held (storage_of self.new) ≡ with_length (T.held (storage_of self.old)) value }
+        ensures same_storage { storage_of self.new ≡ T.holding (storage_of self.old) (with_length (T.held (storage_of self.old)) value) }
+    {
+        let bytes = self.buffer.bytes_mut();
+        let [low, high] = value.to_le_bytes();
+        bytes[0] = low;
+        bytes[1] = high;
+    }
+
+    /// Sets the kind without its flag bits, so that both are cleared, and no byte outside the kind field.
+    #[inline]
+    pub fn set_kind(&mut self, kind: u16)
+        requires field { 4 ≤ length (T.held (storage_of self.old)) }
+        ensures bytes { T.held (storage_of self.new) ≡ with_kind (T.held (storage_of self.old)) (masked kind) }
+        ensures same_storage { storage_of self.new ≡ T.holding (storage_of self.old) (with_kind (T.held (storage_of self.old)) (masked kind)) }
+    {
+        self.set_raw_kind(kind & NLA_TYPE_MASK)
+    }
+
+    /// Sets the bit `NLA_F_NESTED` of the kind and clears `NLA_F_NET_BYTEORDER`; no byte outside the kind field changes.
+    #[inline]
+    pub fn set_nested_flag(&mut self)
+        requires field { 4 ≤ length (T.held (storage_of self.old)) }
+        ensures bytes { T.held (storage_of self.new) ≡ with_kind (T.held (storage_of self.old)) (nested (raw_kind (T.held (storage_of self.old)))) }
+        ensures same_storage { storage_of self.new ≡ T.holding (storage_of self.old) (with_kind (T.held (storage_of self.old)) (nested (raw_kind (T.held (storage_of self.old))))) }
+    {
+        let kind = self.kind();
+        self.set_raw_kind(kind | NLA_F_NESTED)
+    }
+
+    /// Sets the bit `NLA_F_NET_BYTEORDER` of the kind and clears `NLA_F_NESTED`; no byte outside the kind field changes.
+    #[inline]
+    pub fn set_network_byte_order_flag(&mut self)
+        requires field { 4 ≤ length (T.held (storage_of self.old)) }
+        ensures bytes { T.held (storage_of self.new) ≡ with_kind (T.held (storage_of self.old)) (network_byteorder (raw_kind (T.held (storage_of self.old)))) }
+        ensures same_storage { storage_of self.new ≡ T.holding (storage_of self.old) (with_kind (T.held (storage_of self.old)) (network_byteorder (raw_kind (T.held (storage_of self.old))))) }
+    {
+        let kind = self.kind();
+        self.set_raw_kind(kind | NLA_F_NET_BYTEORDER)
+    }
+
+    /// Sets the kind field as it is given.
+    #[tactic(auto, unfolding(netlink_bytes::specs::Numbers::text_le))]
+    #[inline]
+    fn set_raw_kind(&mut self, kind: u16)
+        requires { 4 ≤ length (T.held (storage_of self.old)) }
+        ensures bytes { T.held (storage_of self.new) ≡ with_kind (T.held (storage_of self.old)) kind }
+        ensures same_storage { storage_of self.new ≡ T.holding (storage_of self.old) (with_kind (T.held (storage_of self.old)) kind) }
+    {
+        let bytes = self.buffer.bytes_mut();
+        let [low, high] = kind.to_le_bytes();
+        bytes[2] = low;
+        bytes[3] = high;
+    }
+
+    /// The value, lent for writing: the bytes from 4 up to the length.
+    #[inline]
+    pub fn value_mut(&mut self) -> &mut [u8]
+        requires whole { HoldsAttribute (T.held (storage_of self.old)) }
+        ensures* writes_back { sem 𝓛 (Lends (the_row T.row) (Array byte 0) self.entry result (λ value. view_over (T.holding (storage_of self.old) (put_at (T.held (storage_of self.old)) 4 value)))) }
+        ensures value { result.now ≡ (attribute_of (T.held (storage_of self.old))).value }
+    {
+        let end = self.length() as usize;
+        self.buffer.part_mut(NLA_HEADER_SIZE, end)
     }
 }
 

@@ -2,7 +2,7 @@ use Rattle.std.proofs.Common.{ℕ, List, length, ap, sym, ◌∙◌, arith, Bor}
 use Rattle.std.specs.Option.{option_map}
 use Rattle.netlink_attributes.specs.Places.{value_part}
 use Rattle.netlink_attributes.specs.Views.{length_field}
-use Rattle.netlink_attributes.proofs.Placing.{none_left, place_step, place_here, same_place}
+use Rattle.netlink_attributes.proofs.Placing.{none_left, place_next, place_here, same_place}
 use Rattle.netlink_attributes.proofs.Starting.{nothing_starts, starts-fault, starts-length}
 use Rattle.netlink_attributes.proofs.place.nla_place.Goals as goal
 
@@ -21,8 +21,7 @@ loop-item-preserved c =
       shorter = omega arith;
       same = λ all fault walk.
           let known = c.loop-item.invariant.same all fault walk in
-          let next = place_step (length c.args.block.now) _ _ _ known.0 fault _ c.loop-item.invariant.shorter step.2 known.1 (omega arith) in
-          (next.0, next.1, known.2 ∙ next.2);
+          place_next (length c.args.block.now) _ _ _ known.0 fault _ _ c.loop-item.invariant.shorter step.2 known.1 (omega arith) known.2;
     }
 
 pub returns-in-Err-clause-place : goal.returns-in-Err-clause-place
