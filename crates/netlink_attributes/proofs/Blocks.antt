@@ -1,0 +1,62 @@
+-- What is written of a list, and what is canonical.
+use Rattle.std.proofs.Common.{◌≡◌, ◌↔◌, ℕ, suc, List, [], ◌∷◌, ◌++◌, length, refl, ap, sym, subst, ◌∙◌, inl, arith, None, All, append_assoc, append-nil}
+use Rattle.std.proofs.lemmas.List.{length-replicate}
+use Rattle.std.specs.Prelude.{replicate}
+use Rattle.netlink_attributes.specs.Attribute.{Attribute, FitsAttribute, attribute_text, padded, padding}
+use Rattle.netlink_attributes.specs.Block.{canonical_block, IsBlockOf, IsCanonicalBlock}
+use Rattle.netlink_attributes.specs.Views.{attribute_of}
+use Rattle.netlink_attributes.specs.Walk.{Starts, Walk}
+use Rattle.netlink_attributes.proofs.Fields.{attribute_of-text}
+use Rattle.netlink_attributes.proofs.Walking.{walk_once}
+
+-- bytes that are a padded attribute and the rest start with it
+starts_padded : (bytes : List ℕ) (a : Attribute) (rest : List ℕ) → FitsAttribute a → bytes ≡ attribute_text a ++ (replicate (padding (length a.value)) 0 ++ rest) → Starts bytes a rest
+starts_padded bytes a rest fits whole =
+    record { fits = fits; gap = replicate (padding (length a.value)) 0; whole = whole; gap_size = inl (length-replicate (padding (length a.value)) 0) }
+
+padded-append : (a : Attribute) (rest : List ℕ) → padded a ++ rest ≡ attribute_text a ++ (replicate (padding (length a.value)) 0 ++ rest)
+padded-append a rest = append_assoc (attribute_text a) (replicate (padding (length a.value)) 0) rest
+
+pub attribute_of-padded : (a : Attribute) (rest : List ℕ) → FitsAttribute a → attribute_of (padded a ++ rest) ≡ a
+attribute_of-padded a rest fits = ap attribute_of (padded-append a rest) ∙ attribute_of-text a (replicate (padding (length a.value)) 0 ++ rest) fits
+
+-- a block of attributes walks as them
+block_walks : (bytes : List ℕ) (all : List Attribute) → IsBlockOf bytes all → Walk bytes all None
+block_walks bytes [] none = none
+block_walks bytes (a ∷ more) (rest, fits, whole, block) = (rest, starts_padded bytes a rest fits whole, block_walks rest more block)
+
+-- and is what is written of them
+block_text : (bytes : List ℕ) (all : List Attribute) → IsBlockOf bytes all → bytes ≡ canonical_block all
+block_text bytes [] none = none
+block_text bytes (a ∷ more) (rest, fits, whole, block) =
+    whole ∙ sym (padded-append a rest) ∙ ap (λ (x : List ℕ). padded a ++ x) (block_text rest more block)
+
+-- what is written of attributes that fit is a block of them
+pub written_block : (all : List Attribute) → All FitsAttribute all → IsBlockOf (canonical_block all) all
+written_block [] each = refl
+written_block (a ∷ more) each =
+    (canonical_block more, each 0 a (omega arith), padded-append a (canonical_block more), written_block more (λ k d inside. each (suc k) d (omega arith)))
+
+pub written_walks : (all : List Attribute) → All FitsAttribute all → Walk (canonical_block all) all None
+written_walks all each = block_walks (canonical_block all) all (written_block all each)
+
+-- what is written of a walk without fault is a block of its attributes
+pub walked_block : (bytes : List ℕ) (all : List Attribute) → Walk bytes all None → IsBlockOf (canonical_block all) all
+walked_block bytes [] none = refl
+walked_block bytes (a ∷ more) (rest, starts, walk) =
+    (canonical_block more, starts.fits, padded-append a (canonical_block more), walked_block rest more walk)
+
+pub walked_canonical : (bytes : List ℕ) (all : List Attribute) → Walk bytes all None → IsCanonicalBlock (canonical_block all)
+walked_canonical bytes all walk = (all, walked_block bytes all walk)
+
+-- and is the bytes themselves exactly if they are canonical
+pub unchanged : (bytes : List ℕ) (all : List Attribute) → Walk bytes all None → (canonical_block all ≡ bytes) ↔ IsCanonicalBlock bytes
+unchanged bytes all walk = (
+  λ same. subst IsCanonicalBlock same (walked_canonical bytes all walk),
+  λ canonical. (let same = walk_once bytes all canonical.0 None None walk (block_walks bytes canonical.0 canonical.1) in
+      ap canonical_block same.0 ∙ sym (block_text bytes canonical.0 canonical.1)),
+)
+
+pub block_push : (done : List Attribute) (a : Attribute) → canonical_block (done ++ (a ∷ [])) ≡ canonical_block done ++ padded a
+block_push [] a = append-nil (padded a)
+block_push (first ∷ done) a = ap (λ x. padded first ++ x) (block_push done a) ∙ sym (append_assoc (padded first) (canonical_block done) (padded a))

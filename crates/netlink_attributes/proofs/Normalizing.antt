@@ -1,0 +1,69 @@
+-- What a block written from a walk says of any walk of the same bytes.
+use Rattle.std.proofs.Common.{◌≡◌, ◌↔◌, ◌⊎◌, ◌+◌, ℕ, List, [], ◌∷◌, ◌++◌, length, take, refl, ap, sym, ◌∙◌, inl, inr, Some, None, Result, Ok, Err, Vec, Global, MatchResult, IfOk, arith}
+use Rattle.std.proofs.lemmas.List.{take_at}
+use Rattle.std.specs.Prelude.{replicate, true, ◌==◌}
+use Rattle.netlink_bytes.specs.declared.error.DecodeError.{DecodeError}
+use Rattle.netlink_bytes.specs.declared.error.DecodeError.TheVariants.{OutOfMemory}
+use Rattle.netlink_attributes.specs.Attribute.{Attribute, attribute_text, padded, padding}
+use Rattle.netlink_attributes.specs.Block.{canonical_block, IsCanonicalBlock}
+use Rattle.netlink_attributes.specs.Views.{length_field, attribute_of}
+use Rattle.netlink_attributes.specs.Walk.{Walk, Starts}
+use Rattle.netlink_attributes.proofs.Blocks.{walked_canonical, unchanged, block_push}
+use Rattle.netlink_attributes.proofs.Fields.{length-attribute_text}
+use Rattle.netlink_attributes.proofs.Starting.{starts-length_field}
+use Rattle.netlink_attributes.proofs.Walking.{walk_once}
+
+-- bytes with a walk without fault have none with one
+pub no_fault : (bytes : List ℕ) (x y : List Attribute) (fault : DecodeError) → Walk bytes x None → Walk bytes y (Some fault) → ⊥
+no_fault bytes x y fault sound damaged = let same = (walk_once bytes x y None (Some fault) sound damaged).1 in cc
+
+pub same_fault : (bytes : List ℕ) (x y : List Attribute) (f g : DecodeError) → Walk bytes x (Some f) → Walk bytes y (Some g) → f ≡ g
+same_fault bytes x y f g p q = let same = (walk_once bytes x y (Some f) (Some g) p q).1 in cc
+
+-- a block was written of a walk, or memory was refused, or there is a fault
+abbrev pub IsAnswer : List ℕ → Result (Vec ℕ Global) DecodeError → Type 0
+IsAnswer bytes result = MatchResult result
+    (λ v. (all : List Attribute) × Walk bytes all None × (v.items ≡ canonical_block all))
+    (λ e. (e ≡ OutOfMemory) ⊎ ((all : List Attribute) × Walk bytes all (Some e)))
+
+pub answer_writes : (bytes : List ℕ) (result : Result (Vec ℕ Global) DecodeError) → IsAnswer bytes result → (all : List Attribute) → Walk bytes all None
+    → MatchResult result (λ v. v.items ≡ canonical_block all) (λ e. e ≡ OutOfMemory)
+answer_writes bytes (Ok v) (x, walk, items) all other = items ∙ ap canonical_block (walk_once bytes x all None None walk other).0
+answer_writes bytes (Err e) (inl memory) all other = memory
+answer_writes bytes (Err e) (inr (x, walk)) all other = absurd (no_fault bytes all x e other walk)
+
+pub answer_canonical : (bytes : List ℕ) (result : Result (Vec ℕ Global) DecodeError) → IsAnswer bytes result → IfOk result (λ v. IsCanonicalBlock v.items)
+answer_canonical bytes (Ok v) (x, walk, items) = rw items (walked_canonical bytes x walk)
+answer_canonical bytes (Err e) answer = tt
+
+pub answer_unchanged : (bytes : List ℕ) (result : Result (Vec ℕ Global) DecodeError) → IsAnswer bytes result → IfOk result (λ v. (v.items ≡ bytes) ↔ IsCanonicalBlock bytes)
+answer_unchanged bytes (Ok v) (x, walk, items) = rw items (unchanged bytes x walk)
+answer_unchanged bytes (Err e) answer = tt
+
+-- no bytes are written as nothing
+pub empty_writes : (bytes : List ℕ) (items : List ℕ) (all : List Attribute) → true ≡ (length bytes == 0) → items ≡ [] → Walk bytes all None → items ≡ canonical_block all
+empty_writes [] items all none nothing walk = nothing ∙ ap canonical_block (walk_once [] [] all None None refl walk).0
+empty_writes (x ∷ bytes) items all none nothing walk = absurd (grind arith)
+
+-- the text of the attribute that bytes start with
+pub starts-text : (bytes : List ℕ) (a : Attribute) (rest : List ℕ) → Starts bytes a rest → take (length_field bytes) bytes ≡ attribute_text a
+starts-text bytes a rest starts =
+    let size : length (attribute_text a) ≡ length_field bytes = length-attribute_text a ∙ sym (starts-length_field bytes a rest starts) in
+    ap (take (length_field bytes)) starts.whole ∙ take_at (attribute_text a) (starts.gap ++ rest) (length_field bytes) size
+
+-- a text and the padding of its size are the attribute as it is written
+pub padded-text : (a : Attribute) (text : List ℕ) → text ≡ attribute_text a → text ++ replicate (padding (length text)) 0 ≡ padded a
+padded-text a text is =
+    let size : length text ≡ 4 + length a.value = ap length is ∙ length-attribute_text a in
+    let same : padding (length text) ≡ padding (length a.value) = omega arith in
+    rw (same, is) refl
+
+-- one attribute more is written
+pub written_push : (done : List Attribute) (old new bytes storage : List ℕ) (rest : List ℕ) (size : ℕ) → Starts bytes (attribute_of bytes) rest → storage ≡ bytes → size ≡ length_field storage
+    → old ≡ canonical_block done → new ≡ old ++ (take size storage ++ replicate (padding (length (take size storage))) 0)
+    → new ≡ canonical_block (done ++ (attribute_of bytes ∷ []))
+written_push done old new bytes storage rest size starts same field before after =
+    let a : Attribute = attribute_of bytes in
+    let text : take size storage ≡ attribute_text a =
+    ap (λ (k : ℕ). take k storage) field ∙ ap (λ (x : List ℕ). take (length_field x) x) same ∙ starts-text bytes a rest starts in
+    after ∙ ap (λ (x : List ℕ). old ++ x) (padded-text a (take size storage) text) ∙ ap (λ (x : List ℕ). x ++ padded a) before ∙ sym (block_push done a)

@@ -1,0 +1,81 @@
+-- The sizes and the pieces of what is written.
+use Rattle.std.proofs.Common.{◌≡◌, ℕ, ◌+◌, ◌-◌, ◌<◌, ◌^◌, List, [], ◌++◌, length, get_or, take, drop, ap, sym, ◌∙◌, arith, All, None, append_assoc, append-nil, length-append, length-drop}
+use Rattle.std.proofs.lemmas.List.{length-replicate, drop-drop, drop_more, drop_all, take_rest, take_at, drop_at}
+use borrow.Rule.Slice.PartMut.{put_mid}
+use Rattle.std.specs.Prelude.{replicate}
+use Rattle.netlink_bytes.specs.Numbers.{text_le}
+use Rattle.std.proofs.lemmas.List.Elements.{All-map}
+use Rattle.netlink_attributes.specs.Attribute.{Attribute, FitsAttribute, attribute_text, padded, padding}
+use Rattle.netlink_attributes.specs.Block.{canonical_block}
+use Rattle.netlink_attributes.specs.Nla.{attribute_with, attributes_of, AllFit}
+use Rattle.netlink_attributes.specs.Walk.{Walk}
+use Rattle.netlink_attributes.proofs.Blocks.{written_walks}
+use Rattle.netlink_attributes.proofs.Fields.{length-attribute_text}
+
+pub length-padded : (a : Attribute) → length (padded a) ≡ 4 + length a.value + padding (length a.value)
+length-padded a =
+    length-append (attribute_text a) (replicate (padding (length a.value)) 0)
+    ∙ (let text = length-attribute_text a in let zeros = length-replicate {A = ℕ} (padding (length a.value)) 0 in omega arith)
+
+pub length-written : (kind : ℕ) (value : List ℕ) → length (padded (attribute_with kind value)) ≡ 4 + length value + padding (length value)
+length-written kind value = length-padded (attribute_with kind value)
+
+-- what a proof of a size needs
+pub ruleset written_sizes = (length-written)
+
+-- the pieces of an attribute, and the rest of the buffer
+pub pieces : (kind size missing : ℕ) (value buffer header written zeros behind more rest : List ℕ)
+    → size ≡ length value + 4 → missing ≡ padding (length value)
+    → header ≡ text_le size 2 ++ text_le kind 2 → written ≡ value → zeros ≡ replicate missing 0
+    → behind ≡ drop 4 buffer → more ≡ drop (length value) behind → rest ≡ drop missing more
+    → header ++ (written ++ (zeros ++ rest)) ≡ padded (attribute_with kind value) ++ drop (length (padded (attribute_with kind value))) buffer
+pieces kind size missing value buffer header written zeros behind more rest sizes lacks headed valued zeroed e₁ e₂ e₃ =
+    let swapped : size ≡ 4 + length value = omega arith in
+    let long : 4 + (length value + missing) ≡ length (padded (attribute_with kind value)) = omega (arith, length-written kind value) in
+    let last : rest ≡ drop (length (padded (attribute_with kind value))) buffer =
+    e₃ ∙ ap (drop missing) (e₂ ∙ ap (drop (length value)) e₁) ∙ drop-drop missing (length value) (drop 4 buffer) ∙ drop-drop (length value + missing) 4 buffer ∙ ap (λ (k : ℕ). drop k buffer) long in
+    let text : header ≡ text_le (4 + length value) 2 ++ text_le kind 2 = headed ∙ ap (λ (n : ℕ). text_le n 2 ++ text_le kind 2) swapped in
+    let zero : zeros ≡ replicate (padding (length value)) 0 = zeroed ∙ ap (λ (n : ℕ). replicate n 0) lacks in
+    let grouped : (a b v z r : List ℕ) → (a ++ b) ++ (v ++ (z ++ r)) ≡ ((a ++ (b ++ v)) ++ z) ++ r = λ a b v z r. simp append_assoc in
+    rw (text, valued, zero, last) (grouped (text_le (4 + length value) 2) (text_le kind 2) value (replicate (padding (length value)) 0) (drop (length (padded (attribute_with kind value))) buffer))
+
+-- ---- lists of attributes
+
+pub block-cons : {T : Type 0} (kind_of : T → ℕ) (value_of : T → List ℕ) (nlas : List T) (i : ℕ) (nla : T) → i < length nlas → nla ≡ get_or nlas i nla
+    → canonical_block (attributes_of kind_of value_of (drop i nlas)) ≡ padded (attribute_with (kind_of nla) (value_of nla)) ++ canonical_block (attributes_of kind_of value_of (drop (i + 1) nlas))
+block-cons {T} kind_of value_of nlas i nla inside is =
+    ap (λ (xs : List T). canonical_block (attributes_of kind_of value_of xs)) (drop_more nlas i nla inside)
+    ∙ ap (λ (x : T). padded (attribute_with (kind_of x) (value_of x)) ++ canonical_block (attributes_of kind_of value_of (drop (i + 1) nlas))) (sym is)
+
+-- the size of what is left of a list is that of an attribute and of what is left then
+pub length-cons : {T : Type 0} (kind_of : T → ℕ) (value_of : T → List ℕ) (nlas : List T) (i : ℕ) (nla : T) → i < length nlas → nla ≡ get_or nlas i nla
+    → length (canonical_block (attributes_of kind_of value_of (drop i nlas))) ≡ length (padded (attribute_with (kind_of nla) (value_of nla))) + length (canonical_block (attributes_of kind_of value_of (drop (i + 1) nlas)))
+length-cons kind_of value_of nlas i nla inside is =
+    ap length (block-cons kind_of value_of nlas i nla inside is)
+    ∙ length-append (padded (attribute_with (kind_of nla) (value_of nla))) (canonical_block (attributes_of kind_of value_of (drop (i + 1) nlas)))
+
+-- a text is written behind the front of a buffer, up to its end
+pub put_behind : (at n : ℕ) (front first buffer text new : List ℕ) → at ≡ length front → buffer ≡ front ++ drop at first → n ≡ length text → new ≡ text ++ drop (length text) (take (length buffer - at) (drop at buffer))
+    → put_mid at (length buffer - at) buffer new ≡ (front ++ text) ++ drop (at + n) first
+put_behind at n front first buffer text new start is size written =
+    let before : take at buffer ≡ front = ap (take at) is ∙ take_at front (drop at first) at (sym start) in
+    let behind : drop at buffer ≡ drop at first = ap (drop at) is ∙ drop_at front (drop at first) at (sym start) in
+    let part : new ≡ text ++ drop (at + n) first =
+    written ∙ ap (λ (k : ℕ). text ++ drop k (take (length buffer - at) (drop at buffer))) (sym size) ∙ ap (λ (x : List ℕ). text ++ drop n x) (take_rest buffer at ∙ behind) ∙ ap (λ (x : List ℕ). text ++ x) (drop-drop n at first) in
+    let none : drop (length buffer - at) (drop at buffer) ≡ [] = drop_all (length buffer - at) (drop at buffer) (omega (arith, length-drop at buffer)) in
+    let grouped : (a b c : List ℕ) → a ++ ((b ++ c) ++ []) ≡ (a ++ b) ++ c = λ a b c. ap (λ (x : List ℕ). a ++ x) (append-nil (b ++ c)) ∙ sym (append_assoc a b c) in
+    ap (λ (x : List ℕ). x ++ (new ++ drop (length buffer - at) (drop at buffer))) before
+    ∙ ap (λ (x : List ℕ). front ++ (new ++ x)) none
+    ∙ ap (λ (x : List ℕ). front ++ (x ++ [])) part
+    ∙ grouped front text (drop (at + n) first)
+
+-- a list is written up to one attribute more
+pub moved_on : (front text whole block rest : List ℕ) → front ++ block ≡ whole → block ≡ text ++ rest → (front ++ text) ++ rest ≡ whole
+moved_on front text whole block rest before next = append_assoc front text rest ∙ ap (λ (x : List ℕ). front ++ x) (sym next) ∙ before
+
+-- what is written of values walks as their attributes
+pub list_walks : {T : Type 0} (kind_of : T → ℕ) (value_of : T → List ℕ) (nlas : List T) → All (λ nla. kind_of nla < 2 ^ 16) nlas → AllFit value_of nlas
+    → Walk (canonical_block (attributes_of kind_of value_of nlas)) (attributes_of kind_of value_of nlas) None
+list_walks {T} kind_of value_of nlas kinds fit =
+    written_walks (attributes_of kind_of value_of nlas)
+    (All-map FitsAttribute (λ nla. attribute_with (kind_of nla) (value_of nla)) nlas (λ k d inside. record { kind = kinds k d inside; value = fit k d inside }))

@@ -1,0 +1,10 @@
+use Rattle.std.proofs.Common.{List, ◌≡◌}
+use Rattle.netlink_attributes.specs.Attribute.{Attribute}
+use Rattle.netlink_attributes.specs.Block.{canonical_block}
+use Rattle.netlink_attributes.specs.Steps.{unread}
+use Rattle.netlink_attributes.proofs.Passing.{Passes}
+use Rattle.netlink_attributes.proofs.block.rewritten.Given as goal
+
+-- some attributes are passed, and they are written
+abbrev pub invariant-loop-item : goal.invariant-loop-item
+invariant-loop-item l = (done : List Attribute) × Passes l.bytes done (unread l.item-iterator) × (l.block.items ≡ canonical_block done)

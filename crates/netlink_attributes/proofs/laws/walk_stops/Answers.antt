@@ -1,0 +1,5 @@
+use Rattle.netlink_attributes.proofs.Walking.{nothing_given}
+use Rattle.netlink_attributes.proofs.laws.walk_stops.Goals as goal
+
+pub returns : goal.returns
+returns c = record { stops = nothing_given }

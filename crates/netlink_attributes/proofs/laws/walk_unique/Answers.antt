@@ -1,0 +1,5 @@
+use Rattle.netlink_attributes.proofs.Walking.{walk_once}
+use Rattle.netlink_attributes.proofs.laws.walk_unique.Goals as goal
+
+pub returns : goal.returns
+returns c = record { unique = walk_once }

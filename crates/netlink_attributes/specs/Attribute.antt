@@ -1,0 +1,25 @@
+-- One attribute and its text (linux/netlink.h, struct nlattr).
+use Rattle.std.specs.Prelude.{ℕ, ◌+◌, ◌-◌, ◌%◌, ◌<◌, ◌≤◌, ◌^◌, List, ◌++◌, length, replicate}
+use Rattle.netlink_bytes.specs.Numbers.{text_le}
+
+-- a kind of 16 bits, its two flag bits among them, and a value
+pub record Attribute : Type 0 where
+  pub kind : ℕ
+  pub value : List ℕ
+
+-- the kind and the size of the value fit their fields
+pub record FitsAttribute (a : Attribute) : Type 0 where
+  pub kind : a.kind < 2 ^ 16
+  pub value : length a.value ≤ 65531
+
+-- how many bytes a value of this size lacks to a multiple of 4
+abbrev pub padding : ℕ → ℕ
+padding size = (4 - size % 4) % 4
+
+-- the length of header and value, the kind, and the value, without padding
+abbrev pub attribute_text : Attribute → List ℕ
+attribute_text a = text_le (4 + length a.value) 2 ++ (text_le a.kind 2 ++ a.value)
+
+-- the attribute as it is written: its text, and its padding of zeros
+abbrev pub padded : Attribute → List ℕ
+padded a = attribute_text a ++ replicate (padding (length a.value)) 0

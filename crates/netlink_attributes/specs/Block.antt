@@ -1,0 +1,18 @@
+-- Blocks of attributes: the one that is written of a list, and a grammar of its own for what is canonical.
+use Rattle.std.specs.Prelude.{ℕ, ◌≡◌, List, [], ◌∷◌, ◌++◌, length, replicate}
+use Rattle.netlink_attributes.specs.Attribute.{Attribute, FitsAttribute, attribute_text, padded, padding}
+
+-- the attributes as they are written, one after another, each with its kind as it is
+abbrev pub canonical_block : List Attribute → List ℕ
+canonical_block [] = []
+canonical_block (a ∷ more) = padded a ++ canonical_block more
+
+-- the bytes are these attributes, each with the whole of its padding, of zeros
+abbrev pub IsBlockOf : List ℕ → List Attribute → Type 0
+IsBlockOf bytes [] = bytes ≡ []
+IsBlockOf bytes (a ∷ more) =
+    (rest : List ℕ) × FitsAttribute a × (bytes ≡ attribute_text a ++ (replicate (padding (length a.value)) 0 ++ rest)) × IsBlockOf rest more
+
+-- the bytes are a canonical block
+abbrev pub IsCanonicalBlock : List ℕ → Type 0
+IsCanonicalBlock bytes = (all : List Attribute) × IsBlockOf bytes all

@@ -1,0 +1,7 @@
+pub mod Attribute
+pub mod Block
+pub mod Nla
+pub mod Places
+pub mod Steps
+pub mod Views
+pub mod Walk

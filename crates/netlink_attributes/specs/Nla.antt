@@ -1,0 +1,20 @@
+-- The attributes that values stand for.
+use Rattle.std.specs.Prelude.{ℕ, ◌≤◌, List, length, map, All}
+use Rattle.netlink_attributes.specs.Attribute.{Attribute}
+use Rattle.netlink_attributes.specs.declared.default.DefaultNla.{DefaultNla}
+
+-- the attribute of a kind and a value
+abbrev pub attribute_with : ℕ → List ℕ → Attribute
+attribute_with kind value = record { kind = kind; value = value }
+
+-- the attributes of values, by what gives the kind and the value of each
+abbrev pub attributes_of : {T : Type 0} → (T → ℕ) → (T → List ℕ) → List T → List Attribute
+attributes_of kind_of value_of nlas = map (λ nla. attribute_with (kind_of nla) (value_of nla)) nlas
+
+-- each value is of a size that a length field can count
+abbrev pub AllFit : {T : Type 0} → (T → List ℕ) → List T → Type 0
+AllFit value_of nlas = All (λ nla. length (value_of nla) ≤ 65531) nlas
+
+-- the attribute that a `DefaultNla` keeps
+abbrev pub kept_attribute : DefaultNla → Attribute
+kept_attribute nla = attribute_with nla.kind nla.value.items

@@ -1,0 +1,50 @@
+-- What bytes are as attributes one after another.
+use Rattle.std.specs.Prelude.{ℕ, ◌<◌, ◌≤◌, ◌≡◌, ◌≢◌, ◌⊎◌, List, [], ◌∷◌, ◌++◌, length, Option, Some, None, Result, Ok, Err}
+use denote.Ref.{Bor}
+use Rattle.netlink_bytes.specs.declared.error.DecodeError.{DecodeError}
+use Rattle.netlink_bytes.specs.declared.error.DecodeError.TheVariants.{NlaBufferTooSmall, NlaLengthMismatch, NlaInvalidLength}
+use Rattle.netlink_attributes.specs.Attribute.{Attribute, FitsAttribute, attribute_text, padding}
+use Rattle.netlink_attributes.specs.Views.{length_field, attribute_of, shown, HoldsAttribute}
+use Rattle.netlink_attributes.specs.declared.buffer.NlaBuffer.{NlaBuffer}
+
+-- why bytes do not begin with an attribute, with the numbers; no two of these are of the same bytes
+abbrev pub IsFault : List ℕ → DecodeError → Type 0
+IsFault bytes (NlaBufferTooSmall size least) = (length bytes < 4) × (size ≡ length bytes) × (least ≡ 4)
+IsFault bytes (NlaLengthMismatch size said) = (4 ≤ length bytes) × (length bytes < length_field bytes) × (size ≡ length bytes) × (said ≡ length_field bytes)
+IsFault bytes (NlaInvalidLength least said) = (4 ≤ length bytes) × (length_field bytes < 4) × (least ≡ 4) × (said ≡ length_field bytes)
+IsFault bytes _ = ⊥
+
+-- The bytes are the attribute, its padding and then the rest. Padding may be anything, and it may be
+-- missing only where the bytes end within it.
+pub record Starts (bytes : List ℕ) (a : Attribute) (rest : List ℕ) : Type 0 where
+  pub fits : FitsAttribute a
+  pub gap : List ℕ
+  pub whole : bytes ≡ attribute_text a ++ (gap ++ rest)
+  pub gap_size : (length gap ≡ padding (length a.value)) ⊎ ((length gap < padding (length a.value)) × (rest ≡ []))
+
+-- the bytes are these attributes one after another, and then nothing or one fault
+abbrev pub Walk : List ℕ → List Attribute → Option DecodeError → Type 0
+Walk bytes [] None = bytes ≡ []
+Walk bytes [] (Some fault) = (bytes ≢ []) × IsFault bytes fault
+Walk bytes (a ∷ more) fault = (rest : List ℕ) × Starts bytes a rest × Walk rest more fault
+
+-- an item of a walk: a view of all that was unread, or a fault
+abbrev pub Item : Type 0
+Item = Result (NlaBuffer (Bor (List ℕ))) DecodeError
+
+-- one step of a walk at these bytes, and what is then still to be walked; a view may be asked for its value
+abbrev pub Gives : List ℕ → Option Item → List ℕ → Type 0
+Gives bytes None rest = (bytes ≡ []) × (rest ≡ [])
+Gives bytes (Some (Err fault)) rest = (bytes ≢ []) × IsFault bytes fault × (rest ≡ [])
+Gives bytes (Some (Ok view)) rest = (shown view ≡ bytes) × HoldsAttribute (shown view) × Starts bytes (attribute_of bytes) rest
+
+-- the items are views that begin with these attributes, and then the fault, if there is one
+abbrev pub AreItems : List Item → List Attribute → Option DecodeError → Type 0
+AreItems [] [] None = Unit {0}
+AreItems [] [] (Some fault) = ⊥
+AreItems [] (a ∷ more) fault = ⊥
+AreItems (Err found ∷ items) [] (Some fault) = (found ≡ fault) × (items ≡ [])
+AreItems (Err found ∷ items) [] None = ⊥
+AreItems (Err found ∷ items) (a ∷ more) fault = ⊥
+AreItems (Ok view ∷ items) [] fault = ⊥
+AreItems (Ok view ∷ items) (a ∷ more) fault = (attribute_of (shown view) ≡ a) × AreItems items more fault

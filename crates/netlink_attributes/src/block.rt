@@ -1,0 +1,123 @@
+//! Blocks of attributes, written.
+
+ghost use Rattle.std.specs.Prelude.{◌≡◌, ◌↔◌, ◌+◌, ◌-◌, ◌^◌, ◌<◌, ◌≤◌, ◌++◌, ◌⊎◌, List, [], Option, None, Some, IfErr, IfOk, IsOk, MatchResult, OnOk, length, replicate, vec_len, vec_capacity};
+ghost use Rattle.netlink_bytes.specs.Numbers.{text_le};
+ghost use Rattle.netlink_bytes.specs.declared.error.DecodeError.{DecodeError};
+ghost use Rattle.netlink_attributes.specs.Attribute.{Attribute, padded, padding};
+ghost use Rattle.netlink_attributes.specs.Block.{canonical_block, IsCanonicalBlock};
+ghost use Rattle.netlink_attributes.specs.Walk.{Walk};
+
+use crate::align::nla_align;
+use crate::constants::NLA_HEADER_SIZE;
+use crate::iterator::NlasIterator;
+use netlink_bytes::DecodeError;
+use std::alloc::{AllocError, Global};
+
+/// The canonical block of bytes: the attributes that they walk as, each with its kind as it is and with its padding of zeros.
+///
+/// The walk is checked first, so damaged bytes are answered by the walk's fault (C5, C6 or C7)
+/// without a request for memory. Otherwise there is one request, of the block's size, and none
+/// for no bytes; C16 says that it was refused.
+pub fn normalize_nlas(alloc: Global, bytes: &[u8]) -> Result<Vec<u8>, DecodeError>
+    ensures ok { IfOk result (λ v. (all : List Attribute) × Walk bytes.now all None × (v.items ≡ canonical_block all)) }
+    ensures err { IfErr result (λ e. (e ≡ DecodeError.OutOfMemory) ⊎ ((all : List Attribute) × Walk bytes.now all (Some e))) }
+
+    // which of the two, by the walk of the bytes
+    ensures writes { (all : List Attribute) → Walk bytes.now all None → MatchResult result (λ v. v.items ≡ canonical_block all) (λ e. e ≡ DecodeError.OutOfMemory) }
+    ensures fault { (all : List Attribute) (fault : DecodeError) → Walk bytes.now all (Some fault) → result ≡ Err fault }
+    ensures empty { bytes.now ≡ [] → IsOk result }
+
+    // what is canonical stays as it is, and nothing else does
+    ensures canonical { IfOk result (λ v. IsCanonicalBlock v.items) }
+    ensures unchanged { IfOk result (λ v. (v.items ≡ bytes.now) ↔ IsCanonicalBlock bytes.now) }
+{
+    check_walk(bytes)?;
+    if bytes.is_empty() {
+        return Ok(Vec::new(alloc));
+    }
+    rewritten(alloc, bytes)
+}
+
+/// The fault of a walk.
+fn check_walk(bytes: &[u8]) -> Result<(), DecodeError>
+    ensures { MatchResult result (λ _. (all : List Attribute) × Walk bytes.now all None) (λ e. (all : List Attribute) × Walk bytes.now all (Some e)) }
+{
+    for item in NlasIterator::new(bytes) {
+        match item {
+            Ok(_) => {}
+            Err(fault) => return Err(fault),
+        }
+    }
+    Ok(())
+}
+
+/// The attributes of a walk as they are written, in one request for memory.
+fn rewritten(alloc: Global, bytes: &[u8]) -> Result<Vec<u8>, DecodeError>
+    ensures { MatchResult result
+        (λ v. (all : List Attribute) × Walk bytes.now all None × (v.items ≡ canonical_block all))
+        (λ e. (e ≡ DecodeError.OutOfMemory) ⊎ ((all : List Attribute) × Walk bytes.now all (Some e))) }
+{
+    let mut block = Vec::with_capacity(alloc, nla_align(bytes.len()))?;
+    for item in NlasIterator::new(bytes) {
+        match item {
+            Ok(nla) => {
+                let size = nla.length() as usize;
+                append_padded(&mut block, &nla.into_inner()[..size])?;
+            }
+            Err(fault) => return Err(fault),
+        }
+    }
+    Ok(block)
+}
+
+/// Adds the text of an attribute, and its padding.
+#[inline(always)]
+fn append_padded(block: &mut Vec<u8>, text: &[u8]) -> Result<(), AllocError>
+    requires { length text.now < 2 ^ 16 }
+    ensures { OnOk result (block.new.items ≡ block.old.items ++ (text.now ++ replicate (padding (length text.now)) 0)) }
+{
+    block.extend_from_slice(text)?;
+    append_zeros(block, nla_align(text.len()) - text.len())
+}
+
+/// Adds fewer than 4 zeros.
+#[inline(always)]
+fn append_zeros(block: &mut Vec<u8>, count: usize) -> Result<(), AllocError>
+    requires { count < 4 }
+    ensures ok { OnOk result (block.new.items ≡ block.old.items ++ replicate count 0) }
+    ensures room { vec_len block.old + count ≤ vec_capacity block.old → IsOk result }
+{
+    block.extend_from_slice(&[0, 0, 0][..count])
+}
+
+/// Adds an attribute to a block, with its padding of zeros. One request for memory at most; where it
+/// is refused the answer is C16, and the block is as it was.
+pub fn append_nla(
+    _alloc: Global,
+    block: &mut Vec<u8>,
+    kind: u16,
+    value: &[u8],
+) -> Result<(), DecodeError>
+    requires fits { length value.now ≤ 65531 }
+    ensures ok { OnOk result (block.new.items ≡ block.old.items ++ padded (record { kind = kind; value = value.now })) }
+    ensures err { IfErr result (λ e. (e ≡ DecodeError.OutOfMemory) × (block.new.items ≡ block.old.items)) }
+{
+    let size = value.len() + NLA_HEADER_SIZE;
+    let whole = nla_align(size);
+    block.reserve(whole)?;
+    block.extend_from_slice(&header_text(size as u16, kind))?;
+    block.extend_from_slice(value)?;
+    append_zeros(block, whole - size)?;
+    Ok(())
+}
+
+/// The four bytes of an attribute's header.
+#[tactic(auto, unfolding(netlink_bytes::specs::Numbers::text_le))]
+#[inline(always)]
+pub(crate) fn header_text(length: u16, kind: u16) -> [u8; 4]
+    ensures { result ≡ text_le length 2 ++ text_le kind 2 }
+{
+    let [length_low, length_high] = length.to_le_bytes();
+    let [kind_low, kind_high] = kind.to_le_bytes();
+    [length_low, length_high, kind_low, kind_high]
+}

@@ -1,0 +1,105 @@
+//! An attribute that keeps its value as bytes.
+
+ghost use Rattle.std.specs.Prelude.{◌≡◌, ◌<◌, ◌≤◌, [], IfErr, IfOk, IsOk, IsTrue, true, length};
+ghost use Rattle.netlink_attributes.specs.Attribute.{padded};
+ghost use Rattle.netlink_attributes.specs.Nla.{attribute_with, kept_attribute};
+ghost use Rattle.netlink_attributes.specs.Views.{attribute_of, shown, HoldsAttribute};
+
+use crate::buffer::NlaBuffer;
+use crate::nla::{Nla, emit_nla, nla_buffer_len};
+use netlink_bytes::{DecodeError, Emitable, Parseable};
+use std::alloc::Global;
+
+/// An attribute of any kind, its value as bytes. The kind keeps its two flag bits.
+#[derive(Debug, PartialEq, Eq, Drop)]
+pub struct DefaultNla {
+    kind: u16,
+    value: Vec<u8>,
+}
+
+impl DefaultNla {
+    /// An attribute of this kind and value. Asks for no memory.
+    #[inline]
+    pub fn new(kind: u16, value: Vec<u8>) -> Self
+        ensures keeps { kept_attribute result ≡ attribute_with kind value.items }
+    {
+        DefaultNla { kind, value }
+    }
+
+    /// An equal attribute, or C16 where there is no memory for its value. An empty value asks for none.
+    pub fn try_clone(&self, alloc: Global) -> Result<Self, DecodeError>
+        ensures same { IfOk result (λ copy. kept_attribute copy ≡ kept_attribute self.now) }
+        ensures equal { IfOk result (λ copy. IsTrue (⟦<DefaultNla as PartialEq>⟧.eq copy self.now)) }
+        ensures memory { IfErr result (λ e. e ≡ DecodeError.OutOfMemory) }
+        ensures empty { (kept_attribute self.now).value ≡ [] → IsOk result }
+    {
+        Ok(DefaultNla {
+            kind: self.kind,
+            value: copied(alloc, self.value.as_slice())?,
+        })
+    }
+}
+
+/// A copy of the bytes, of their exact size. No bytes ask for no memory.
+fn copied(alloc: Global, bytes: &[u8]) -> Result<Vec<u8>, DecodeError>
+    ensures ok { IfOk result (λ copy. copy.items ≡ bytes.now) }
+    ensures memory { IfErr result (λ e. e ≡ DecodeError.OutOfMemory) }
+    ensures empty { bytes.now ≡ [] → IsOk result }
+{
+    if bytes.is_empty() {
+        return Ok(Vec::new(alloc));
+    }
+    Ok(Vec::from_slice(alloc, bytes)?)
+}
+
+impl Nla for DefaultNla {
+    ghost kind_of = { λ nla. (kept_attribute nla).kind };
+
+    ghost value_of = { λ nla. (kept_attribute nla).value };
+
+    fn value_len(&self) -> usize {
+        self.value.len()
+    }
+
+    fn kind(&self) -> u16 {
+        self.kind
+    }
+
+    fn emit_value(&self, buffer: &mut [u8]) {
+        buffer.copy_from_slice(self.value.as_slice());
+    }
+}
+
+impl Emitable for DefaultNla {
+    ghost text = { λ nla. padded (kept_attribute nla) };
+
+    ghost can_emit = { λ nla. length (kept_attribute nla).value ≤ 65531 };
+
+    ghost takes_longer = { true };
+
+    fn buffer_len(&self) -> usize {
+        nla_buffer_len(self)
+    }
+
+    fn emit(&self, buffer: &mut [u8]) {
+        emit_nla(self, buffer)
+    }
+}
+
+impl<'a> Parseable<NlaBuffer<&'a [u8]>> for DefaultNla {
+    ghost can_parse = { λ view. HoldsAttribute (shown view) };
+
+    ghost reads = { λ view nla. kept_attribute nla ≡ attribute_of (shown view) };
+
+    ghost refusal = { λ _ _. ⊥ };
+
+    ghost needs_no_memory = { λ view. (attribute_of (shown view)).value ≡ [] };
+
+    /// The kind with both flag bits, and a copy of the value.
+    fn parse(alloc: Global, buf: &NlaBuffer<&'a [u8]>) -> Result<Self, DecodeError> {
+        Ok(DefaultNla {
+            kind: buf.raw_kind(),
+            value: copied(alloc, buf.value())?,
+        })
+    }
+}

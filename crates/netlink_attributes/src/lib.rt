@@ -1,0 +1,25 @@
+//! Netlink attributes: looked at in place, written, and walked one after another.
+#![tactic(auto)]
+
+mod align;
+mod block;
+mod buffer;
+mod constants;
+mod default;
+mod iterator;
+pub mod laws;
+mod nla;
+mod nlas;
+mod place;
+
+pub use crate::align::nla_align;
+pub use crate::block::{append_nla, normalize_nlas};
+pub use crate::buffer::NlaBuffer;
+pub use crate::constants::{
+    NLA_ALIGNTO, NLA_F_NESTED, NLA_F_NET_BYTEORDER, NLA_HEADER_SIZE, NLA_TYPE_MASK,
+};
+pub use crate::default::DefaultNla;
+pub use crate::iterator::NlasIterator;
+pub use crate::nla::{Nla, emit_nla, nla_buffer_len, nla_fits};
+pub use crate::nlas::Nlas;
+pub use crate::place::nla_place;

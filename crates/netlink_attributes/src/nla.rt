@@ -1,0 +1,85 @@
+//! What can be written as an attribute.
+
+ghost use Rattle.std.specs.Prelude.{◌≡◌, ◌↔◌, ◌-◌, ◌<◌, ◌≤◌, ◌^◌, ◌++◌, ℕ, List, IsTrue, drop, length};
+ghost use Rattle.netlink_attributes.specs.Attribute.{padded};
+ghost use Rattle.netlink_attributes.specs.Nla.{attribute_with};
+ghost use Rattle.netlink_attributes.specs.Views.{is_nested, is_network_byteorder};
+
+use crate::align::nla_align;
+use crate::block::header_text;
+use crate::buffer::{is_nested_kind, is_network_kind};
+use crate::constants::NLA_HEADER_SIZE;
+
+/// A value that stands for an attribute: a kind, and the bytes of its value.
+pub trait Nla {
+    /// The kind, its two flag bits among it.
+    ghost kind_of: { Self → ℕ };
+
+    /// The bytes of the value.
+    ghost value_of: { Self → List ℕ };
+
+    /// The size of the value in bytes.
+    fn value_len(&self) -> usize
+        ensures size { result ≡ length (value_of self.now) };
+
+    /// The kind, its two flag bits among it.
+    fn kind(&self) -> u16
+        ensures kind { result ≡ kind_of self.now };
+
+    /// Fills the buffer, which has exactly `value_len` bytes, with the value.
+    fn emit_value(&self, buffer: &mut [u8])
+        requires size { length buffer.old ≡ length (value_of self.now) }
+        ensures value { buffer.new ≡ value_of self.now };
+
+    /// Whether the kind has the bit `NLA_F_NESTED`.
+    fn is_nested(&self) -> bool
+        ensures flag { result ≡ is_nested (kind_of self.now) }
+    {
+        is_nested_kind(self.kind())
+    }
+
+    /// Whether the kind has the bit `NLA_F_NET_BYTEORDER`.
+    fn is_network_byteorder(&self) -> bool
+        ensures flag { result ≡ is_network_byteorder (kind_of self.now) }
+    {
+        is_network_kind(self.kind())
+    }
+}
+
+/// The size in bytes of what `emit_nla` writes: header, value and padding.
+#[tactic(auto, using(crate::proofs::Writing::written_sizes))]
+#[inline]
+pub fn nla_buffer_len<T: Nla>(nla: &T) -> usize
+    requires room { length (T.value_of nla.now) ≤ usize.MAX - 7 }
+    ensures size { result ≡ length (padded (attribute_with (T.kind_of nla.now) (T.value_of nla.now))) }
+{
+    nla_align(nla.value_len()) + NLA_HEADER_SIZE
+}
+
+/// Whether the value is one of at most 65531 bytes, so that a length field of 16 bits can count it and its header.
+#[inline]
+pub fn nla_fits<T: Nla>(nla: &T) -> bool
+    ensures fits { IsTrue result ↔ (length (T.value_of nla.now) ≤ 65531) }
+{
+    nla.value_len() <= u16::MAX as usize - NLA_HEADER_SIZE
+}
+
+/// Writes the attribute at the start of the buffer, its padding with zeros, and leaves the rest.
+/// The kind is written as it is. Asks for no memory.
+#[tactic(auto, using(crate::proofs::Writing::written_sizes))]
+#[inline]
+pub fn emit_nla<T: Nla>(nla: &T, buffer: &mut [u8])
+    requires fits { length (T.value_of nla.now) ≤ 65531 }
+    requires room { length (padded (attribute_with (T.kind_of nla.now) (T.value_of nla.now))) ≤ length buffer.old }
+    ensures written { buffer.new ≡ padded (attribute_with (T.kind_of nla.now) (T.value_of nla.now)) ++ drop (length (padded (attribute_with (T.kind_of nla.now) (T.value_of nla.now)))) buffer.old }
+    ensures kind { T.kind_of nla.now < 2 ^ 16 }
+{
+    let value_len = nla.value_len();
+    let size = value_len + NLA_HEADER_SIZE;
+    let (header, behind) = buffer.split_at_mut(NLA_HEADER_SIZE);
+    header.copy_from_slice(&header_text(size as u16, nla.kind()));
+    let (value, behind_value) = behind.split_at_mut(value_len);
+    nla.emit_value(value);
+    let (padding, _) = behind_value.split_at_mut(nla_align(size) - size);
+    padding.fill(0);
+}

@@ -1,0 +1,43 @@
+//! Attributes one after another, written.
+
+ghost use Rattle.std.specs.Prelude.{◌≡◌, ◌≤◌, ◌++◌, None, true, drop, length};
+ghost use Rattle.netlink_attributes.specs.Block.{canonical_block};
+ghost use Rattle.netlink_attributes.specs.Nla.{attributes_of, AllFit};
+ghost use Rattle.netlink_attributes.specs.Walk.{Walk};
+
+use crate::nla::{Nla, emit_nla, nla_buffer_len};
+use netlink_bytes::Emitable;
+
+/// Attributes that are written one after another, each with its padding.
+#[derive(Debug)]
+pub struct Nlas<'a, T: Nla>(pub &'a [T]);
+
+impl<'a, T: Nla> Emitable for Nlas<'a, T> {
+    ghost text = { λ nlas. canonical_block (attributes_of T.kind_of T.value_of nlas.0.now) };
+
+    ghost can_emit = { λ nlas. AllFit T.value_of nlas.0.now };
+
+    ghost takes_longer = { true };
+
+    fn buffer_len(&self) -> usize {
+        let mut size = 0;
+        for nla in self.0 {
+            size += nla_buffer_len(nla);
+        }
+        size
+    }
+
+    /// Writes the attributes at the start of the buffer, and leaves the rest. What is written walks as the list.
+    fn emit(&self, buffer: &mut [u8])
+        requires can { AllFit T.value_of self.now.0.now }
+        requires room { length (canonical_block (attributes_of T.kind_of T.value_of self.now.0.now)) ≤ length buffer.old }
+        ensures written { buffer.new ≡ canonical_block (attributes_of T.kind_of T.value_of self.now.0.now) ++ drop (length (canonical_block (attributes_of T.kind_of T.value_of self.now.0.now))) buffer.old }
+        ensures walks { Walk (canonical_block (attributes_of T.kind_of T.value_of self.now.0.now)) (attributes_of T.kind_of T.value_of self.now.0.now) None }
+    {
+        let mut at = 0;
+        for nla in self.0 {
+            emit_nla(nla, &mut buffer[at..]);
+            at += nla_buffer_len(nla);
+        }
+    }
+}
