@@ -5,7 +5,13 @@ pub mod Payload
 pub mod Protocol
 pub mod Refusal
 pub mod Sizes
--- the words of the crate below, for those who use this one alone
+-- the words of the crates below, for those who use this one alone
+pub use Rattle.netlink_attributes.specs.Attribute
+pub use Rattle.netlink_attributes.specs.Block
+pub use Rattle.netlink_attributes.specs.Places
+pub use Rattle.netlink_attributes.specs.Steps
+pub use Rattle.netlink_attributes.specs.Views
+pub use Rattle.netlink_attributes.specs.Walk
 pub use Rattle.netlink_bytes.specs.Causes
 pub use Rattle.netlink_bytes.specs.NumberLaws
 pub use Rattle.netlink_bytes.specs.Numbers

@@ -1,4 +1,4 @@
-//! Laws over the definitions alone: each has an empty effect, and its contract is the law.
+//! Laws over the definitions alone: each has no effect, and its contract is the law. Those of the crates below stand here too.
 
 ghost use Rattle.std.specs.Prelude.{◌≡◌, ◌≢◌, ◌↔◌, ◌<◌, ◌≤◌, ◌++◌, ℕ, List, true, IsTrue, take, length};
 ghost use Rattle.netlink_packet_core.specs.Canonical.{Fits, IsCanonicalFrame, canonical_frame, finalized};
@@ -12,6 +12,10 @@ ghost use Rattle.netlink_packet_core.specs.declared.payload.NetlinkPayload.{Netl
 use crate::message::NetlinkMessage;
 use crate::payload::NetlinkPayload;
 use crate::traits::{NetlinkDeserializable, NetlinkProtocol};
+pub use netlink_attributes::laws::{
+    views_equal, walk_given, walk_stops, walk_total, walk_unique, walks_equal, written_reads_back,
+    written_walks,
+};
 use netlink_bytes::DecodeError;
 
 /// The inner value in hand is in range.

@@ -17,27 +17,117 @@ mod traits;
 
 pub use crate::buffer::NetlinkBuffer;
 pub use crate::canonical::normalize;
-pub use crate::constants::{
-    NETLINK_HEADER_LEN, NLM_F_ACK, NLM_F_ACK_TLVS, NLM_F_APPEND, NLM_F_ATOMIC, NLM_F_CAPPED,
-    NLM_F_CREATE, NLM_F_DUMP, NLM_F_DUMP_FILTERED, NLM_F_DUMP_INTR, NLM_F_ECHO, NLM_F_EXCL,
-    NLM_F_MATCH, NLM_F_MULTIPART, NLM_F_NONREC, NLM_F_REPLACE, NLM_F_REQUEST, NLM_F_ROOT,
-    NLMSG_ALIGNTO, NLMSG_DONE, NLMSG_ERROR, NLMSG_NOOP, NLMSG_OVERRUN,
-};
-pub use crate::done::{DoneBuffer, DoneMessage};
-pub use crate::error::{ErrorBuffer, ErrorMessage};
+pub use crate::constants::NETLINK_HEADER_LEN;
+pub use crate::constants::NLM_F_ACK;
+pub use crate::constants::NLM_F_ACK_TLVS;
+pub use crate::constants::NLM_F_APPEND;
+pub use crate::constants::NLM_F_ATOMIC;
+pub use crate::constants::NLM_F_CAPPED;
+pub use crate::constants::NLM_F_CREATE;
+pub use crate::constants::NLM_F_DUMP;
+pub use crate::constants::NLM_F_DUMP_FILTERED;
+pub use crate::constants::NLM_F_DUMP_INTR;
+pub use crate::constants::NLM_F_ECHO;
+pub use crate::constants::NLM_F_EXCL;
+pub use crate::constants::NLM_F_MATCH;
+pub use crate::constants::NLM_F_MULTIPART;
+pub use crate::constants::NLM_F_NONREC;
+pub use crate::constants::NLM_F_REPLACE;
+pub use crate::constants::NLM_F_REQUEST;
+pub use crate::constants::NLM_F_ROOT;
+pub use crate::constants::NLMSG_ALIGNTO;
+pub use crate::constants::NLMSG_DONE;
+pub use crate::constants::NLMSG_ERROR;
+pub use crate::constants::NLMSG_NOOP;
+pub use crate::constants::NLMSG_OVERRUN;
+pub use crate::done::DoneBuffer;
+pub use crate::done::DoneMessage;
+pub use crate::error::ErrorBuffer;
+pub use crate::error::ErrorMessage;
 pub use crate::header::NetlinkHeader;
 pub use crate::message::NetlinkMessage;
 pub use crate::payload::NetlinkPayload;
-pub use crate::traits::{NetlinkDeserializable, NetlinkProtocol, NetlinkSerializable};
-pub use netlink_bytes::{
-    DecodeError, Emitable, ErrorContext, IpAddr, NonZeroI32, Parseable, ParseableParametrized,
-    Storage, StorageMut, emit_i16, emit_i16_be, emit_i16_le, emit_i32, emit_i32_be, emit_i32_le,
-    emit_i64, emit_i64_be, emit_i64_le, emit_i128, emit_i128_be, emit_i128_le, emit_u16,
-    emit_u16_be, emit_u16_le, emit_u32, emit_u32_be, emit_u32_le, emit_u64, emit_u64_be,
-    emit_u64_le, emit_u128, emit_u128_be, emit_u128_le, parse_i8, parse_i16, parse_i16_be,
-    parse_i16_le, parse_i32, parse_i32_be, parse_i32_le, parse_i64, parse_i64_be, parse_i64_le,
-    parse_i128, parse_i128_be, parse_i128_le, parse_ip, parse_ipv6, parse_mac, parse_string,
-    parse_u8, parse_u16, parse_u16_be, parse_u16_le, parse_u32, parse_u32_be, parse_u32_le,
-    parse_u64, parse_u64_be, parse_u64_le, parse_u128, parse_u128_be, parse_u128_le,
-};
+pub use crate::traits::NetlinkDeserializable;
+pub use crate::traits::NetlinkProtocol;
+pub use crate::traits::NetlinkSerializable;
+pub use netlink_attributes::DefaultNla;
+pub use netlink_attributes::NLA_ALIGNTO;
+pub use netlink_attributes::NLA_F_NESTED;
+pub use netlink_attributes::NLA_F_NET_BYTEORDER;
+pub use netlink_attributes::NLA_HEADER_SIZE;
+pub use netlink_attributes::NLA_TYPE_MASK;
+pub use netlink_attributes::Nla;
+pub use netlink_attributes::NlaBuffer;
+pub use netlink_attributes::Nlas;
+pub use netlink_attributes::NlasIterator;
+pub use netlink_attributes::append_nla;
+pub use netlink_attributes::emit_nla;
+pub use netlink_attributes::nla_align;
+pub use netlink_attributes::nla_buffer_len;
+pub use netlink_attributes::nla_fits;
+pub use netlink_attributes::nla_place;
+pub use netlink_attributes::normalize_nlas;
+pub use netlink_bytes::DecodeError;
+pub use netlink_bytes::Emitable;
+pub use netlink_bytes::ErrorContext;
+pub use netlink_bytes::IpAddr;
+pub use netlink_bytes::NonZeroI32;
+pub use netlink_bytes::Parseable;
+pub use netlink_bytes::ParseableParametrized;
+pub use netlink_bytes::Storage;
+pub use netlink_bytes::StorageMut;
+pub use netlink_bytes::emit_i16;
+pub use netlink_bytes::emit_i16_be;
+pub use netlink_bytes::emit_i16_le;
+pub use netlink_bytes::emit_i32;
+pub use netlink_bytes::emit_i32_be;
+pub use netlink_bytes::emit_i32_le;
+pub use netlink_bytes::emit_i64;
+pub use netlink_bytes::emit_i64_be;
+pub use netlink_bytes::emit_i64_le;
+pub use netlink_bytes::emit_i128;
+pub use netlink_bytes::emit_i128_be;
+pub use netlink_bytes::emit_i128_le;
+pub use netlink_bytes::emit_u16;
+pub use netlink_bytes::emit_u16_be;
+pub use netlink_bytes::emit_u16_le;
+pub use netlink_bytes::emit_u32;
+pub use netlink_bytes::emit_u32_be;
+pub use netlink_bytes::emit_u32_le;
+pub use netlink_bytes::emit_u64;
+pub use netlink_bytes::emit_u64_be;
+pub use netlink_bytes::emit_u64_le;
+pub use netlink_bytes::emit_u128;
+pub use netlink_bytes::emit_u128_be;
+pub use netlink_bytes::emit_u128_le;
+pub use netlink_bytes::parse_i8;
+pub use netlink_bytes::parse_i16;
+pub use netlink_bytes::parse_i16_be;
+pub use netlink_bytes::parse_i16_le;
+pub use netlink_bytes::parse_i32;
+pub use netlink_bytes::parse_i32_be;
+pub use netlink_bytes::parse_i32_le;
+pub use netlink_bytes::parse_i64;
+pub use netlink_bytes::parse_i64_be;
+pub use netlink_bytes::parse_i64_le;
+pub use netlink_bytes::parse_i128;
+pub use netlink_bytes::parse_i128_be;
+pub use netlink_bytes::parse_i128_le;
+pub use netlink_bytes::parse_ip;
+pub use netlink_bytes::parse_ipv6;
+pub use netlink_bytes::parse_mac;
+pub use netlink_bytes::parse_string;
+pub use netlink_bytes::parse_u8;
+pub use netlink_bytes::parse_u16;
+pub use netlink_bytes::parse_u16_be;
+pub use netlink_bytes::parse_u16_le;
+pub use netlink_bytes::parse_u32;
+pub use netlink_bytes::parse_u32_be;
+pub use netlink_bytes::parse_u32_le;
+pub use netlink_bytes::parse_u64;
+pub use netlink_bytes::parse_u64_be;
+pub use netlink_bytes::parse_u64_le;
+pub use netlink_bytes::parse_u128;
+pub use netlink_bytes::parse_u128_be;
+pub use netlink_bytes::parse_u128_le;
 pub use netlink_ethernet::EthernetProtocol;
