@@ -4,9 +4,10 @@ use Rattle.std.proofs.lemmas.List.{length-replicate}
 use Rattle.std.specs.Prelude.{replicate}
 use Rattle.netlink_attributes.specs.Attribute.{Attribute, FitsAttribute, attribute_text, padded, padding}
 use Rattle.netlink_attributes.specs.Block.{canonical_block, IsBlockOf, IsCanonicalBlock}
-use Rattle.netlink_attributes.specs.Views.{attribute_of}
+use Rattle.netlink_attributes.specs.Views.{attribute_of, HoldsAttribute}
 use Rattle.netlink_attributes.specs.Walk.{Starts, Walk}
 use Rattle.netlink_attributes.proofs.Fields.{attribute_of-text}
+use Rattle.netlink_attributes.proofs.Starting.{starts-length_field, starts-length}
 use Rattle.netlink_attributes.proofs.Walking.{walk_once}
 
 -- bytes that are a padded attribute and the rest start with it
@@ -19,6 +20,14 @@ padded-append a rest = append_assoc (attribute_text a) (replicate (padding (leng
 
 pub attribute_of-padded : (a : Attribute) (rest : List ℕ) → FitsAttribute a → attribute_of (padded a ++ rest) ≡ a
 attribute_of-padded a rest fits = ap attribute_of (padded-append a rest) ∙ attribute_of-text a (replicate (padding (length a.value)) 0 ++ rest) fits
+
+-- and holds the attribute
+pub holds_padded : (a : Attribute) (rest : List ℕ) → FitsAttribute a → HoldsAttribute (padded a ++ rest)
+holds_padded a rest fits =
+    let starts = starts_padded (padded a ++ rest) a rest fits (padded-append a rest) in
+    let field = starts-length_field (padded a ++ rest) a rest starts in
+    let size = starts-length (padded a ++ rest) a rest starts in
+    record { header = omega (arith, size); least = omega (arith, field); most = omega (arith, field, size) }
 
 -- a block of attributes walks as them
 block_walks : (bytes : List ℕ) (all : List Attribute) → IsBlockOf bytes all → Walk bytes all None

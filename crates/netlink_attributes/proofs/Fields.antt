@@ -39,10 +39,6 @@ pub drop-text : (a : Attribute) (more : List ℕ) → drop 4 (attribute_text a +
 unfolding text_le
 drop-text a more = refl
 
-pub length-attribute_text : (a : Attribute) → length (attribute_text a) ≡ 4 + length a.value
-unfolding text_le
-length-attribute_text a = omega arith
-
 pub same_attribute : (a b : Attribute) → a.kind ≡ b.kind → a.value ≡ b.value → a ≡ b
 same_attribute a b p q = λ i. record { kind = p i; value = q i }
 

@@ -5,11 +5,11 @@ use Rattle.std.specs.Prelude.{replicate, true, ◌==◌}
 use Rattle.netlink_bytes.specs.declared.error.DecodeError.{DecodeError}
 use Rattle.netlink_bytes.specs.declared.error.DecodeError.TheVariants.{OutOfMemory}
 use Rattle.netlink_attributes.specs.Attribute.{Attribute, attribute_text, padded, padding}
+use Rattle.netlink_attributes.specs.Sizes.{length-attribute_text}
 use Rattle.netlink_attributes.specs.Block.{canonical_block, IsCanonicalBlock}
 use Rattle.netlink_attributes.specs.Views.{length_field, attribute_of}
 use Rattle.netlink_attributes.specs.Walk.{Walk, Starts}
 use Rattle.netlink_attributes.proofs.Blocks.{walked_canonical, unchanged, block_push}
-use Rattle.netlink_attributes.proofs.Fields.{length-attribute_text}
 use Rattle.netlink_attributes.proofs.Starting.{starts-length_field}
 use Rattle.netlink_attributes.proofs.Walking.{walk_once}
 

@@ -2,8 +2,8 @@
 use Rattle.std.proofs.Common.{◌≡◌, ℕ, zero, suc, ◌+◌, ◌-◌, ◌<◌, ◌≤◌, ◌⊎◌, List, [], ◌∷◌, length, drop, refl, sym, ap, subst, ◌∙◌, inl, inr, arith, Option, Some, None}
 use Rattle.std.specs.Prelude.{slice_get}
 use Rattle.netlink_bytes.specs.declared.error.DecodeError.{DecodeError}
-use Rattle.netlink_attributes.specs.Attribute.{Attribute}
-use Rattle.netlink_attributes.specs.Places.{padded_size, ends_from}
+use Rattle.netlink_attributes.specs.Attribute.{Attribute, padded_size}
+use Rattle.netlink_attributes.specs.Places.{ends_from}
 use Rattle.netlink_attributes.specs.Views.{length_field}
 use Rattle.netlink_attributes.specs.Walk.{Starts, Walk}
 use Rattle.netlink_attributes.proofs.Starting.{nothing_starts, starts-length_field, starts-rest, starts-length, starts-fault, starts-attribute_of}

@@ -5,11 +5,11 @@ use Rattle.std.proofs.lemmas.Bool.{cases_lt}
 use Rattle.netlink_bytes.specs.Numbers.{IsBytes}
 use Rattle.netlink_bytes.specs.declared.error.DecodeError.{DecodeError}
 use Rattle.netlink_bytes.specs.declared.error.DecodeError.TheVariants.{NlaBufferTooSmall, NlaLengthMismatch, NlaInvalidLength}
-use Rattle.netlink_attributes.specs.Attribute.{Attribute, attribute_text, padding}
-use Rattle.netlink_attributes.specs.Places.{padded_size}
+use Rattle.netlink_attributes.specs.Attribute.{Attribute, attribute_text, padding, padded_size}
+use Rattle.netlink_attributes.specs.Sizes.{length-attribute_text}
 use Rattle.netlink_attributes.specs.Views.{length_field, attribute_of, HoldsAttribute}
 use Rattle.netlink_attributes.specs.Walk.{Starts, IsFault}
-use Rattle.netlink_attributes.proofs.Fields.{length_field-text, attribute_of-text, length-attribute_text, raw_kind-fits, length_field-fits, length-value, part_and_rest, text-attribute_of}
+use Rattle.netlink_attributes.proofs.Fields.{length_field-text, attribute_of-text, raw_kind-fits, length_field-fits, length-value, part_and_rest, text-attribute_of}
 
 pub starts-length_field : (bytes : List ℕ) (a : Attribute) (rest : List ℕ) → Starts bytes a rest → length_field bytes ≡ 4 + length a.value
 starts-length_field bytes a rest starts = ap length_field starts.whole ∙ length_field-text a (starts.gap ++ rest) starts.fits

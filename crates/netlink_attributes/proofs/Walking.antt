@@ -5,8 +5,7 @@ use Rattle.std.specs.Iterator.{Drains}
 use Rattle.netlink_bytes.specs.Numbers.{IsBytes}
 use Rattle.netlink_bytes.specs.declared.error.DecodeError.{DecodeError}
 use Rattle.netlink_bytes.specs.declared.error.DecodeError.TheVariants.{NlaBufferTooSmall, NlaLengthMismatch, NlaInvalidLength}
-use Rattle.netlink_attributes.specs.Attribute.{Attribute}
-use Rattle.netlink_attributes.specs.Places.{padded_size}
+use Rattle.netlink_attributes.specs.Attribute.{Attribute, padded_size}
 use Rattle.netlink_attributes.specs.Steps.{unread, steps, item_bound, GivesWalk}
 use Rattle.netlink_attributes.specs.Views.{length_field, attribute_of, HoldsAttribute}
 use Rattle.netlink_attributes.specs.Walk.{Walk, IsFault, Item, Gives, AreItems}

@@ -10,18 +10,7 @@ use Rattle.netlink_attributes.specs.Block.{canonical_block}
 use Rattle.netlink_attributes.specs.Nla.{attribute_with, attributes_of, AllFit}
 use Rattle.netlink_attributes.specs.Walk.{Walk}
 use Rattle.netlink_attributes.proofs.Blocks.{written_walks}
-use Rattle.netlink_attributes.proofs.Fields.{length-attribute_text}
-
-pub length-padded : (a : Attribute) → length (padded a) ≡ 4 + length a.value + padding (length a.value)
-length-padded a =
-    length-append (attribute_text a) (replicate (padding (length a.value)) 0)
-    ∙ (let text = length-attribute_text a in let zeros = length-replicate {A = ℕ} (padding (length a.value)) 0 in omega arith)
-
-pub length-written : (kind : ℕ) (value : List ℕ) → length (padded (attribute_with kind value)) ≡ 4 + length value + padding (length value)
-length-written kind value = length-padded (attribute_with kind value)
-
--- what a proof of a size needs
-pub ruleset written_sizes = (length-written)
+use Rattle.netlink_attributes.specs.Sizes.{length-written}
 
 -- the pieces of an attribute, and the rest of the buffer
 pub pieces : (kind size missing : ℕ) (value buffer header written zeros behind more rest : List ℕ)

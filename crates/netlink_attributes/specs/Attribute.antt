@@ -23,3 +23,7 @@ attribute_text a = text_le (4 + length a.value) 2 ++ (text_le a.kind 2 ++ a.valu
 -- the attribute as it is written: its text, and its padding of zeros
 abbrev pub padded : Attribute → List ℕ
 padded a = attribute_text a ++ replicate (padding (length a.value)) 0
+
+-- and the size of that
+abbrev pub padded_size : Attribute → ℕ
+padded_size a = 4 + length a.value + padding (length a.value)

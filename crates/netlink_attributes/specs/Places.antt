@@ -2,12 +2,8 @@
 use Rattle.std.specs.Prelude.{ℕ, ◌+◌, ◌≡◌, List, [], ◌∷◌, length, Option, slice_get}
 use Rattle.std.specs.Option.{option_map}
 use Rattle.netlink_bytes.specs.declared.error.DecodeError.{DecodeError}
-use Rattle.netlink_attributes.specs.Attribute.{Attribute, padding}
+use Rattle.netlink_attributes.specs.Attribute.{Attribute, padded_size}
 use Rattle.netlink_attributes.specs.Walk.{Walk}
-
--- the size of an attribute with the whole of its padding
-abbrev pub padded_size : Attribute → ℕ
-padded_size a = 4 + length a.value + padding (length a.value)
 
 -- where each attribute starts and where its value ends, from an offset on
 abbrev pub ends_from : ℕ → List Attribute → List (ℕ × ℕ)

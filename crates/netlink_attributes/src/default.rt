@@ -2,7 +2,7 @@
 
 ghost use Rattle.std.specs.Prelude.{◌≡◌, ◌<◌, ◌≤◌, [], IfErr, IfOk, IsOk, IsTrue, true, length};
 ghost use Rattle.netlink_attributes.specs.Attribute.{padded};
-ghost use Rattle.netlink_attributes.specs.Nla.{attribute_with, kept_attribute};
+ghost use Rattle.netlink_attributes.specs.Nla.{kept_attribute};
 ghost use Rattle.netlink_attributes.specs.Views.{attribute_of, shown, HoldsAttribute};
 
 use crate::buffer::NlaBuffer;
@@ -21,7 +21,8 @@ impl DefaultNla {
     /// An attribute of this kind and value. Asks for no memory.
     #[inline]
     pub fn new(kind: u16, value: Vec<u8>) -> Self
-        ensures keeps { kept_attribute result ≡ attribute_with kind value.items }
+        ensures kind { (kept_attribute result).kind ≡ kind }
+        ensures value { (kept_attribute result).value ≡ value.items }
     {
         DefaultNla { kind, value }
     }

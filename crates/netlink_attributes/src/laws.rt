@@ -7,13 +7,17 @@ ghost use Rattle.netlink_bytes.specs.declared.error.DecodeError.{DecodeError};
 ghost use Rattle.netlink_attributes.specs.Attribute.{Attribute, FitsAttribute, padded};
 ghost use Rattle.netlink_attributes.specs.Block.{canonical_block, IsCanonicalBlock};
 ghost use Rattle.netlink_attributes.specs.Steps.{unread, GivesWalk};
-ghost use Rattle.netlink_attributes.specs.Views.{attribute_of, shown};
+ghost use Rattle.netlink_attributes.specs.Nla.{kept_attribute};
+ghost use Rattle.netlink_attributes.specs.Views.{attribute_of, shown, storage_of, HoldsAttribute};
 ghost use Rattle.netlink_attributes.specs.Walk.{Walk, Item, Gives};
 ghost use Rattle.netlink_attributes.specs.declared.buffer.NlaBuffer.{NlaBuffer};
+ghost use Rattle.netlink_attributes.specs.declared.default.DefaultNla.{DefaultNla};
 ghost use Rattle.netlink_attributes.specs.declared.iterator.NlasIterator.{NlasIterator};
 
 use crate::buffer::NlaBuffer;
+use crate::default::DefaultNla;
 use crate::iterator::NlasIterator;
+use netlink_bytes::Storage;
 
 /// Every byte list is attributes one after another, and then nothing or one fault.
 pub fn walk_total()
@@ -40,13 +44,24 @@ pub fn walks_equal()
     ensures equal { (a b : NlasIterator (Bor (List ℕ))) → IsTrue (⟦<NlasIterator<&'static [u8]> as PartialEq>⟧.eq a b) ↔ (unread a ≡ unread b) }
 {}
 
+/// Two views are equal exactly if their storages are, by `==`.
+pub fn views_equal<T: Storage + PartialEq>()
+    ensures equal { (a b : NlaBuffer T) → ⟦<NlaBuffer<T> as PartialEq>⟧.eq a b ≡ T.eq (storage_of a) (storage_of b) }
+{}
+
 /// Two views over slices are equal exactly if the bytes that they show are.
-pub fn views_equal()
+pub fn slice_views_equal()
     ensures equal { (a b : NlaBuffer (Bor (List ℕ))) → IsTrue (⟦<NlaBuffer<&'static [u8]> as PartialEq>⟧.eq a b) ↔ (shown a ≡ shown b) }
 {}
 
-/// An attribute reads back from what is written of it, whatever follows.
+/// Two attributes are equal exactly if their kinds and the bytes of their values are.
+pub fn attributes_equal()
+    ensures equal { (a b : DefaultNla) → IsTrue (⟦<DefaultNla as PartialEq>⟧.eq a b) ↔ (kept_attribute a ≡ kept_attribute b) }
+{}
+
+/// What is written of an attribute holds it, and reads back as it, whatever follows.
 pub fn written_reads_back()
+    ensures holds { (a : Attribute) (rest : List ℕ) → FitsAttribute a → HoldsAttribute (padded a ++ rest) }
     ensures back { (a : Attribute) (rest : List ℕ) → FitsAttribute a → attribute_of (padded a ++ rest) ≡ a }
 {}
 

@@ -1,7 +1,7 @@
 //! What can be written as an attribute.
 
 ghost use Rattle.std.specs.Prelude.{◌≡◌, ◌↔◌, ◌-◌, ◌<◌, ◌≤◌, ◌^◌, ◌++◌, ℕ, List, IsTrue, drop, length};
-ghost use Rattle.netlink_attributes.specs.Attribute.{padded};
+ghost use Rattle.netlink_attributes.specs.Attribute.{padded, padded_size};
 ghost use Rattle.netlink_attributes.specs.Nla.{attribute_with};
 ghost use Rattle.netlink_attributes.specs.Views.{is_nested, is_network_byteorder};
 
@@ -47,11 +47,12 @@ pub trait Nla {
 }
 
 /// The size in bytes of what `emit_nla` writes: header, value and padding.
-#[tactic(auto, using(crate::proofs::Writing::written_sizes))]
+#[tactic(auto, using(crate::specs::Sizes::written_sizes))]
 #[inline]
 pub fn nla_buffer_len<T: Nla>(nla: &T) -> usize
     requires room { length (T.value_of nla.now) ≤ usize.MAX - 7 }
     ensures size { result ≡ length (padded (attribute_with (T.kind_of nla.now) (T.value_of nla.now))) }
+    ensures number { result ≡ padded_size (attribute_with (T.kind_of nla.now) (T.value_of nla.now)) }
 {
     nla_align(nla.value_len()) + NLA_HEADER_SIZE
 }
@@ -66,7 +67,7 @@ pub fn nla_fits<T: Nla>(nla: &T) -> bool
 
 /// Writes the attribute at the start of the buffer, its padding with zeros, and leaves the rest.
 /// The kind is written as it is. Asks for no memory.
-#[tactic(auto, using(crate::proofs::Writing::written_sizes))]
+#[tactic(auto, using(crate::specs::Sizes::written_sizes))]
 #[inline]
 pub fn emit_nla<T: Nla>(nla: &T, buffer: &mut [u8])
     requires fits { length (T.value_of nla.now) ≤ 65531 }

@@ -10,6 +10,7 @@ use netlink_bytes::Emitable;
 
 /// Attributes that are written one after another, each with its padding.
 #[derive(Debug)]
+#[derive_where(Clone, Copy)]
 pub struct Nlas<'a, T: Nla>(pub &'a [T]);
 
 impl<'a, T: Nla> Emitable for Nlas<'a, T> {

@@ -1,5 +1,8 @@
-use Rattle.netlink_attributes.proofs.Blocks.{attribute_of-padded}
+use Rattle.netlink_attributes.proofs.Blocks.{attribute_of-padded, holds_padded}
 use Rattle.netlink_attributes.proofs.laws.written_reads_back.Goals as goal
 
-pub returns : goal.returns
-returns c = record { back = attribute_of-padded }
+pub returns-clause-holds : goal.returns-clause-holds
+returns-clause-holds c = holds_padded
+
+pub returns-clause-back : goal.returns-clause-back
+returns-clause-back c = attribute_of-padded

@@ -1,0 +1,29 @@
+-- Laws of the sizes of what is written, for callers to cite.
+use Rattle.std.specs.Prelude.{◌≡◌, ℕ, ◌+◌, List, ◌∷◌, ◌++◌, length, replicate}
+use Rattle.std.proofs.Common.{ap, ◌∙◌, arith, length-append}
+use Rattle.std.proofs.lemmas.List.{length-replicate}
+use Rattle.netlink_bytes.specs.Numbers.{text_le}
+use Rattle.netlink_attributes.specs.Attribute.{Attribute, attribute_text, padded, padded_size, padding}
+use Rattle.netlink_attributes.specs.Block.{canonical_block}
+use Rattle.netlink_attributes.specs.Nla.{attribute_with}
+
+pub length-attribute_text : (a : Attribute) → length (attribute_text a) ≡ 4 + length a.value
+unfolding text_le
+length-attribute_text a = omega arith
+
+-- an attribute as it is written has its padded size
+pub length-padded : (a : Attribute) → length (padded a) ≡ padded_size a
+length-padded a =
+    length-append (attribute_text a) (replicate (padding (length a.value)) 0)
+    ∙ (let text = length-attribute_text a in let zeros = length-replicate {A = ℕ} (padding (length a.value)) 0 in omega arith)
+
+-- the same, by kind and value
+pub length-written : (kind : ℕ) (value : List ℕ) → length (padded (attribute_with kind value)) ≡ 4 + length value + padding (length value)
+length-written kind value = length-padded (attribute_with kind value)
+
+-- a block has the padded size of its first attribute, and the size of what follows
+pub length-canonical_block : (a : Attribute) (more : List Attribute) → length (canonical_block (a ∷ more)) ≡ padded_size a + length (canonical_block more)
+length-canonical_block a more = length-append (padded a) (canonical_block more) ∙ ap (λ (n : ℕ). n + length (canonical_block more)) (length-padded a)
+
+-- what a proof of a size needs
+pub ruleset written_sizes = (length-written)

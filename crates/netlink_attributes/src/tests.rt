@@ -1,0 +1,5 @@
+//! Worked rows of each public call, and the two tests of the Rust crate.
+
+mod views;
+mod walks;
+mod written;
