@@ -1,6 +1,6 @@
 //! The end of a multipart message.
 
-ghost use Rattle.std.specs.Prelude.{◌≡◌, ◌+◌, ◌<◌, ◌≤◌, [], pos, length, drop, OnOk, OnErr, IfOk, IfErr, false};
+ghost use Rattle.std.specs.Prelude.{◌≡◌, ◌+◌, ◌<◌, ◌≤◌, [], pos, length, drop, OnOk, OnErr, IfOk, IfErr, true, IsTrue, false};
 ghost use Rattle.std.specs.Borrow.{Lends, Array, sem, u8 as byte};
 ghost use Rattle.netlink_packet_core.specs.contracts.done.DoneBuffer.{the_row};
 ghost use Rattle.netlink_bytes.specs.Numbers.{signed};
@@ -124,6 +124,7 @@ impl DoneMessage {
     pub fn try_clone(&self, alloc: Global) -> Result<Self, DecodeError>
         ensures code { IfOk result (λ copy. copy.code ≡ self.now.code) }
         ensures bytes { IfOk result (λ copy. copy.extended_ack.items ≡ self.now.extended_ack.items) }
+        ensures equal { IfOk result (λ copy. IsTrue (⟦<DoneMessage as PartialEq>⟧.eq copy self.now)) }
         ensures memory { IfErr result (λ e. e ≡ DecodeError.OutOfMemory) }
         ensures empty { OnErr result (0 < length self.now.extended_ack.items) }
     {

@@ -1,6 +1,6 @@
 //! An acknowledgement, or a refusal.
 
-ghost use Rattle.std.specs.Prelude.{◌≡◌, ◌+◌, ◌<◌, ◌≤◌, [], length, drop, unsigned_abs, OnOk, OnErr, IfOk, IfErr, MatchOption, None, Some, false, pos};
+ghost use Rattle.std.specs.Prelude.{◌≡◌, ◌+◌, ◌<◌, ◌≤◌, [], length, drop, unsigned_abs, OnOk, OnErr, IfOk, IfErr, true, IsTrue, MatchOption, None, Some, false, pos};
 ghost use Rattle.std.specs.Borrow.{Lends, Array, sem, u8 as byte};
 ghost use Rattle.netlink_packet_core.specs.contracts.error.ErrorBuffer.{the_row};
 ghost use Rattle.netlink_bytes.specs.NonZero.{number_of};
@@ -145,6 +145,7 @@ impl ErrorMessage {
     pub fn try_clone(&self, alloc: Global) -> Result<Self, DecodeError>
         ensures code { IfOk result (λ copy. copy.code ≡ self.now.code) }
         ensures bytes { IfOk result (λ copy. copy.header.items ≡ self.now.header.items) }
+        ensures equal { IfOk result (λ copy. IsTrue (⟦<ErrorMessage as PartialEq>⟧.eq copy self.now)) }
         ensures memory { IfErr result (λ e. e ≡ DecodeError.OutOfMemory) }
         ensures empty { OnErr result (0 < length self.now.header.items) }
     {
