@@ -2,20 +2,23 @@
 use Rattle.std.proofs.Common.{◌≡◌, ◌++◌, List, [], ◌∷◌, ℕ, ℤ, ap, refl, sym, ◌∙◌, subst, inl, inr, arith, Option, Some, None}
 use Rattle.std.specs.Prelude.{◌≢◌, codes}
 use Rattle.std.specs.Fmt.{signed_decimal}
+use Rattle.netlink_packet_core.specs.Attribute.{Attribute}
+use Rattle.netlink_packet_core.specs.Block.{canonical_block}
 use Rattle.netlink_packet_core.specs.Canonical.{Fits, IsNormalizeFault, canonical_frame}
 use Rattle.netlink_packet_core.specs.DecodeError.{DecodeError}
-use Rattle.netlink_packet_core.specs.DecodeError.TheVariants.{OutOfMemory, TooLong}
+use Rattle.netlink_packet_core.specs.DecodeError.TheVariants.{NlaBufferTooSmall, NlaLengthMismatch, NlaInvalidLength, OutOfMemory, TooLong}
 use Rattle.netlink_packet_core.specs.Frame.{Frame, SamePayload}
 use Rattle.netlink_packet_core.specs.Payload.{raw_code}
 use Rattle.netlink_packet_core.specs.declared.header.NetlinkHeader.{NetlinkHeader}
 use Rattle.netlink_packet_core.specs.declared.payload.NetlinkPayload.{NetlinkPayload}
 use Rattle.netlink_packet_core.specs.declared.payload.NetlinkPayload.TheVariants.{Done, Error, Noop, Overrun, InnerMessage}
 use Rattle.netlink_packet_core.specs.Refusal.{IsRefusal, SameRefusal}
+use Rattle.netlink_packet_core.specs.Walk.{IsFault, Walk}
 use Rattle.netlink_packet_core.specs.declared.message.NetlinkMessage.{NetlinkMessage}
-use Rattle.netlink_frame.specs.Lines.{header_lines, inner_text, message_lines, payload_words, shown}
+use Rattle.netlink_frame.specs.Lines.{header_lines, inner_text, message_lines, nla_lines, payload_words, shown}
 use Rattle.netlink_frame.specs.PingPong.{ping_pong_decoding, ping_pong_encoding, wants_memory}
 use Rattle.netlink_frame.specs.Run.{Makes, SameFault}
-use Rattle.netlink_frame.specs.declared.command.Command.TheVariants.{Normalize, Show}
+use Rattle.netlink_frame.specs.declared.command.Command.TheVariants.{Normalize, Show, Nlas, Canon}
 use Rattle.netlink_frame.specs.declared.ping_pong.PingPongMessage.{PingPongMessage}
 use Rattle.netlink_frame.specs.declared.ping_pong.PingPongMessage.TheVariants.{Ping, Pong}
 
@@ -89,3 +92,35 @@ shows_once unique input first second None None (m, frame, is) (n, frame', is') =
 shows_once unique input first second None (Some f) (m, frame, is) (none, known, fault) = absurd (no_refusal unique input m f frame fault known)
 shows_once unique input first second (Some e) None (none, known, fault) (m, frame, is) = absurd (no_refusal unique input m e frame fault known)
 shows_once unique input first second (Some e) (Some f) (none, known, fault) (none', known', fault') = (none ∙ sym none', unique.refusal input e f fault fault' known known')
+
+-- bytes walk in one way
+abbrev pub WalkUnique : Type 0
+WalkUnique = (bytes : List ℕ) (a b : List Attribute) (f g : Option DecodeError) → Walk bytes a f → Walk bytes b g → (a ≡ b) × (f ≡ g)
+
+-- a fault is itself, as a walk's faults are no free text
+fault_itself : (bytes : List ℕ) (e : DecodeError) → IsFault bytes e → SameRefusal e e
+fault_itself bytes (NlaBufferTooSmall size least) is = refl
+fault_itself bytes (NlaLengthMismatch size said) is = refl
+fault_itself bytes (NlaInvalidLength least said) is = refl
+fault_itself bytes e is = absurd is
+
+walk_itself : (bytes : List ℕ) (all : List Attribute) (e : Option DecodeError) → Walk bytes all e → SameFault e e
+walk_itself bytes [] None walk = tt
+walk_itself bytes [] (Some e) (some, is) = fault_itself bytes e is
+walk_itself bytes (a ∷ more) e (rest, starts, walk) = walk_itself rest more e walk
+
+same_fault : (bytes : List ℕ) (all : List Attribute) (e f : Option DecodeError) → Walk bytes all e → e ≡ f → SameFault e f
+same_fault bytes all e f walk same = subst (λ (x : Option DecodeError). SameFault e x) same (walk_itself bytes all e walk)
+
+pub nlas_once : WalkUnique → (input first second : List ℕ) (e f : Option DecodeError) → Makes Nlas input first e → Makes Nlas input second f → (first ≡ second) × SameFault e f
+unfolding Makes
+nlas_once unique input first second e f (all, walk, is) (all', walk', is') =
+    let same = unique input all all' e f walk walk' in
+    (is ∙ ap nla_lines same.0 ∙ sym is', same_fault input all e f walk same.1)
+
+pub canon_once : WalkUnique → (input first second : List ℕ) (e f : Option DecodeError) → Makes Canon input first e → Makes Canon input second f → (first ≡ second) × SameFault e f
+unfolding Makes
+canon_once unique input first second None None (all, walk, is) (all', walk', is') = (is ∙ ap canonical_block (unique input all all' None None walk walk').0 ∙ sym is', tt)
+canon_once unique input first second None (Some f) (all, walk, is) (none, known, (all', walk')) = absurd (let same = (unique input all all' None (Some f) walk walk').1 in cc)
+canon_once unique input first second (Some e) None (none, known, (all, walk)) (all', walk', is') = absurd (let same = (unique input all all' (Some e) None walk walk').1 in cc)
+canon_once unique input first second (Some e) (Some f) (none, known, (all, walk)) (none', known', (all', walk')) = (none ∙ sym none', same_fault input all (Some e) (Some f) walk (unique input all all' (Some e) (Some f) walk walk').1)

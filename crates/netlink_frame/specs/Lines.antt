@@ -1,6 +1,7 @@
 -- The lines of what is shown. Every line ends with a line feed, 10.
-use Rattle.std.specs.Prelude.{ℕ, ◌+◌, ◌/◌, ◌%◌, nat_lt, if◌then◌else◌, List, [], ◌∷◌, ◌++◌, codes, decimal}
+use Rattle.std.specs.Prelude.{ℕ, ◌+◌, ◌/◌, ◌%◌, nat_lt, if◌then◌else◌, List, [], ◌∷◌, ◌++◌, codes, decimal, length}
 use Rattle.std.specs.Fmt.{signed_decimal}
+use Rattle.netlink_packet_core.specs.Attribute.{Attribute}
 use Rattle.netlink_packet_core.specs.Payload.{raw_code}
 use Rattle.netlink_packet_core.specs.declared.header.NetlinkHeader.{NetlinkHeader}
 use Rattle.netlink_packet_core.specs.declared.payload.NetlinkPayload.{NetlinkPayload}
@@ -51,3 +52,12 @@ header_lines h =
 -- the six lines of a message
 abbrev pub message_lines : NetlinkMessage PingPongMessage → List ℕ
 message_lines m = header_lines m.header ++ (codes "payload " ++ (payload_words m.payload ++ (10 ∷ [])))
+
+-- the line of an attribute: its kind with the flags in four digits, the size of its value, and the value
+abbrev pub nla_line : Attribute → List ℕ
+nla_line a = hex_digits (a.kind / 256 ∷ (a.kind % 256 ∷ [])) ++ (codes " " ++ (decimal (length a.value) ++ (codes " " ++ (shown a.value ++ (10 ∷ [])))))
+
+-- the lines of attributes, one after another
+abbrev pub nla_lines : List Attribute → List ℕ
+nla_lines [] = []
+nla_lines (a ∷ more) = nla_line a ++ nla_lines more

@@ -1,18 +1,21 @@
 -- What a command writes for an input, the fault that it ends with, and what a run did.
 use Rattle.std.specs.Prelude.{◌≡◌, ◌≢◌, ℕ, List, [], Option, None, Some, Result, Ok, Err, codes}
 use Rattle.std.specs.Io.KnownBytes.{Appends}
+use Rattle.netlink_packet_core.specs.Attribute.{Attribute}
+use Rattle.netlink_packet_core.specs.Block.{canonical_block}
 use Rattle.netlink_packet_core.specs.DecodeError.{DecodeError}
 use Rattle.netlink_packet_core.specs.DecodeError.TheVariants.{OutOfMemory}
 use Rattle.netlink_packet_core.specs.Causes.{cause_text}
 use Rattle.netlink_packet_core.specs.Canonical.{Fits, IsNormalizeFault, canonical_frame}
 use Rattle.netlink_packet_core.specs.Frame.{Frame}
 use Rattle.netlink_packet_core.specs.Refusal.{IsRefusal, SameRefusal}
+use Rattle.netlink_packet_core.specs.Walk.{Walk}
 use Rattle.netlink_packet_core.specs.declared.message.NetlinkMessage.{NetlinkMessage}
-use Rattle.netlink_frame.specs.Lines.{message_lines}
+use Rattle.netlink_frame.specs.Lines.{message_lines, nla_lines}
 use Rattle.netlink_frame.specs.PingPong.{ping_pong_decoding, ping_pong_encoding, wants_memory}
 use Rattle.netlink_frame.specs.declared.ping_pong.PingPongMessage.{PingPongMessage}
 use Rattle.netlink_frame.specs.declared.command.Command.{Command}
-use Rattle.netlink_frame.specs.declared.command.Command.TheVariants.{Normalize, Show}
+use Rattle.netlink_frame.specs.declared.command.Command.TheVariants.{Normalize, Show, Nlas, Canon}
 use Rattle.netlink_frame.specs.declared.run.Fault.{Fault}
 use Rattle.netlink_frame.specs.declared.run.Fault.TheVariants.{Read, Write, Decode}
 
@@ -25,6 +28,9 @@ Makes Normalize input output (Some e) =
 Makes Show input output None =
     (m : NetlinkMessage PingPongMessage) × Frame ping_pong_decoding input m × (output ≡ message_lines m)
 Makes Show input output (Some e) = (output ≡ []) × (e ≢ OutOfMemory) × IsRefusal ping_pong_decoding wants_memory input e
+Makes Nlas input output fault = (all : List Attribute) × Walk input all fault × (output ≡ nla_lines all)
+Makes Canon input output None = (all : List Attribute) × Walk input all None × (output ≡ canonical_block all)
+Makes Canon input output (Some e) = (output ≡ []) × (e ≢ OutOfMemory) × ((all : List Attribute) × Walk input all (Some e))
 
 -- two faults are one, but for the words that follow the fixed beginning of a free text
 abbrev pub SameFault : Option DecodeError → Option DecodeError → Type 0

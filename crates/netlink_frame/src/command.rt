@@ -9,6 +9,10 @@ pub enum Command {
     Normalize,
     /// The six lines of that message.
     Show,
+    /// The lines of the attributes that the input is, up to a fault.
+    Nlas,
+    /// The canonical block of those attributes.
+    Canon,
 }
 
 impl Command {
@@ -16,10 +20,14 @@ impl Command {
     pub fn from_text(word: &str) -> Option<Command>
         ensures normalize { (result ≡ Some Command.Normalize) ↔ (word.now ≡ codes "normalize") }
         ensures show { (result ≡ Some Command.Show) ↔ (word.now ≡ codes "show") }
+        ensures nlas { (result ≡ Some Command.Nlas) ↔ (word.now ≡ codes "nlas") }
+        ensures canon { (result ≡ Some Command.Canon) ↔ (word.now ≡ codes "canon") }
     {
         match word {
             "normalize" => Some(Command::Normalize),
             "show" => Some(Command::Show),
+            "nlas" => Some(Command::Nlas),
+            "canon" => Some(Command::Canon),
             _ => None,
         }
     }

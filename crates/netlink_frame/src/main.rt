@@ -3,6 +3,7 @@
 
 mod command;
 pub mod laws;
+mod nlas;
 mod ping_pong;
 mod run;
 #[cfg(test)]

@@ -2,13 +2,14 @@
 
 ghost use Rattle.std.specs.Prelude.{◌≡◌, ◌≢◌, [], Some, IfOk, IfErr, IfSome};
 ghost use Rattle.std.specs.Io.KnownBytes.{Keeps};
-ghost use Rattle.netlink_frame.specs.declared.command.Command.TheVariants.{Normalize, Show};
+ghost use Rattle.netlink_frame.specs.declared.command.Command.TheVariants.{Normalize, Show, Nlas, Canon};
 ghost use Rattle.netlink_frame.specs.Run.{Answers, IsEarly, Makes, fault_text};
 
 use crate::command::Command;
+use crate::nlas::{nlas_fault, nlas_text};
 use crate::ping_pong::PingPongMessage;
 use crate::text::show_text;
-use netlink_packet_core::{DecodeError, NetlinkMessage, normalize};
+use netlink_packet_core::{DecodeError, NetlinkMessage, normalize, normalize_nlas};
 use std::alloc::{AllocError, Global};
 use std::io::{Read, Write};
 use std::{fmt, io};
@@ -112,6 +113,8 @@ fn answer_to(alloc: Global, command: Command, input: &[u8]) -> Result<Answer, Al
     match command {
         Command::Normalize => normalized(alloc, input),
         Command::Show => shown(alloc, input),
+        Command::Nlas => walked(alloc, input),
+        Command::Canon => rewritten(alloc, input),
     }
 }
 
@@ -144,6 +147,36 @@ fn shown(alloc: Global, input: &[u8]) -> Result<Answer, AllocError>
             }),
             Err(_) => Err(AllocError),
         },
+        Err(cause) => refused(alloc, cause),
+    }
+}
+
+/// The lines of attributes, and the fault that they end with.
+#[tactic(auto, unfolding(crate::specs::Run::Makes))]
+fn walked(alloc: Global, input: &[u8]) -> Result<Answer, AllocError>
+    ensures makes { IfOk result (λ answer. Makes Nlas input.now answer.output.items answer.fault) }
+    ensures fault { IfOk result (λ answer. IfSome answer.fault (λ e. e ≢ DecodeError.OutOfMemory)) }
+{
+    match nlas_text(alloc, input) {
+        Ok(text) => Ok(Answer {
+            output: text.into_bytes(),
+            fault: nlas_fault(input),
+        }),
+        Err(_) => Err(AllocError),
+    }
+}
+
+/// The canonical block of attributes, or the fault.
+#[tactic(auto, unfolding(crate::specs::Run::Makes))]
+fn rewritten(alloc: Global, input: &[u8]) -> Result<Answer, AllocError>
+    ensures makes { IfOk result (λ answer. Makes Canon input.now answer.output.items answer.fault) }
+    ensures fault { IfOk result (λ answer. IfSome answer.fault (λ e. e ≢ DecodeError.OutOfMemory)) }
+{
+    match normalize_nlas(alloc, input) {
+        Ok(output) => Ok(Answer {
+            output,
+            fault: None,
+        }),
         Err(cause) => refused(alloc, cause),
     }
 }

@@ -1,3 +1,4 @@
+mod attributes;
 mod messages;
 mod refusals;
 mod runs;

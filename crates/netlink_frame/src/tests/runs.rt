@@ -66,14 +66,16 @@ fn a_closed_writer(rt: HostRuntime) {
 fn words_and_faults(rt: HostRuntime) -> Result<(), Fail> {
     assert!(rt; Command::from_text("normalize") == Some(Command::Normalize));
     assert!(rt; Command::from_text("show") == Some(Command::Show));
+    assert!(rt; Command::from_text("nlas") == Some(Command::Nlas));
+    assert!(rt; Command::from_text("canon") == Some(Command::Canon));
     for word in [
         "",
         "Normalize",
         "normalise",
         "normalize ",
         "shows",
-        "nlas",
-        "canon",
+        "nla",
+        "canonical",
         "frames",
     ] {
         assert!(rt; Command::from_text(word).is_none());
