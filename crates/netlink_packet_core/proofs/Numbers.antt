@@ -1,5 +1,5 @@
 -- Numbers at their places, and codes with what stands behind them.
-use Rattle.std.proofs.Common.{◌≡◌, ℕ, zero, suc, ℤ, ◌+◌, ◌<◌, ◌≤◌, ◌^◌, List, [], ◌∷◌, ◌++◌, length, take, drop, refl, ap, sym, ◌∙◌, arith, length-append}
+use Rattle.std.proofs.Common.{◌≡◌, ℕ, zero, suc, ℤ, ◌+◌, ◌<◌, ◌≤◌, ◌^◌, List, [], ◌∷◌, ◌++◌, length, take, drop, refl, ap, sym, ◌∙◌, arith}
 use Rattle.std.proofs.lemmas.List.{take-append-drop, length-take-le, get_or-drop, take_at, drop_at}
 use Rattle.netlink_bytes.specs.Numbers.{IsBytes, IsSigned, number_le, text_le, signed, unsigned}
 use Rattle.netlink_bytes.specs.NumberLaws.{length-text_le, number_le-text_le, number_le-fits, text_le-number_le, signed-unsigned, unsigned-signed, unsigned-fits, signed-fits}

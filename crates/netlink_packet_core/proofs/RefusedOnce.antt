@@ -1,9 +1,8 @@
 -- Bytes are refused in one way.
-use Rattle.std.proofs.Common.{◌≡◌, ◌⊎◌, ℕ, List, length, refl, sym, ◌∙◌, subst, arith, inl, inr, Bool, true}
-use Rattle.std.specs.Prelude.{◌≢◌, string_bytes}
+use Rattle.std.proofs.Common.{ℕ, List, refl, arith, inl, inr, Bool, true}
+use Rattle.std.specs.Prelude.{◌≢◌}
 use Rattle.netlink_bytes.specs.declared.error.DecodeError.{DecodeError}
 use Rattle.netlink_bytes.specs.declared.error.DecodeError.TheVariants.{FrameShort, FrameCut, FrameLength, DoneShort, ErrorShort, Message, OutOfMemory}
-use Rattle.netlink_packet_core.specs.Header.{field}
 use Rattle.netlink_packet_core.specs.Protocol.{Decoding}
 use Rattle.netlink_packet_core.specs.Refusal.{IsFrameFault, IsBodyFault, IsDoneFault, IsErrorFault, IsOverrunFault, IsInnerFault, IsRefusal, SameRefusal}
 use Rattle.netlink_packet_core.proofs.Headers.{begins-holds}

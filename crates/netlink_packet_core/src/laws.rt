@@ -13,7 +13,8 @@ use crate::message::NetlinkMessage;
 use crate::payload::NetlinkPayload;
 use crate::traits::{NetlinkDeserializable, NetlinkProtocol};
 pub use netlink_attributes::laws::{
-    attributes_equal, slice_views_equal, views_equal, walk_given, walk_stops, walk_total, walk_unique, walks_equal, written_reads_back, written_walks,
+    attributes_equal, slice_views_equal, views_equal, walk_given, walk_stops, walk_total,
+    walk_unique, walks_equal, written_reads_back, written_walks,
 };
 use netlink_bytes::DecodeError;
 

@@ -1,4 +1,4 @@
-use Rattle.std.proofs.Common.{◌≡◌, List, ℕ, drop, length, ◌≤◌, arith, ap, sym, ◌∙◌, subst}
+use Rattle.std.proofs.Common.{List, ℕ, drop, length, ◌≤◌, arith, ap, sym, ◌∙◌, subst}
 use Rattle.netlink_bytes.specs.Numbers.{IsBytes}
 use Rattle.netlink_packet_core.specs.Header.{IsHeader, field, header_of}
 use Rattle.netlink_packet_core.proofs.Headers.{header_text-header_of, header_in_range, same_header}
