@@ -1,5 +1,5 @@
 -- What is shown, as far as a loop has come, and once for each message.
-use Rattle.std.proofs.Common.{◌≡◌, ℕ, ℤ, zero, suc, ◌+◌, ◌/◌, ◌%◌, ◌<◌, List, [], ◌∷◌, ◌++◌, length, take, slice_index, refl, ap, sym, ◌∙◌, arith, add-one, append_assoc}
+use Rattle.std.proofs.Common.{◌≡◌, ℕ, zero, suc, ◌+◌, ◌/◌, ◌%◌, ◌<◌, List, [], ◌∷◌, ◌++◌, length, take, slice_index, refl, ap, ◌∙◌, arith, add-one, append_assoc}
 use Rattle.netlink_frame.specs.Lines.{hex_digit, hex_digits}
 
 more_digits : (bytes : List ℕ) (i : ℕ) → i < length bytes → hex_digits (take (suc i) bytes) ≡ hex_digits (take i bytes) ++ (hex_digit (slice_index bytes i / 16) ∷ (hex_digit (slice_index bytes i % 16) ∷ []))
