@@ -1,0 +1,75 @@
+//! A program's use of the protocol: a request is read, and its answer is written.
+
+ghost use Rattle.std.specs.Prelude.{◌≡◌, ◌⊎◌, IfErr, IfOk, IsErrAnd, MatchResult};
+ghost use Rattle.netlink_packet_core.specs.Canonical.{Fits, IsTooLong, canonical_frame};
+ghost use Rattle.netlink_packet_core.specs.Frame.{Frame};
+ghost use Rattle.netlink_packet_core.specs.Refusal.{IsRefusal};
+ghost use Rattle.netlink_example.specs.Answer.{IsAnswerFault, Message, answer_to};
+ghost use Rattle.netlink_example.specs.Generic.{generic_decoding, generic_encoding, wants_memory};
+
+use crate::message::GenericMessage;
+use netlink_packet_core::laws::frame_unique;
+use netlink_packet_core::{DecodeError, NetlinkMessage, NetlinkPayload};
+use std::alloc::{AllocError, Global};
+
+/// Reads the request that a datagram begins with, and writes its answer: the request with this
+/// command and no flags, as one frame. A done, an error, a no-op or an overrun keeps its payload.
+///
+/// Refuses what `NetlinkMessage::deserialize` refuses, with the same cause (C9 to C14, and C16);
+/// an answer whose length does not fit 32 bits with C15; and with C16 where memory was refused.
+pub fn answered(alloc: Global, datagram: &[u8], command: u8) -> Result<Vec<u8>, DecodeError>
+    // What is written is the canonical frame of the answer to the request in the datagram.
+    ensures accepts { IfOk result (λ answer. (request : Message)
+        × Frame generic_decoding datagram.now request
+        × Fits generic_encoding (answer_to command request)
+        × (answer.items ≡ canonical_frame generic_encoding (answer_to command request))) }
+    ensures writes { (request : Message) → Frame generic_decoding datagram.now request
+        → Fits generic_encoding (answer_to command request)
+        → MatchResult result
+        (λ answer. answer.items ≡ canonical_frame generic_encoding (answer_to command request))
+        (λ e. e ≡ DecodeError.OutOfMemory) }
+
+    // C15 comes exactly where the answer does not fit; C16 there is the reading's alone.
+    ensures too_long { (request : Message) → Frame generic_decoding datagram.now request
+        → IsTooLong generic_encoding (answer_to command request)
+        → IsErrAnd result (λ e. (e ≡ DecodeError.TooLong)
+        ⊎ ((e ≡ DecodeError.OutOfMemory) × IsRefusal generic_decoding wants_memory datagram.now e)) }
+    ensures refuses { IfErr result (IsAnswerFault command datagram.now) }
+{
+    frame_unique::<GenericMessage>();
+    let request = NetlinkMessage::<GenericMessage>::deserialize(alloc, datagram)?;
+    let answer = changed(request, command);
+    if !answer.fits() {
+        return Err(DecodeError::TooLong);
+    }
+    Ok(written(alloc, answer)?)
+}
+
+/// The answer to a request.
+fn changed(
+    mut request: NetlinkMessage<GenericMessage>,
+    command: u8,
+) -> NetlinkMessage<GenericMessage>
+    ensures { result ≡ answer_to command request }
+{
+    request.header.flags = 0;
+    if let NetlinkPayload::InnerMessage(message) = &mut request.payload {
+        message.command = command;
+    }
+    request
+}
+
+/// The canonical frame of a message, in a buffer of its exact size.
+fn written(
+    alloc: Global,
+    mut message: NetlinkMessage<GenericMessage>,
+) -> Result<Vec<u8>, AllocError>
+    requires { Fits generic_encoding message }
+    ensures { IfOk result (λ frame. frame.items ≡ canonical_frame generic_encoding message) }
+{
+    message.finalize();
+    let size = message.buffer_len();
+    let mut frame = vec![in alloc; 0u8; size]?;
+    message.serialize(&mut frame);
+    Ok(frame)
+}

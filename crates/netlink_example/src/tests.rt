@@ -1,0 +1,3 @@
+mod answers;
+mod messages;
+mod refusals;
