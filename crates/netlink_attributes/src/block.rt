@@ -64,7 +64,7 @@ fn rewritten(alloc: Global, bytes: &[u8]) -> Result<Vec<u8>, DecodeError>
                 let size = nla.length() as usize;
                 append_padded(&mut block, &nla.into_inner()[..size])?;
             }
-            Err(fault) => return Err(fault),
+            Err(damage) => return Err(damage),
         }
     }
     Ok(block)
@@ -90,8 +90,10 @@ fn append_zeros(block: &mut Vec<u8>, count: usize) -> Result<(), AllocError>
     block.extend_from_slice(&[0, 0, 0][..count])
 }
 
-/// Adds an attribute to a block, with its padding of zeros. One request for memory at most; where it
-/// is refused the answer is C16, and the block is as it was.
+/// Adds an attribute to a block, its kind as it is, with its padding of zeros.
+///
+/// The value has at most 65531 bytes. There is one request for memory at most, of the block's own
+/// allocator; where it is refused the answer is C16, and the block is as it was.
 pub fn append_nla(
     _alloc: Global,
     block: &mut Vec<u8>,

@@ -12,7 +12,10 @@ ghost use Rattle.netlink_attributes.specs.Walk.{IsFault};
 use crate::constants::{NLA_F_NESTED, NLA_F_NET_BYTEORDER, NLA_HEADER_SIZE, NLA_TYPE_MASK};
 use netlink_bytes::{DecodeError, Storage, StorageMut};
 
-/// The bytes of an attribute (`struct nlattr` of linux/netlink.h), looked at in place. No call asks for memory.
+/// The bytes of an attribute (`struct nlattr` of linux/netlink.h), looked at in place.
+///
+/// A length of 16 bits, a kind of 16 bits and the value, both numbers in native order, the lowest byte
+/// first. Sizes and lengths are in bytes. No call asks for memory.
 #[derive(Clone, Copy, Debug, PartialEq, Eq, Drop)]
 pub struct NlaBuffer<T: Storage> {
     buffer: T,
@@ -164,8 +167,8 @@ impl<T: StorageMut> NlaBuffer<T> {
         ensures bytes { T.held (storage_of self.new) ≡ with_kind (T.held (storage_of self.old)) (nested (raw_kind (T.held (storage_of self.old)))) }
         ensures same_storage { storage_of self.new ≡ T.holding (storage_of self.old) (with_kind (T.held (storage_of self.old)) (nested (raw_kind (T.held (storage_of self.old))))) }
     {
-        let kind = self.kind();
-        self.set_raw_kind(kind | NLA_F_NESTED)
+        let kind = self.kind() | NLA_F_NESTED;
+        self.set_raw_kind(kind)
     }
 
     /// Sets the bit `NLA_F_NET_BYTEORDER` of the kind and clears `NLA_F_NESTED`; no byte outside the kind field changes.
@@ -175,8 +178,8 @@ impl<T: StorageMut> NlaBuffer<T> {
         ensures bytes { T.held (storage_of self.new) ≡ with_kind (T.held (storage_of self.old)) (network_byteorder (raw_kind (T.held (storage_of self.old)))) }
         ensures same_storage { storage_of self.new ≡ T.holding (storage_of self.old) (with_kind (T.held (storage_of self.old)) (network_byteorder (raw_kind (T.held (storage_of self.old))))) }
     {
-        let kind = self.kind();
-        self.set_raw_kind(kind | NLA_F_NET_BYTEORDER)
+        let kind = self.kind() | NLA_F_NET_BYTEORDER;
+        self.set_raw_kind(kind)
     }
 
     /// Sets the kind field as it is given.
