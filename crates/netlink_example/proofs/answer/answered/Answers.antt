@@ -1,4 +1,4 @@
-use Rattle.std.proofs.Common.{inl, inr, ◌∙◌}
+use Rattle.std.proofs.Common.{rules, inl, inr, refl, ◌∙◌}
 use Rattle.std.proofs.lemmas.Result.{err_from_is_err_and}
 use Rattle.netlink_example.proofs.Alike.{SameRequest, fits_alike, not_both, written_alike}
 use Rattle.netlink_example.proofs.answer.answered.Goals as goal
@@ -24,6 +24,9 @@ returns-then-not-fits-clause-writes c request frame fits =
     let same : SameRequest read request = record { header = law.0; payload = law.1 } in
     let holds = c.fits.ensures.fits.1 (fits_alike c.args.command read request c.changed-answer.result same c.changed-answer.ensures fits) in
     cc
+
+pub returns-then-not-fits-clause-refuses : goal.returns-then-not-fits-clause-refuses
+returns-then-not-fits-clause-refuses c = inr (inl (refl, (c.in_ok-request.request, c.in_ok-request.ensures.accepts, search rules)))
 
 pub returns-in_err-written-clause-too_long : goal.returns-in_err-written-clause-too_long
 returns-in_err-written-clause-too_long c request frame long =
