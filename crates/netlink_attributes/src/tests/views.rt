@@ -56,11 +56,7 @@ fn fields_are_read(rt: HostRuntime) {
 #[test]
 fn damaged_bytes_are_refused(rt: HostRuntime) -> Result<(), Fail> {
     let rows: [(&[u8], u8, &str); 4] = [
-        (
-            &[],
-            5,
-            "buffer has length 0, but an NLA header is 4 bytes",
-        ),
+        (&[], 5, "buffer has length 0, but an NLA header is 4 bytes"),
         (
             &[5, 0, 1],
             5,

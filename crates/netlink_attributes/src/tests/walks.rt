@@ -58,10 +58,7 @@ fn walks_give_attributes_and_then_the_fault(rt: HostRuntime) -> Result<(), Fail>
 }
 
 /// Kind and size of each attribute, their values, and the text of the fault.
-fn walked(
-    alloc: Global,
-    bytes: &[u8],
-) -> Result<(Vec<(u16, usize)>, Vec<u8>, String), AllocError> {
+fn walked(alloc: Global, bytes: &[u8]) -> Result<(Vec<(u16, usize)>, Vec<u8>, String), AllocError> {
     let mut found = Vec::new(alloc);
     let mut values = Vec::new(alloc);
     let mut text = String::new(alloc);

@@ -2,9 +2,7 @@
 
 ghost use Rattle.std.specs.Prelude.{◌∷◌, []};
 
-use crate::{
-    DefaultNla, Nla, NlaBuffer, Nlas, append_nla, emit_nla, nla_buffer_len, nla_fits,
-};
+use crate::{DefaultNla, Nla, NlaBuffer, Nlas, append_nla, emit_nla, nla_buffer_len, nla_fits};
 use netlink_bytes::{Emitable, Parseable};
 use std::test::Fail;
 
@@ -111,7 +109,15 @@ fn the_longest_value(rt: HostRuntime) -> Result<(), Fail> {
         emit_nla(&longest, written.as_mut_slice());
     }
     assert_eq!(rt; written.len(), 65536);
-    let bytes = [(0, 0xff), (1, 0xff), (2, 1), (3, 0), (4, 9), (65534, 9), (65535, 0)];
+    let bytes = [
+        (0, 0xff),
+        (1, 0xff),
+        (2, 1),
+        (3, 0),
+        (4, 9),
+        (65534, 9),
+        (65535, 0),
+    ];
     for (at, byte) in bytes {
         assert_eq!(rt; written.get(at).copied(), Some(byte));
     }
