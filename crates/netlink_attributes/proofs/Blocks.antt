@@ -1,7 +1,8 @@
 -- What is written of a list, and what is canonical.
-use Rattle.std.proofs.Common.{◌≡◌, ◌↔◌, ℕ, suc, List, [], ◌∷◌, ◌++◌, length, refl, ap, sym, subst, ◌∙◌, inl, arith, None, All, append_assoc, append-nil}
+use Rattle.std.proofs.Common.{◌≡◌, ◌↔◌, ℕ, suc, List, [], ◌∷◌, ◌++◌, length, refl, ap, sym, subst, ◌∙◌, inl, arith, Option, None, All, append_assoc, append-nil}
 use Rattle.std.proofs.lemmas.List.{length-replicate}
 use Rattle.std.specs.Prelude.{replicate}
+use Rattle.netlink_bytes.specs.declared.error.DecodeError.{DecodeError}
 use Rattle.netlink_attributes.specs.Attribute.{Attribute, FitsAttribute, attribute_text, padded, padding}
 use Rattle.netlink_attributes.specs.Block.{canonical_block, IsBlockOf, IsCanonicalBlock}
 use Rattle.netlink_attributes.specs.Views.{attribute_of, HoldsAttribute}
@@ -30,12 +31,12 @@ holds_padded a rest fits =
     record { header = omega (arith, size); least = omega (arith, field); most = omega (arith, field, size) }
 
 -- a block of attributes walks as them
-block_walks : (bytes : List ℕ) (all : List Attribute) → IsBlockOf bytes all → Walk bytes all None
+pub block_walks : (bytes : List ℕ) (all : List Attribute) → IsBlockOf bytes all → Walk bytes all None
 block_walks bytes [] none = none
 block_walks bytes (a ∷ more) (rest, fits, whole, block) = (rest, starts_padded bytes a rest fits whole, block_walks rest more block)
 
 -- and is what is written of them
-block_text : (bytes : List ℕ) (all : List Attribute) → IsBlockOf bytes all → bytes ≡ canonical_block all
+pub block_text : (bytes : List ℕ) (all : List Attribute) → IsBlockOf bytes all → bytes ≡ canonical_block all
 block_text bytes [] none = none
 block_text bytes (a ∷ more) (rest, fits, whole, block) =
     whole ∙ sym (padded-append a rest) ∙ ap (λ (x : List ℕ). padded a ++ x) (block_text rest more block)
@@ -69,3 +70,23 @@ unchanged bytes all walk = (
 pub block_push : (done : List Attribute) (a : Attribute) → canonical_block (done ++ (a ∷ [])) ≡ canonical_block done ++ padded a
 block_push [] a = append-nil (padded a)
 block_push (first ∷ done) a = ap (λ x. padded first ++ x) (block_push done a) ∙ sym (append_assoc (padded first) (canonical_block done) (padded a))
+
+block_joined : (bytes : List ℕ) (block more : List Attribute) (after : List ℕ) (fault : Option DecodeError) → IsBlockOf bytes block → Walk after more fault → Walk (bytes ++ after) (block ++ more) fault
+block_joined bytes [] more after fault none later = subst (λ (x : List ℕ). Walk (x ++ after) more fault) (sym none) later
+block_joined bytes (a ∷ block) more after fault (rest, fits, whole, is) later =
+    let zeros : List ℕ = replicate (padding (length a.value)) 0 in
+    let joined : bytes ++ after ≡ attribute_text a ++ (zeros ++ (rest ++ after)) =
+    ap (λ (x : List ℕ). x ++ after) whole ∙ append_assoc (attribute_text a) (zeros ++ rest) after ∙ ap (λ (x : List ℕ). attribute_text a ++ x) (append_assoc zeros rest after) in
+    (rest ++ after, starts_padded (bytes ++ after) a (rest ++ after) fits joined, block_joined rest block more after fault is later)
+
+-- behind a block of attributes any bytes walk as they do alone
+pub walk_joined : (bytes : List ℕ) (block all more : List Attribute) (after : List ℕ) (fault : Option DecodeError) → IsBlockOf bytes block → Walk bytes all None → Walk after more fault → Walk (bytes ++ after) (all ++ more) fault
+walk_joined bytes block all more after fault is walk later =
+    subst (λ (x : List Attribute). Walk (bytes ++ after) (x ++ more) fault) (walk_once bytes block all None None (block_walks bytes block is) walk).0 (block_joined bytes block more after fault is later)
+
+-- blocks are written alike exactly of the same attributes
+pub written_alike : (a b : List ℕ) (x y : List Attribute) → Walk a x None → Walk b y None → (canonical_block x ≡ canonical_block y) ↔ (x ≡ y)
+written_alike a b x y walk other = (
+  λ same. (walk_once (canonical_block y) x y None None (subst (λ (block : List ℕ). Walk block x None) same (block_walks (canonical_block x) x (walked_block a x walk))) (block_walks (canonical_block y) y (walked_block b y other))).0,
+  λ same. ap canonical_block same,
+)

@@ -1,5 +1,7 @@
 pub mod Blocks
+pub mod Cutting
 pub mod Fields
+pub mod Older
 pub mod Passing
 pub mod Normalizing
 pub mod Placing

@@ -1,6 +1,8 @@
 pub mod Attribute
 pub mod Block
+pub mod Cuts
 pub mod Nla
+pub mod OlderBlock
 pub mod Places
 pub mod Sizes
 pub mod Steps

@@ -1,13 +1,15 @@
 //! Laws over the definitions alone: each has an empty body, and its contract is the law.
 
-ghost use Rattle.std.specs.Prelude.{◌≡◌, ◌↔◌, ◌++◌, ℕ, List, [], Option, None, All, IsTrue};
+ghost use Rattle.std.specs.Prelude.{◌≡◌, ◌↔◌, ◌≤◌, ◌++◌, ℕ, List, [], Option, Some, None, All, IsTrue, length, take};
 ghost use denote.Ref.{Bor};
 ghost use Rattle.netlink_bytes.specs.Numbers.{IsBytes};
 ghost use Rattle.netlink_bytes.specs.declared.error.DecodeError.{DecodeError};
 ghost use Rattle.netlink_attributes.specs.Attribute.{Attribute, FitsAttribute, padded};
 ghost use Rattle.netlink_attributes.specs.Block.{canonical_block, IsCanonicalBlock};
+ghost use Rattle.netlink_attributes.specs.Cuts.{kept_by, IsCutAt, cut_fault};
 ghost use Rattle.netlink_attributes.specs.Steps.{unread, GivesWalk};
 ghost use Rattle.netlink_attributes.specs.Nla.{kept_attribute};
+ghost use Rattle.netlink_attributes.specs.OlderBlock.{older_canonical_block, IsOlderCanonicalBlock};
 ghost use Rattle.netlink_attributes.specs.Views.{attribute_of, shown, storage_of, HoldsAttribute};
 ghost use Rattle.netlink_attributes.specs.Walk.{Walk, Item, Gives};
 ghost use Rattle.netlink_attributes.specs.declared.buffer.NlaBuffer.{NlaBuffer};
@@ -69,4 +71,38 @@ pub fn written_reads_back()
 pub fn written_walks()
     ensures walk { (all : List Attribute) → All FitsAttribute all → Walk (canonical_block all) all None }
     ensures canonical { (all : List Attribute) → All FitsAttribute all → IsCanonicalBlock (canonical_block all) }
+{}
+
+/// The first `cut` bytes walk as the attributes that end by the cut. One error follows exactly if the cut falls inside an attribute or past the start of a fault.
+pub fn walk_cut(bytes: &[u8], cut: usize)
+    requires inside { cut ≤ length bytes.now }
+    ensures attributes { (all : List Attribute) (fault : Option DecodeError) → Walk bytes.now all fault → (end : Option DecodeError) × Walk (take cut bytes.now) (kept_by cut all) end }
+    ensures fault { (all left : List Attribute) (fault end : Option DecodeError) (start : ℕ) → Walk bytes.now all fault → Walk (take cut bytes.now) left end
+        → IsCutAt all fault cut start → end ≡ Some (cut_fault bytes.now start cut) }
+    ensures no_fault { (all left : List Attribute) (fault end : Option DecodeError) → Walk bytes.now all fault → Walk (take cut bytes.now) left end
+        → ((start : ℕ) → IsCutAt all fault cut start → ⊥) → end ≡ None }
+{}
+
+/// Behind a canonical block any bytes walk as they do alone. It is not so where the block lacks its last padding.
+pub fn walk_join(block: &[u8], bytes: &[u8])
+    ensures joined { (all more : List Attribute) (fault : Option DecodeError) → IsCanonicalBlock block.now → Walk block.now all None → Walk bytes.now more fault
+        → Walk (block.now ++ bytes.now) (all ++ more) fault }
+{}
+
+/// Two blocks without fault are written alike exactly if they walk as the same attributes.
+pub fn block_unique(a: &[u8], b: &[u8])
+    ensures unique { (x y : List Attribute) → Walk a.now x None → Walk b.now y None → (canonical_block x ≡ canonical_block y) ↔ (x ≡ y) }
+{}
+
+/// What is written of a block without fault is the block itself exactly if that is canonical, and is canonical.
+pub fn fixed_points(bytes: &[u8])
+    ensures fixed { (all : List Attribute) → Walk bytes.now all None → (canonical_block all ≡ bytes.now) ↔ IsCanonicalBlock bytes.now }
+    ensures canonical { (all : List Attribute) → Walk bytes.now all None → IsCanonicalBlock (canonical_block all) }
+{}
+
+/// A block that was canonical while an attribute with both flag bits lost the one for byte order is so still, and what was written of it then and is now is the block itself.
+pub fn older_block_kept(bytes: &[u8])
+    ensures canonical { IsOlderCanonicalBlock bytes.now → IsCanonicalBlock bytes.now }
+    ensures written { (all : List Attribute) (fault : Option DecodeError) → IsOlderCanonicalBlock bytes.now → Walk bytes.now all fault
+        → (fault ≡ None) × (canonical_block all ≡ bytes.now) × (older_canonical_block all ≡ bytes.now) }
 {}
