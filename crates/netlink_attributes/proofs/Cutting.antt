@@ -221,8 +221,10 @@ walk_left at bytes [] None cut none low inside =
     (None, nothing_left at bytes [] None cut (omega arith))
 walk_left at bytes [] (Some fault) cut (some, is) low inside =
     elim (cases_lt at cut) [
-      | inl past ↦ (Some (fault_of bytes (cut - at)),
-          front_left at bytes [] (Some fault) cut past inside refl (λ long. fault_cut bytes fault (cut - at) is (omega arith) long) (inr (λ none. cc, refl, past)) (λ start is. only_fault at fault cut start is))
+      | inl past ↦ (
+        Some (fault_of bytes (cut - at)),
+        front_left at bytes [] (Some fault) cut past inside refl (λ long. fault_cut bytes fault (cut - at) is (omega arith) long) (inr (λ none. cc, refl, past)) (λ start is. only_fault at fault cut start is),
+      )
       | inr at_once ↦ (None, nothing_left at bytes [] (Some fault) cut (omega arith))
     ]
 walk_left at bytes (a ∷ more) fault cut (rest, starts, walk) low inside =
@@ -230,9 +232,11 @@ walk_left at bytes (a ∷ more) fault cut (rest, starts, walk) low inside =
     let field = starts-length_field bytes a rest starts in
     elim (cases_lt cut (at + (4 + length a.value))) [
       | inl within ↦ elim (cases_lt at cut) [
-        | inl past ↦ (Some (fault_of bytes (cut - at)),
-            front_left at bytes (a ∷ more) fault cut past inside (not_kept at cut a more within) (λ long. inr (omega arith)) (inl (0, at + (4 + length a.value), refl, past, within))
-            (λ start is. elim (cut_first at a more fault cut start is) [ inl first ↦ first.0 | inr behind ↦ absurd (none_cut (at + padded_size a) more fault cut start (omega arith) behind) ]))
+        | inl past ↦ (
+          Some (fault_of bytes (cut - at)),
+          front_left at bytes (a ∷ more) fault cut past inside (not_kept at cut a more within) (λ long. inr (omega arith)) (inl (0, at + (4 + length a.value), refl, past, within))
+              (λ start is. elim (cut_first at a more fault cut start is) [ inl first ↦ first.0 | inr behind ↦ absurd (none_cut (at + padded_size a) more fault cut start (omega arith) behind) ]),
+        )
         | inr at_once ↦ (None, nothing_left at bytes (a ∷ more) fault cut (omega arith))
       ]
       | inr ends ↦ elim (cases_lt cut (at + padded_size a)) [

@@ -1,4 +1,5 @@
 pub mod Blocks
+pub mod Canonicals
 pub mod Cutting
 pub mod Fields
 pub mod Older

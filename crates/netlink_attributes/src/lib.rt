@@ -4,6 +4,7 @@
 mod align;
 mod block;
 mod buffer;
+mod canonical;
 mod constants;
 mod default;
 mod iterator;
@@ -17,6 +18,7 @@ mod tests;
 pub use crate::align::nla_align;
 pub use crate::block::{append_nla, normalize_nlas};
 pub use crate::buffer::NlaBuffer;
+pub use crate::canonical::is_canonical_nlas;
 pub use crate::constants::{
     NLA_ALIGNTO, NLA_F_NESTED, NLA_F_NET_BYTEORDER, NLA_HEADER_SIZE, NLA_TYPE_MASK,
 };

@@ -1,5 +1,6 @@
 //! Worked rows of each public call, and the two tests of the Rust crate.
 
+mod canonical;
 mod views;
 mod walks;
 mod written;

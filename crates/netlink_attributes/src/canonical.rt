@@ -1,0 +1,46 @@
+//! What is canonical, looked at in place.
+
+ghost use Rattle.std.specs.Prelude.{◌≡◌, ◌↔◌, ◌≤◌, ◌<◌, ◌^◌, IsTrue, drop, take, length, replicate};
+ghost use Rattle.netlink_attributes.specs.Attribute.{padding};
+ghost use Rattle.netlink_attributes.specs.Block.{IsCanonicalBlock};
+
+use crate::align::nla_align;
+use crate::iterator::NlasIterator;
+
+/// Whether the bytes are a canonical block: attributes one after another, each with the whole of its padding, of zeros.
+///
+/// No bytes are one. A kind may have any of its 16 bits. Asks for no memory.
+pub fn is_canonical_nlas(bytes: &[u8]) -> bool
+    ensures canonical { IsTrue result ↔ IsCanonicalBlock bytes.now }
+{
+    for item in NlasIterator::new(bytes) {
+        match item {
+            Ok(nla) => {
+                let size = nla.length() as usize;
+                if !is_zero_padded(nla.into_inner(), size) {
+                    return false;
+                }
+            }
+            Err(_) => return false,
+        }
+    }
+    true
+}
+
+/// Whether zeros follow the first `size` bytes up to a multiple of 4.
+#[inline(always)]
+fn is_zero_padded(bytes: &[u8], size: usize) -> bool
+    requires inside { (size ≤ length bytes.now) × (size < 2 ^ 16) }
+    ensures { IsTrue result ↔ (take (padding size) (drop size bytes.now) ≡ replicate (padding size) 0) }
+{
+    let end = nla_align(size);
+    end <= bytes.len() && are_zeros(&bytes[size..end])
+}
+
+/// Whether each byte is 0.
+#[inline(always)]
+fn are_zeros(bytes: &[u8]) -> bool
+    ensures { IsTrue result ↔ (bytes.now ≡ replicate (length bytes.now) 0) }
+{
+    bytes.iter().all(|byte| *byte == 0)
+}
