@@ -49,6 +49,13 @@ canonical_parts decoding bytes h payload canonical begins =
       };
     }
 
+-- and is a whole frame
+pub canonical_holds : {I : Type 0} (decoding : Decoding I) (bytes : List ℕ) → IsCanonicalFrame decoding bytes → HoldsFrame bytes
+canonical_holds decoding bytes canonical =
+    let long = canonical.header in
+    let whole = canonical.whole in
+    record { header = long; least = omega arith; most = omega arith }
+
 -- what a canonical payload reads as is of its type, and is written as it
 pub body_back : {I : Type 0} {eq : I → I → Bool} {encoding : Encoding I} {decoding : Decoding I} → Laws eq encoding decoding → (x : NetlinkPayload I) (h : NetlinkHeader) (payload : List ℕ) → Body decoding h payload x → IsCanonicalBody decoding h payload → (payload_type encoding x ≡ h.message_type) × (payload_text encoding x ≡ payload)
 body_back laws (Done m) h payload (kind, inl none) canonical = let some = canonical.done kind in absurd (omega (arith, ap length none.0))

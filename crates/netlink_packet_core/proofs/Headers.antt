@@ -1,10 +1,10 @@
 -- A header's text read again, and the text of a header that was read.
 use Rattle.std.proofs.Common.{◌≡◌, ℕ, ◌+◌, ◌-◌, ◌≤◌, List, ◌++◌, length, take, drop, refl, ap, sym, ◌∙◌, append_assoc, arith, length-append, length-drop}
-use Rattle.std.proofs.lemmas.List.{take-append-drop, length-take, length-take-le, drop-drop, take_at}
+use Rattle.std.proofs.lemmas.List.{take-append-drop, take-append-le, length-take, length-take-le, drop-drop, take_at}
 use Rattle.netlink_bytes.specs.Numbers.{IsBytes, number_le, text_le}
 use Rattle.netlink_bytes.specs.NumberLaws.{number_le-text_le}
 use Rattle.netlink_packet_core.specs.Header.{header_text, header_of, payload_of, HeaderInRange, HoldsFrame, field}
-use Rattle.netlink_packet_core.specs.Sizes.{length-header_text}
+use Rattle.netlink_packet_core.specs.Sizes.{length-header_text, length-header_and}
 use Rattle.netlink_packet_core.specs.Frame.{Begins}
 use Rattle.netlink_packet_core.specs.declared.header.NetlinkHeader.{NetlinkHeader}
 use Rattle.netlink_packet_core.proofs.Numbers.{IsBytes-drop, IsBytes-take, split_number, number-fits}
@@ -100,3 +100,29 @@ begins-holds bytes h payload b =
 
 pub same_start : (bytes : List ℕ) (h g : NetlinkHeader) (p q : List ℕ) → Begins bytes h p → Begins bytes g q → (h ≡ g) × (p ≡ q)
 same_start bytes h g p q a b = (sym (header-begins bytes h p a) ∙ header-begins bytes g q b, sym (payload-begins bytes h p a) ∙ payload-begins bytes g q b)
+
+-- what follows a whole frame is no part of what the bytes begin with
+pub begins-before : (bytes more : List ℕ) (h : NetlinkHeader) (payload : List ℕ) → Begins bytes h payload → Begins (bytes ++ more) h payload
+begins-before bytes more h payload b = record {
+  rest = b.rest ++ more;
+  whole = ap (λ (s : List ℕ). s ++ more) b.whole ∙ append_assoc (header_text h) (payload ++ b.rest) more
+      ∙ ap (λ (s : List ℕ). header_text h ++ s) (append_assoc payload b.rest more);
+  size = b.size;
+  in_range = b.in_range;
+}
+
+pub begins-front : (bytes more : List ℕ) (h : NetlinkHeader) (payload : List ℕ) → HoldsFrame bytes → Begins (bytes ++ more) h payload → Begins bytes h payload
+begins-front bytes more h payload holds b =
+    let text : List ℕ = header_text h ++ payload in
+    let size : length text ≡ 16 + length payload = length-header_and h payload in
+    let said : field 0 4 bytes ≡ 16 + length payload = ap number_le (sym (take-append-le 4 bytes more (omega (arith, holds.header)))) ∙ length-begins (bytes ++ more) h payload b in
+    let within : length text ≤ length bytes = omega (arith, holds.most) in
+    let taken : take (length text) bytes ≡ text =
+    sym (take-append-le (length text) bytes more within) ∙ ap (take (length text)) (b.whole ∙ sym (append_assoc (header_text h) payload b.rest)) ∙ take_at text b.rest _ refl in
+    record {
+      rest = drop (length text) bytes;
+      whole = sym (take-append-drop (length text) bytes) ∙ ap (λ (s : List ℕ). s ++ drop (length text) bytes) taken
+          ∙ append_assoc (header_text h) payload (drop (length text) bytes);
+      size = b.size;
+      in_range = b.in_range;
+    }

@@ -2,7 +2,6 @@
 use Rattle.std.proofs.Common.{◌≡◌, ℕ, ◌+◌, ◌<◌, ◌^◌, Bool, true, List, length, inl, inr, arith, sym, ap, refl, subst, Some, None}
 use Rattle.netlink_bytes.specs.declared.error.DecodeError.{DecodeError}
 use Rattle.netlink_bytes.specs.declared.error.DecodeError.TheVariants.{DoneShort, ErrorShort, Message, OutOfMemory}
-use Rattle.netlink_packet_core.specs.Header.{HoldsFrame}
 use Rattle.netlink_packet_core.specs.Payload.{payload_text}
 use Rattle.netlink_packet_core.specs.Protocol.{Encoding, Decoding}
 use Rattle.netlink_packet_core.specs.Frame.{Frame}
@@ -10,7 +9,7 @@ use Rattle.netlink_packet_core.specs.Canonical.{Fits, IsTooLong, IsCanonicalFram
 use Rattle.netlink_packet_core.specs.Refusal.{IsBodyFault, IsRefusal}
 use Rattle.netlink_packet_core.proofs.Refusals.{no_frame_fault}
 use Rattle.netlink_packet_core.proofs.Written.{Laws, written_is_canonical}
-use Rattle.netlink_packet_core.proofs.Canonicals.{IsCanonicalBody, canonical_parts, body_back, canonical_is_written}
+use Rattle.netlink_packet_core.proofs.Canonicals.{IsCanonicalBody, canonical_parts, canonical_holds, body_back, canonical_is_written}
 use Rattle.netlink_packet_core.proofs.Once.{frame_once, written_same, body_in_range}
 use Rattle.netlink_packet_core.specs.declared.header.NetlinkHeader.{NetlinkHeader}
 use Rattle.netlink_packet_core.specs.declared.message.NetlinkMessage.{NetlinkMessage}
@@ -31,11 +30,7 @@ canonical_body_refused decoding wants h payload _ is (inr (inr (inr fault))) = a
 
 -- and so is a canonical frame
 pub canonical_refused : {I E : Type 0} (decoding : Decoding I) (wants : E → Bool) (bytes : List ℕ) (e : DecodeError) → IsCanonicalFrame decoding bytes → IsRefusal decoding wants bytes e → e ≡ OutOfMemory
-canonical_refused decoding wants bytes e canonical (inl fault) =
-    let long = canonical.header in
-    let whole = canonical.whole in
-    let holds : HoldsFrame bytes = record { header = long; least = omega arith; most = omega arith } in
-    absurd (no_frame_fault true bytes e holds fault)
+canonical_refused decoding wants bytes e canonical (inl fault) = absurd (no_frame_fault true bytes e (canonical_holds decoding bytes canonical) fault)
 canonical_refused decoding wants bytes e canonical (inr (h, payload, begins, fault)) =
     canonical_body_refused decoding wants h payload e (canonical_parts decoding bytes h payload canonical begins).body fault
 

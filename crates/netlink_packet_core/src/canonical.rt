@@ -1,11 +1,16 @@
 //! The canonical frame of what bytes say.
 
-ghost use Rattle.std.specs.Prelude.{◌≡◌, ◌⊎◌, IfErr, IfOk, IsErrAnd, MatchResult};
+ghost use Rattle.std.specs.Prelude.{◌≡◌, ◌⊎◌, ◌↔◌, Some, IfErr, IfOk, IsErrAnd, IsOk, IsTrue, MatchResult, OnErr};
 ghost use Rattle.netlink_packet_core.specs.Canonical.{Fits, IsCanonicalFrame, IsNormalizeFault, IsTooLong, canonical_frame};
 ghost use Rattle.netlink_packet_core.specs.Frame.{Frame};
-ghost use Rattle.netlink_packet_core.specs.Refusal.{IsRefusal};
+ghost use Rattle.netlink_packet_core.specs.Header.{HoldsFrame, field};
+ghost use Rattle.netlink_packet_core.specs.Protocol.{IsOwnType};
+ghost use Rattle.netlink_packet_core.specs.Refusal.{AsksNoMemory, IsRefusal};
 ghost use Rattle.netlink_packet_core.specs.declared.message.NetlinkMessage.{NetlinkMessage};
 
+use crate::buffer::read_header;
+use crate::constants::{NETLINK_HEADER_LEN, NLMSG_DONE, NLMSG_ERROR, NLMSG_NOOP, NLMSG_OVERRUN};
+use crate::header::NetlinkHeader;
 use crate::message::NetlinkMessage;
 use crate::traits::{NetlinkProtocol, NetlinkSerializable};
 use netlink_bytes::DecodeError;
@@ -50,4 +55,67 @@ fn written<I: NetlinkSerializable + Drop>(
     let mut frame = vec![in alloc; 0u8; size]?;
     message.serialize(&mut frame);
     Ok(frame)
+}
+
+/// Whether the bytes are a canonical frame: what `normalize` leaves as it is. Writes no frame.
+///
+/// What `NetlinkMessage::deserialize` refuses for another cause than want of memory is not canonical.
+/// The only error is C16, and it comes only where the type is the protocol's own: memory is asked
+/// for the protocol's reading, and for a value's text of the payload's size.
+pub fn is_canonical_frame<I: NetlinkProtocol>(
+    alloc: Global,
+    bytes: &[u8],
+) -> Result<bool, DecodeError>
+    ensures says { IfOk result (λ yes. IsTrue yes ↔ IsCanonicalFrame I.decoding bytes.now) }
+    ensures memory { IfErr result (λ e. e ≡ DecodeError.OutOfMemory) }
+    // Only a payload of the protocol's own type may ask for memory.
+    ensures own_type { OnErr result (HoldsFrame bytes.now × IsOwnType (field 4 2 bytes.now)) }
+    ensures no_memory { AsksNoMemory bytes.now → IsOk result }
+{
+    if bytes.len() < NETLINK_HEADER_LEN {
+        return Ok(false);
+    }
+    let header = read_header(bytes);
+    if header.length as usize != bytes.len() {
+        return Ok(false);
+    }
+    let payload = &bytes[NETLINK_HEADER_LEN..];
+    match header.message_type {
+        NLMSG_NOOP => Ok(payload.is_empty()),
+        NLMSG_ERROR | NLMSG_DONE => Ok(payload.len() >= 4),
+        NLMSG_OVERRUN => Ok(true),
+        _ => reads_as_itself::<I>(alloc, &header, payload),
+    }
+}
+
+/// Whether the protocol reads the payload as a value of the header's type whose text is the payload.
+fn reads_as_itself<I: NetlinkProtocol>(
+    alloc: Global,
+    header: &NetlinkHeader,
+    payload: &[u8],
+) -> Result<bool, DecodeError>
+    ensures says { IfOk result (λ yes. IsTrue yes ↔ (I.decoding.reading header.now payload.now ≡ Some (header.now.message_type, payload.now))) }
+    ensures memory { IfErr result (λ e. e ≡ DecodeError.OutOfMemory) }
+{
+    match I::deserialize(alloc, header, payload) {
+        Ok(value) => {
+            if value.message_type() != header.message_type || value.buffer_len() != payload.len() {
+                return Ok(false);
+            }
+            let text = text_of(alloc, &value)?;
+            Ok(text.as_slice() == payload)
+        }
+        Err(error) if I::is_out_of_memory(&error) => Err(DecodeError::OutOfMemory),
+        Err(_) => Ok(false),
+    }
+}
+
+/// The text of a value, in a buffer of its exact size.
+fn text_of<I: NetlinkSerializable>(alloc: Global, value: &I) -> Result<Vec<u8>, AllocError>
+    ensures { IfOk result (λ text. text.items ≡ I.encoding.text_of value.now) }
+{
+    let size = value.buffer_len();
+    let mut text = vec![in alloc; 0u8; size]?;
+    value.serialize(&mut text);
+    Ok(text)
 }

@@ -3,6 +3,7 @@
 ghost use Rattle.std.specs.Prelude.{◌≡◌, ◌≢◌, ◌↔◌, ◌<◌, ◌≤◌, ◌++◌, ℕ, List, true, IsTrue, take, length};
 ghost use Rattle.netlink_packet_core.specs.Canonical.{Fits, IsCanonicalFrame, canonical_frame, finalized};
 ghost use Rattle.netlink_packet_core.specs.Frame.{Frame, SamePayload};
+ghost use Rattle.netlink_packet_core.specs.Header.{field};
 ghost use Rattle.netlink_packet_core.specs.Payload.{InnerInRange, PayloadInRange, payload_text, payload_type};
 ghost use Rattle.netlink_packet_core.specs.Refusal.{IsFrameFault, IsRefusal, SameRefusal};
 ghost use Rattle.netlink_bytes.specs.declared.error.DecodeError.{DecodeError};
@@ -77,3 +78,29 @@ pub fn reads_back<I: NetlinkProtocol>(m: &NetlinkMessage<I>, n: &NetlinkMessage<
     known(&n.payload);
     equal_payloads::<I>();
 }
+
+/// A canonical frame cut short is the frame of no message (C9 below 16 bytes, C10 from there on),
+/// and is not canonical: no canonical frame is a proper beginning of another.
+pub fn cut_refused<I: NetlinkProtocol>(b: &[u8], k: usize)
+    ensures cut { IsCanonicalFrame I.decoding b.now → k < length b.now → (m : NetlinkMessage I) → Frame I.decoding (take k b.now) m → ⊥ }
+    ensures cut_short { IsCanonicalFrame I.decoding b.now → k < 16 → IsFrameFault true (take k b.now) (DecodeError.FrameShort k true) }
+    ensures cut_later { IsCanonicalFrame I.decoding b.now → 16 ≤ k → k < length b.now
+        → IsFrameFault true (take k b.now) (DecodeError.FrameCut (length b.now) k true) }
+    ensures beginning { IsCanonicalFrame I.decoding b.now → k < length b.now → IsCanonicalFrame I.decoding (take k b.now) → ⊥ }
+{}
+
+/// What follows a whole frame decides nothing: with it and without it, the bytes are the frame of
+/// the same messages.
+pub fn tail_ignored<I: NetlinkProtocol>(b: &[u8], c: &[u8])
+    ensures ignored { 16 ≤ field 0 4 b.now → field 0 4 b.now ≤ length b.now
+        → (m : NetlinkMessage I) → (Frame I.decoding (b.now ++ c.now) m) ↔ (Frame I.decoding b.now m) }
+{}
+
+/// The frame of a message that fits is what is written of the message exactly if it is canonical,
+/// and what is written is canonical.
+pub fn frames_fixed<I: NetlinkProtocol>(b: &[u8])
+    ensures fixed { (m : NetlinkMessage I) → Frame I.decoding b.now m → Fits I.encoding m
+        → (canonical_frame I.encoding m ≡ b.now) ↔ IsCanonicalFrame I.decoding b.now }
+    ensures canonical { (m : NetlinkMessage I) → Frame I.decoding b.now m → Fits I.encoding m
+        → IsCanonicalFrame I.decoding (canonical_frame I.encoding m) }
+{}

@@ -16,6 +16,7 @@ mod tests;
 mod traits;
 
 pub use crate::buffer::NetlinkBuffer;
+pub use crate::canonical::is_canonical_frame;
 pub use crate::canonical::normalize;
 pub use crate::constants::NETLINK_HEADER_LEN;
 pub use crate::constants::NLM_F_ACK;

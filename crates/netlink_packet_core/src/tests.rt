@@ -1,4 +1,5 @@
 mod bodies;
+mod canonical;
 mod constants;
 mod headers;
 mod views;
