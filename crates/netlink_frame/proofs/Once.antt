@@ -1,24 +1,25 @@
 -- Each command has one output and one fault.
 use Rattle.std.proofs.Common.{◌≡◌, ◌++◌, List, [], ◌∷◌, ℕ, ℤ, ap, refl, sym, ◌∙◌, subst, inl, inr, arith, Option, Some, None}
-use Rattle.std.specs.Prelude.{◌≢◌, codes}
+use Rattle.std.specs.Prelude.{◌≢◌, false, codes}
 use Rattle.std.specs.Fmt.{signed_decimal}
 use Rattle.netlink_packet_core.specs.Attribute.{Attribute}
 use Rattle.netlink_packet_core.specs.Block.{canonical_block}
 use Rattle.netlink_packet_core.specs.Canonical.{Fits, IsNormalizeFault, canonical_frame}
 use Rattle.netlink_packet_core.specs.DecodeError.{DecodeError}
-use Rattle.netlink_packet_core.specs.DecodeError.TheVariants.{NlaBufferTooSmall, NlaLengthMismatch, NlaInvalidLength, OutOfMemory, TooLong}
+use Rattle.netlink_packet_core.specs.DecodeError.TheVariants.{FrameShort, FrameCut, FrameLength, NlaBufferTooSmall, NlaLengthMismatch, NlaInvalidLength, OutOfMemory, TooLong}
 use Rattle.netlink_packet_core.specs.Frame.{Frame, SamePayload}
 use Rattle.netlink_packet_core.specs.Payload.{raw_code}
 use Rattle.netlink_packet_core.specs.declared.header.NetlinkHeader.{NetlinkHeader}
 use Rattle.netlink_packet_core.specs.declared.payload.NetlinkPayload.{NetlinkPayload}
 use Rattle.netlink_packet_core.specs.declared.payload.NetlinkPayload.TheVariants.{Done, Error, Noop, Overrun, InnerMessage}
-use Rattle.netlink_packet_core.specs.Refusal.{IsRefusal, SameRefusal}
+use Rattle.netlink_packet_core.specs.Refusal.{IsFrameFault, IsRefusal, SameRefusal}
 use Rattle.netlink_packet_core.specs.Walk.{IsFault, Walk}
 use Rattle.netlink_packet_core.specs.declared.message.NetlinkMessage.{NetlinkMessage}
-use Rattle.netlink_frame.specs.Lines.{header_lines, inner_text, message_lines, nla_lines, payload_words, shown}
+use Rattle.netlink_tree.specs.FrameWalk.{FrameWalk}
+use Rattle.netlink_frame.specs.Lines.{frame_lines, header_lines, inner_text, message_lines, nla_lines, payload_words, shown}
 use Rattle.netlink_frame.specs.PingPong.{ping_pong_decoding, ping_pong_encoding, wants_memory}
 use Rattle.netlink_frame.specs.Run.{Makes, SameFault}
-use Rattle.netlink_frame.specs.declared.command.Command.TheVariants.{Normalize, Show, Nlas, Canon}
+use Rattle.netlink_frame.specs.declared.command.Command.TheVariants.{Normalize, Show, Nlas, Canon, Frames}
 use Rattle.netlink_frame.specs.declared.ping_pong.PingPongMessage.{PingPongMessage}
 use Rattle.netlink_frame.specs.declared.ping_pong.PingPongMessage.TheVariants.{Ping, Pong}
 
@@ -124,3 +125,25 @@ canon_once unique input first second None None (all, walk, is) (all', walk', is'
 canon_once unique input first second None (Some f) (all, walk, is) (none, known, (all', walk')) = absurd (let same = (unique input all all' None (Some f) walk walk').1 in cc)
 canon_once unique input first second (Some e) None (none, known, (all, walk)) (all', walk', is') = absurd (let same = (unique input all all' (Some e) None walk walk').1 in cc)
 canon_once unique input first second (Some e) (Some f) (none, known, (all, walk)) (none', known', (all', walk')) = (none ∙ sym none', same_fault input all (Some e) (Some f) walk (unique input all all' (Some e) (Some f) walk walk').1)
+
+-- a datagram is frames in one way
+abbrev pub FramesUnique : Type 0
+FramesUnique = (bytes : List ℕ) (a b : List (List ℕ)) (f g : Option DecodeError) → FrameWalk bytes a f → FrameWalk bytes b g → (a ≡ b) × (f ≡ g)
+
+-- nor are the faults of its frames free text
+frame_fault_itself : (bytes : List ℕ) (e : DecodeError) → IsFrameFault false bytes e → SameRefusal e e
+frame_fault_itself bytes (FrameShort size inside) is = refl
+frame_fault_itself bytes (FrameCut said size inside) is = refl
+frame_fault_itself bytes (FrameLength said inside) is = refl
+frame_fault_itself bytes e is = absurd is
+
+frames_itself : (bytes : List ℕ) (all : List (List ℕ)) (e : Option DecodeError) → FrameWalk bytes all e → SameFault e e
+frames_itself bytes [] None walk = tt
+frames_itself bytes [] (Some e) (some, is) = frame_fault_itself bytes e is
+frames_itself bytes (frame ∷ more) e (rest, starts, walk) = frames_itself rest more e walk
+
+pub frames_once : FramesUnique → (input first second : List ℕ) (e f : Option DecodeError) → Makes Frames input first e → Makes Frames input second f → (first ≡ second) × SameFault e f
+unfolding Makes
+frames_once unique input first second e f (all, walk, is) (all', walk', is') =
+    let same = unique input all all' e f walk walk' in
+    (is ∙ ap frame_lines same.0 ∙ sym is', subst (λ (x : Option DecodeError). SameFault e x) same.1 (frames_itself input all e walk))

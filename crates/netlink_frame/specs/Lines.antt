@@ -2,6 +2,7 @@
 use Rattle.std.specs.Prelude.{ℕ, ◌+◌, ◌/◌, ◌%◌, nat_lt, if◌then◌else◌, List, [], ◌∷◌, ◌++◌, codes, decimal, length}
 use Rattle.std.specs.Fmt.{signed_decimal}
 use Rattle.netlink_packet_core.specs.Attribute.{Attribute}
+use Rattle.netlink_packet_core.specs.Header.{field}
 use Rattle.netlink_packet_core.specs.Payload.{raw_code}
 use Rattle.netlink_packet_core.specs.declared.header.NetlinkHeader.{NetlinkHeader}
 use Rattle.netlink_packet_core.specs.declared.payload.NetlinkPayload.{NetlinkPayload}
@@ -61,3 +62,12 @@ nla_line a = hex_digits (a.kind / 256 ∷ (a.kind % 256 ∷ [])) ++ (codes " " +
 abbrev pub nla_lines : List Attribute → List ℕ
 nla_lines [] = []
 nla_lines (a ∷ more) = nla_line a ++ nla_lines more
+
+-- the line of a frame: its length and its type
+abbrev pub frame_line : List ℕ → List ℕ
+frame_line frame = decimal (field 0 4 frame) ++ (codes " " ++ (decimal (field 4 2 frame) ++ (10 ∷ [])))
+
+-- the lines of frames, one after another
+abbrev pub frame_lines : List (List ℕ) → List ℕ
+frame_lines [] = []
+frame_lines (frame ∷ more) = frame_line frame ++ frame_lines more

@@ -11,11 +11,12 @@ use Rattle.netlink_packet_core.specs.Frame.{Frame}
 use Rattle.netlink_packet_core.specs.Refusal.{IsRefusal, SameRefusal}
 use Rattle.netlink_packet_core.specs.Walk.{Walk}
 use Rattle.netlink_packet_core.specs.declared.message.NetlinkMessage.{NetlinkMessage}
-use Rattle.netlink_frame.specs.Lines.{message_lines, nla_lines}
+use Rattle.netlink_tree.specs.FrameWalk.{FrameWalk}
+use Rattle.netlink_frame.specs.Lines.{message_lines, nla_lines, frame_lines}
 use Rattle.netlink_frame.specs.PingPong.{ping_pong_decoding, ping_pong_encoding, wants_memory}
 use Rattle.netlink_frame.specs.declared.ping_pong.PingPongMessage.{PingPongMessage}
 use Rattle.netlink_frame.specs.declared.command.Command.{Command}
-use Rattle.netlink_frame.specs.declared.command.Command.TheVariants.{Normalize, Show, Nlas, Canon}
+use Rattle.netlink_frame.specs.declared.command.Command.TheVariants.{Normalize, Show, Nlas, Canon, Frames}
 use Rattle.netlink_frame.specs.declared.run.Fault.{Fault}
 use Rattle.netlink_frame.specs.declared.run.Fault.TheVariants.{Read, Write, Decode}
 
@@ -31,6 +32,7 @@ Makes Show input output (Some e) = (output ≡ []) × (e ≢ OutOfMemory) × IsR
 Makes Nlas input output fault = (all : List Attribute) × Walk input all fault × (output ≡ nla_lines all)
 Makes Canon input output None = (all : List Attribute) × Walk input all None × (output ≡ canonical_block all)
 Makes Canon input output (Some e) = (output ≡ []) × (e ≢ OutOfMemory) × ((all : List Attribute) × Walk input all (Some e))
+Makes Frames input output fault = (all : List (List ℕ)) × FrameWalk input all fault × (output ≡ frame_lines all)
 
 -- two faults are one, but for the words that follow the fixed beginning of a free text
 abbrev pub SameFault : Option DecodeError → Option DecodeError → Type 0

@@ -13,6 +13,8 @@ pub enum Command {
     Nlas,
     /// The canonical block of those attributes.
     Canon,
+    /// The lines of the frames that the input is as a datagram, up to a fault.
+    Frames,
 }
 
 impl Command {
@@ -22,12 +24,14 @@ impl Command {
         ensures show { (result ≡ Some Command.Show) ↔ (word.now ≡ codes "show") }
         ensures nlas { (result ≡ Some Command.Nlas) ↔ (word.now ≡ codes "nlas") }
         ensures canon { (result ≡ Some Command.Canon) ↔ (word.now ≡ codes "canon") }
+        ensures frames { (result ≡ Some Command.Frames) ↔ (word.now ≡ codes "frames") }
     {
         match word {
             "normalize" => Some(Command::Normalize),
             "show" => Some(Command::Show),
             "nlas" => Some(Command::Nlas),
             "canon" => Some(Command::Canon),
+            "frames" => Some(Command::Frames),
             _ => None,
         }
     }

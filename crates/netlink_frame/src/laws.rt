@@ -7,6 +7,7 @@ ghost use Rattle.netlink_frame.specs.declared.command.Command.{Command};
 
 use crate::ping_pong::PingPongMessage;
 use netlink_packet_core::laws::{frame_unique, refusal_unique, walk_unique};
+use netlink_tree::laws::frames_unique;
 
 /// A command writes one output for an input and ends with one fault, a refusing protocol's own words aside.
 pub fn makes_once()
@@ -16,4 +17,5 @@ pub fn makes_once()
     frame_unique::<PingPongMessage>();
     refusal_unique::<PingPongMessage>();
     walk_unique();
+    frames_unique();
 }

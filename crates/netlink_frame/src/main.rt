@@ -2,6 +2,7 @@
 #![tactic(auto)]
 
 mod command;
+mod frames;
 pub mod laws;
 mod nlas;
 mod ping_pong;

@@ -2,10 +2,11 @@
 
 ghost use Rattle.std.specs.Prelude.{◌≡◌, ◌≢◌, [], Some, IfOk, IfErr, IfSome};
 ghost use Rattle.std.specs.Io.KnownBytes.{Keeps};
-ghost use Rattle.netlink_frame.specs.declared.command.Command.TheVariants.{Normalize, Show, Nlas, Canon};
+ghost use Rattle.netlink_frame.specs.declared.command.Command.TheVariants.{Normalize, Show, Nlas, Canon, Frames};
 ghost use Rattle.netlink_frame.specs.Run.{Answers, IsEarly, Makes, fault_text};
 
 use crate::command::Command;
+use crate::frames::{frames_fault, frames_text};
 use crate::nlas::{nlas_fault, nlas_text};
 use crate::ping_pong::PingPongMessage;
 use crate::text::show_text;
@@ -115,6 +116,7 @@ fn answer_to(alloc: Global, command: Command, input: &[u8]) -> Result<Answer, Al
         Command::Show => shown(alloc, input),
         Command::Nlas => walked(alloc, input),
         Command::Canon => rewritten(alloc, input),
+        Command::Frames => framed(alloc, input),
     }
 }
 
@@ -178,6 +180,21 @@ fn rewritten(alloc: Global, input: &[u8]) -> Result<Answer, AllocError>
             fault: None,
         }),
         Err(cause) => refused(alloc, cause),
+    }
+}
+
+/// The lines of frames, and the fault that they end with.
+#[tactic(auto, unfolding(crate::specs::Run::Makes))]
+fn framed(alloc: Global, input: &[u8]) -> Result<Answer, AllocError>
+    ensures makes { IfOk result (λ answer. Makes Frames input.now answer.output.items answer.fault) }
+    ensures fault { IfOk result (λ answer. IfSome answer.fault (λ e. e ≢ DecodeError.OutOfMemory)) }
+{
+    match frames_text(alloc, input) {
+        Ok(text) => Ok(Answer {
+            output: text.into_bytes(),
+            fault: frames_fault(input),
+        }),
+        Err(_) => Err(AllocError),
     }
 }
 

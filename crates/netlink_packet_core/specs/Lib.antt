@@ -8,6 +8,8 @@ pub mod Sizes
 -- the words of the crates below, for those who use this one alone
 pub use Rattle.netlink_attributes.specs.Attribute
 pub use Rattle.netlink_attributes.specs.Block
+pub use Rattle.netlink_attributes.specs.Cuts
+pub use Rattle.netlink_attributes.specs.OlderBlock
 pub use Rattle.netlink_attributes.specs.Places
 pub use Rattle.netlink_attributes.specs.Steps
 pub use Rattle.netlink_attributes.specs.Views

@@ -14,7 +14,8 @@ use crate::message::NetlinkMessage;
 use crate::payload::NetlinkPayload;
 use crate::traits::{NetlinkDeserializable, NetlinkProtocol};
 pub use netlink_attributes::laws::{
-    attributes_equal, slice_views_equal, views_equal, walk_given, walk_stops, walk_total,
+    attributes_equal, block_unique, fixed_points, older_block_kept, slice_views_equal,
+    value_replaced, views_equal, walk_cut, walk_given, walk_join, walk_stops, walk_total,
     walk_unique, walks_equal, written_reads_back, written_walks,
 };
 use netlink_bytes::DecodeError;

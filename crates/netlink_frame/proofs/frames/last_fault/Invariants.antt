@@ -1,0 +1,8 @@
+use Rattle.std.proofs.Common.{List, ℕ}
+use Rattle.netlink_tree.specs.FrameSteps.{unread_frames}
+use Rattle.netlink_frame.proofs.Datagrams.{PassesFrames}
+use Rattle.netlink_frame.proofs.frames.last_fault.Given as goal
+
+-- some frames are passed
+abbrev pub invariant-loop-item : goal.invariant-loop-item
+invariant-loop-item l = (done : List (List ℕ)) × PassesFrames l.datagram done (unread_frames l.item-iterator)
