@@ -3,9 +3,12 @@ pub mod Canonicals
 pub mod Cutting
 pub mod Fields
 pub mod Older
+pub mod Lending
 pub mod Passing
 pub mod Normalizing
 pub mod Placing
+pub mod Replacing
 pub mod Starting
+pub mod Values
 pub mod Walking
 pub mod Writing

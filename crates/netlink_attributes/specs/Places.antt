@@ -1,6 +1,7 @@
--- Where the attributes of a walk lie.
-use Rattle.std.specs.Prelude.{ℕ, ◌+◌, ◌≡◌, List, [], ◌∷◌, length, Option, slice_get}
+-- Where the attributes of a walk lie, and what is written there.
+use Rattle.std.specs.Prelude.{ℕ, zero, suc, ◌+◌, ◌≡◌, List, [], ◌∷◌, length, Option, Some, None, IsSomeAnd, nat_le, if◌then◌else◌, slice_get, slice_range}
 use Rattle.std.specs.Option.{option_map}
+use Rattle.netlink_bytes.specs.Storage.{put_at}
 use Rattle.netlink_bytes.specs.declared.error.DecodeError.{DecodeError}
 use Rattle.netlink_attributes.specs.Attribute.{Attribute, padded_size}
 use Rattle.netlink_attributes.specs.Walk.{Walk}
@@ -24,3 +25,27 @@ value_place all index = option_map value_part (slice_get (ends_of all) index)
 -- that place, in the walk of these bytes
 abbrev pub IsPlace : List ℕ → ℕ → Option (ℕ × ℕ) → Type 0
 IsPlace bytes index place = (all : List Attribute) (fault : Option DecodeError) → Walk bytes all fault → place ≡ value_place all index
+
+-- that place by two numbers: it is from start up to end, or there is none where the start is behind the end
+abbrev pub IsRange : List ℕ → ℕ → ℕ → ℕ → Type 0
+IsRange bytes index start end = IsPlace bytes index (if nat_le start end then Some (start, end) else None)
+
+-- there is an attribute with this index, and its value has this size
+abbrev pub HasValueOf : List Attribute → ℕ → ℕ → Type 0
+HasValueOf all index size = IsSomeAnd (value_place all index) (λ place. place.1 ≡ place.0 + size)
+
+-- these are the bytes of the value of the attribute with this index
+abbrev pub IsValue : List ℕ → ℕ → List ℕ → Type 0
+IsValue bytes index value = (all : List Attribute) (fault : Option DecodeError) → Walk bytes all fault
+    → IsSomeAnd (value_place all index) (λ place. value ≡ slice_range bytes place.0 place.1)
+
+-- new is the bytes with this value in place of that of the attribute with this index
+abbrev pub IsWritten : List ℕ → ℕ → List ℕ → List ℕ → Type 0
+IsWritten bytes index value new = (all : List Attribute) (fault : Option DecodeError) → Walk bytes all fault
+    → IsSomeAnd (value_place all index) (λ place. new ≡ put_at bytes place.0 value)
+
+-- the attributes with this value in place of that of the one with this index
+abbrev pub replaced : List Attribute → ℕ → List ℕ → List Attribute
+replaced [] index value = []
+replaced (a ∷ more) zero value = record { kind = a.kind; value = value } ∷ more
+replaced (a ∷ more) (suc index) value = a ∷ replaced more index value

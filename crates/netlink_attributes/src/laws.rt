@@ -1,8 +1,9 @@
 //! Laws over the definitions alone: each has an empty body, and its contract is the law.
 
-ghost use Rattle.std.specs.Prelude.{◌≡◌, ◌↔◌, ◌≤◌, ◌++◌, ℕ, List, [], Option, Some, None, All, IsTrue, length, take};
+ghost use Rattle.std.specs.Prelude.{◌≡◌, ◌↔◌, ◌≤◌, ◌++◌, ℕ, List, [], Option, Some, None, All, IsSomeAnd, IsTrue, length, take};
 ghost use denote.Ref.{Bor};
 ghost use Rattle.netlink_bytes.specs.Numbers.{IsBytes};
+ghost use Rattle.netlink_bytes.specs.Storage.{put_at};
 ghost use Rattle.netlink_bytes.specs.declared.error.DecodeError.{DecodeError};
 ghost use Rattle.netlink_attributes.specs.Attribute.{Attribute, FitsAttribute, padded};
 ghost use Rattle.netlink_attributes.specs.Block.{canonical_block, IsCanonicalBlock};
@@ -10,6 +11,7 @@ ghost use Rattle.netlink_attributes.specs.Cuts.{kept_by, IsCutAt, cut_fault};
 ghost use Rattle.netlink_attributes.specs.Steps.{unread, GivesWalk};
 ghost use Rattle.netlink_attributes.specs.Nla.{kept_attribute};
 ghost use Rattle.netlink_attributes.specs.OlderBlock.{older_canonical_block, IsOlderCanonicalBlock};
+ghost use Rattle.netlink_attributes.specs.Places.{value_place, replaced, HasValueOf, IsWritten};
 ghost use Rattle.netlink_attributes.specs.Views.{attribute_of, shown, storage_of, HoldsAttribute};
 ghost use Rattle.netlink_attributes.specs.Walk.{Walk, Item, Gives};
 ghost use Rattle.netlink_attributes.specs.declared.buffer.NlaBuffer.{NlaBuffer};
@@ -105,4 +107,12 @@ pub fn older_block_kept(bytes: &[u8])
     ensures canonical { IsOlderCanonicalBlock bytes.now → IsCanonicalBlock bytes.now }
     ensures written { (all : List Attribute) (fault : Option DecodeError) → IsOlderCanonicalBlock bytes.now → Walk bytes.now all fault
         → (fault ≡ None) × (canonical_block all ≡ bytes.now) × (older_canonical_block all ≡ bytes.now) }
+/// With as many bytes in place of the value of the attribute with this index, the walk is the old one, its fault too,
+/// with those bytes as that value. Needs such an attribute, with a value of that size.
+pub fn value_replaced(b: &[u8], index: usize, w: &[u8])
+    requires size { (all : List Attribute) (fault : Option DecodeError) → Walk b.now all fault → HasValueOf all index (length w.now) }
+    ensures walk { (all : List Attribute) (fault : Option DecodeError) → Walk b.now all fault → IsSomeAnd (value_place all index) (λ place. Walk (put_at b.now place.0 w.now) (replaced all index w.now) fault) }
+
+    // the same of any block that is so written, as `nlas_value_mut` says it
+    ensures written { (new : List ℕ) → IsWritten b.now index w.now new → (all : List Attribute) (fault : Option DecodeError) → Walk b.now all fault → Walk new (replaced all index w.now) fault }
 {}

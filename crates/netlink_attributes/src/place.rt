@@ -1,7 +1,11 @@
-//! Where an attribute lies in its block.
+//! Where an attribute lies in its block, and its value written in place.
 
-ghost use Rattle.std.specs.Prelude.{◌≤◌, IfSome, length};
-ghost use Rattle.netlink_attributes.specs.Places.{IsPlace};
+ghost use Rattle.std.specs.Prelude.{◌≡◌, ◌≤◌, ◌↔◌, List, Option, IfSome, OnSome, IsNone, length};
+ghost use Rattle.std.specs.Borrow.{LendsSo, Array, sem, u8 as byte};
+ghost use Rattle.netlink_bytes.specs.declared.error.DecodeError.{DecodeError};
+ghost use Rattle.netlink_attributes.specs.Attribute.{Attribute};
+ghost use Rattle.netlink_attributes.specs.Places.{IsPlace, IsRange, IsValue, IsWritten};
+ghost use Rattle.netlink_attributes.specs.Walk.{Walk};
 
 use crate::constants::NLA_HEADER_SIZE;
 use crate::iterator::NlasIterator;
@@ -29,4 +33,39 @@ pub fn nla_place(block: &[u8], index: usize) -> Option<(usize, usize)>
         }
     }
     None
+}
+
+/// The value of the attribute with this index, lent for writing: its bytes become what is written, and no others change.
+///
+/// The index counts from 0, and an attribute in front of a fault has one too. `None` is answered
+/// exactly where there is no such attribute, and the block is then as it was. Asks for no memory.
+pub fn nlas_value_mut(block: &mut [u8], index: usize) -> Option<&mut [u8]>
+    ensures* writes_back { sem 𝓛 (LendsSo (Array byte 0) (Array byte 0) block.entry result (λ new value. OnSome result (IsWritten block.old index value new)) (λ new. new ≡ block.old)) }
+    ensures none { (all : List Attribute) (fault : Option DecodeError) → Walk block.old all fault → IsNone result ↔ (length all ≤ index) }
+    ensures value { IfSome result (λ value. IsValue block.old index value.now) }
+{
+    let (start, end, block) = ranged(block, index);
+    if start > end {
+        return None;
+    }
+    Some(&mut block[start..end])
+}
+
+/// Where the value of the attribute with this index starts and ends, and the block itself.
+fn ranged(block: &mut [u8], index: usize) -> (usize, usize, &mut [u8])
+    ensures same { result.2.ghost_name ≡ block.entry.ghost_name }
+    ensures bytes { result.2.now ≡ block.old }
+    ensures range { IsRange block.old index result.0 result.1 }
+    ensures inside { result.1 ≤ length block.old }
+{
+    let (start, end) = value_range(&block[..], index);
+    (start, end, block)
+}
+
+/// Where that value starts and ends; without such an attribute the start is behind the end.
+fn value_range(block: &[u8], index: usize) -> (usize, usize)
+    ensures range { IsRange block.now index result.0 result.1 }
+    ensures inside { result.1 ≤ length block.now }
+{
+    nla_place(block, index).unwrap_or((1, 0))
 }
