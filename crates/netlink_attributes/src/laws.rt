@@ -107,12 +107,14 @@ pub fn older_block_kept(bytes: &[u8])
     ensures canonical { IsOlderCanonicalBlock bytes.now → IsCanonicalBlock bytes.now }
     ensures written { (all : List Attribute) (fault : Option DecodeError) → IsOlderCanonicalBlock bytes.now → Walk bytes.now all fault
         → (fault ≡ None) × (canonical_block all ≡ bytes.now) × (older_canonical_block all ≡ bytes.now) }
+{}
+
 /// With as many bytes in place of the value of the attribute with this index, the walk is the old one, its fault too,
 /// with those bytes as that value. Needs such an attribute, with a value of that size.
-pub fn value_replaced(b: &[u8], index: usize, w: &[u8])
-    requires size { (all : List Attribute) (fault : Option DecodeError) → Walk b.now all fault → HasValueOf all index (length w.now) }
-    ensures walk { (all : List Attribute) (fault : Option DecodeError) → Walk b.now all fault → IsSomeAnd (value_place all index) (λ place. Walk (put_at b.now place.0 w.now) (replaced all index w.now) fault) }
+pub fn value_replaced(block: &[u8], index: usize, value: &[u8])
+    requires size { (all : List Attribute) (fault : Option DecodeError) → Walk block.now all fault → HasValueOf all index (length value.now) }
+    ensures walk { (all : List Attribute) (fault : Option DecodeError) → Walk block.now all fault → IsSomeAnd (value_place all index) (λ place. Walk (put_at block.now place.0 value.now) (replaced all index value.now) fault) }
 
     // the same of any block that is so written, as `nlas_value_mut` says it
-    ensures written { (new : List ℕ) → IsWritten b.now index w.now new → (all : List Attribute) (fault : Option DecodeError) → Walk b.now all fault → Walk new (replaced all index w.now) fault }
+    ensures written { (new : List ℕ) → IsWritten block.now index value.now new → (all : List Attribute) (fault : Option DecodeError) → Walk block.now all fault → Walk new (replaced all index value.now) fault }
 {}

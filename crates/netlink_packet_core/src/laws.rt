@@ -82,26 +82,26 @@ pub fn reads_back<I: NetlinkProtocol>(m: &NetlinkMessage<I>, n: &NetlinkMessage<
 
 /// A canonical frame cut short is the frame of no message (C9 below 16 bytes, C10 from there on),
 /// and is not canonical: no canonical frame is a proper beginning of another.
-pub fn cut_refused<I: NetlinkProtocol>(b: &[u8], k: usize)
-    ensures cut { IsCanonicalFrame I.decoding b.now → k < length b.now → (m : NetlinkMessage I) → Frame I.decoding (take k b.now) m → ⊥ }
-    ensures cut_short { IsCanonicalFrame I.decoding b.now → k < 16 → IsFrameFault true (take k b.now) (DecodeError.FrameShort k true) }
-    ensures cut_later { IsCanonicalFrame I.decoding b.now → 16 ≤ k → k < length b.now
-        → IsFrameFault true (take k b.now) (DecodeError.FrameCut (length b.now) k true) }
-    ensures beginning { IsCanonicalFrame I.decoding b.now → k < length b.now → IsCanonicalFrame I.decoding (take k b.now) → ⊥ }
+pub fn cut_refused<I: NetlinkProtocol>(bytes: &[u8], cut: usize)
+    ensures cut { IsCanonicalFrame I.decoding bytes.now → cut < length bytes.now → (m : NetlinkMessage I) → Frame I.decoding (take cut bytes.now) m → ⊥ }
+    ensures cut_short { IsCanonicalFrame I.decoding bytes.now → cut < 16 → IsFrameFault true (take cut bytes.now) (DecodeError.FrameShort cut true) }
+    ensures cut_later { IsCanonicalFrame I.decoding bytes.now → 16 ≤ cut → cut < length bytes.now
+        → IsFrameFault true (take cut bytes.now) (DecodeError.FrameCut (length bytes.now) cut true) }
+    ensures beginning { IsCanonicalFrame I.decoding bytes.now → cut < length bytes.now → IsCanonicalFrame I.decoding (take cut bytes.now) → ⊥ }
 {}
 
 /// What follows a whole frame decides nothing: with it and without it, the bytes are the frame of
 /// the same messages.
-pub fn tail_ignored<I: NetlinkProtocol>(b: &[u8], c: &[u8])
-    ensures ignored { 16 ≤ field 0 4 b.now → field 0 4 b.now ≤ length b.now
-        → (m : NetlinkMessage I) → (Frame I.decoding (b.now ++ c.now) m) ↔ (Frame I.decoding b.now m) }
+pub fn tail_ignored<I: NetlinkProtocol>(bytes: &[u8], more: &[u8])
+    ensures ignored { 16 ≤ field 0 4 bytes.now → field 0 4 bytes.now ≤ length bytes.now
+        → (m : NetlinkMessage I) → (Frame I.decoding (bytes.now ++ more.now) m) ↔ (Frame I.decoding bytes.now m) }
 {}
 
 /// The frame of a message that fits is what is written of the message exactly if it is canonical,
 /// and what is written is canonical.
-pub fn frames_fixed<I: NetlinkProtocol>(b: &[u8])
-    ensures fixed { (m : NetlinkMessage I) → Frame I.decoding b.now m → Fits I.encoding m
-        → (canonical_frame I.encoding m ≡ b.now) ↔ IsCanonicalFrame I.decoding b.now }
-    ensures canonical { (m : NetlinkMessage I) → Frame I.decoding b.now m → Fits I.encoding m
+pub fn frames_fixed<I: NetlinkProtocol>(bytes: &[u8])
+    ensures fixed { (m : NetlinkMessage I) → Frame I.decoding bytes.now m → Fits I.encoding m
+        → (canonical_frame I.encoding m ≡ bytes.now) ↔ IsCanonicalFrame I.decoding bytes.now }
+    ensures canonical { (m : NetlinkMessage I) → Frame I.decoding bytes.now m → Fits I.encoding m
         → IsCanonicalFrame I.decoding (canonical_frame I.encoding m) }
 {}

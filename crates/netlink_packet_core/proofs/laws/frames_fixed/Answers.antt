@@ -11,9 +11,9 @@ laws g = let met = g.met.I.NetlinkProtocol in record { own_pair = met.own_pair; 
 
 pub returns-clause-fixed : goal.returns-clause-fixed
 returns-clause-fixed g c m frame fits = (
-  λ same. subst (IsCanonicalFrame g.I.NetlinkDeserializable.decoding) same (read_is_canonical (laws g) c.args.b.now m frame fits),
-  λ canonical. canonical_is_written (laws g) c.args.b.now m canonical frame,
+  λ same. subst (IsCanonicalFrame g.I.NetlinkDeserializable.decoding) same (read_is_canonical (laws g) c.args.bytes.now m frame fits),
+  λ canonical. canonical_is_written (laws g) c.args.bytes.now m canonical frame,
 )
 
 pub returns-clause-canonical : goal.returns-clause-canonical
-returns-clause-canonical g c m frame fits = read_is_canonical (laws g) c.args.b.now m frame fits
+returns-clause-canonical g c m frame fits = read_is_canonical (laws g) c.args.bytes.now m frame fits
