@@ -1,0 +1,3 @@
+pub mod FrameAppends
+pub mod FrameStarts
+pub mod FrameWalks

@@ -1,0 +1,5 @@
+use Rattle.netlink_tree.proofs.FrameWalks.{has_frames}
+use Rattle.netlink_tree.proofs.laws.frames_total.Goals as goal
+
+pub returns : goal.returns
+returns c = record { exists = has_frames }

@@ -1,0 +1,5 @@
+use Rattle.netlink_tree.proofs.FrameWalks.{frames_once}
+use Rattle.netlink_tree.proofs.laws.frames_unique.Goals as goal
+
+pub returns : goal.returns
+returns c = record { unique = frames_once }

@@ -1,0 +1,3 @@
+//! Worked rows of each public call.
+
+mod frames;
