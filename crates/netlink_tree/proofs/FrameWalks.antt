@@ -1,5 +1,5 @@
 -- Every byte list has one frame walk, and calls of `next` give it.
-use Rattle.std.proofs.Common.{◌≡◌, ◌≢◌, ℕ, zero, suc, ◌+◌, ◌-◌, ◌*◌, ◌/◌, ◌<◌, ◌≤◌, List, [], ◌∷◌, length, drop, refl, ap, sym, subst, ◌∙◌, inl, inr, arith, Option, Some, None, Ok, Err, Bor, length-drop}
+use Rattle.std.proofs.Common.{◌≡◌, ◌≢◌, ℕ, zero, suc, ◌+◌, ◌-◌, ◌*◌, ◌/◌, ◌<◌, ◌≤◌, List, [], ◌∷◌, length, drop, refl, ap, sym, subst, ◌∙◌, inl, inr, arith, Option, Some, None, Ok, Err, Bor, All, length-drop}
 use Rattle.std.proofs.lemmas.Bool.{cases_lt}
 use Rattle.std.specs.Iterator.{Drains}
 use Rattle.std.specs.Prelude.{false}
@@ -11,7 +11,7 @@ use Rattle.netlink_packet_core.specs.Refusal.{IsFrameFault}
 use Rattle.netlink_tree.specs.FrameSteps.{unread_frames, frame_steps, frame_bound, FrameItem, AreFrames, GivesFrames}
 use Rattle.netlink_tree.specs.FrameWalk.{FrameWalk, frame_of}
 use Rattle.netlink_tree.specs.declared.frames.Frames.{Frames}
-use Rattle.netlink_tree.proofs.FrameStarts.{starts-frame_of, starts-length, starts-rest, starts-fault, starts_held, nothing_starts, fault_once}
+use Rattle.netlink_tree.proofs.FrameStarts.{starts-frame_of, starts-length, starts-rest, starts-fault, starts_held, starts-holds, nothing_starts, fault_once}
 
 -- ---- one walk
 
@@ -72,6 +72,11 @@ fueled_frames (suc fuel) bytes enough =
 pub has_frames : (bytes : List ℕ) → (all : List (List ℕ)) × (fault : Option DecodeError) × FrameWalk bytes all fault
 unfolding HasFrames
 has_frames bytes = fueled_frames (length bytes) bytes (omega arith)
+
+pub each_holds : (bytes : List ℕ) (all : List (List ℕ)) (fault : Option DecodeError) → FrameWalk bytes all fault → All HoldsFrame all
+each_holds bytes [] fault walk k d inside = absurd (omega arith)
+each_holds bytes (f ∷ more) fault (rest, starts, walk) zero d inside = starts-holds bytes f rest starts
+each_holds bytes (f ∷ more) fault (rest, starts, walk) (suc k) d inside = each_holds rest more fault walk k d (omega arith)
 
 -- ---- calls of `next`
 

@@ -1,8 +1,9 @@
 //! Laws over the definitions alone: each has an empty body, and its contract is the law.
 
-ghost use Rattle.std.specs.Prelude.{◌≡◌, ◌↔◌, ℕ, List, [], Option, None, IsTrue};
+ghost use Rattle.std.specs.Prelude.{◌≡◌, ◌↔◌, ℕ, List, [], Option, None, All, IsTrue};
 ghost use denote.Ref.{Bor};
 ghost use Rattle.netlink_packet_core.specs.DecodeError.{DecodeError};
+ghost use Rattle.netlink_packet_core.specs.Header.{HoldsFrame};
 ghost use Rattle.netlink_tree.specs.FrameSteps.{FrameItem, GivesFrame, GivesFrames, unread_frames};
 ghost use Rattle.netlink_tree.specs.FrameWalk.{FrameWalk};
 ghost use Rattle.netlink_tree.specs.declared.frames.Frames.{Frames};
@@ -22,6 +23,11 @@ pub fn frames_unique()
 /// Calls of `next` give exactly the frames of the bytes that are unread, from any iterator on.
 pub fn frames_given()
     ensures given { (walk : Frames (Bor (List ℕ))) → GivesFrames walk }
+{}
+
+/// Each of these frames holds itself whole: `NetlinkBuffer::new_checked` accepts it.
+pub fn frames_hold()
+    ensures holds { (bytes : List ℕ) (all : List (List ℕ)) (fault : Option DecodeError) → FrameWalk bytes all fault → All HoldsFrame all }
 {}
 
 /// With nothing unread, as behind an error, `next` gives `None` for good.

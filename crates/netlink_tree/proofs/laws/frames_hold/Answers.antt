@@ -1,0 +1,5 @@
+use Rattle.netlink_tree.proofs.FrameWalks.{each_holds}
+use Rattle.netlink_tree.proofs.laws.frames_hold.Goals as goal
+
+pub returns : goal.returns
+returns c = record { holds = each_holds }
