@@ -1,6 +1,7 @@
 //! Values lent for writing: what is found, what is written, and what the block then walks as.
 
 use crate::{NlasIterator, nlas_value_mut};
+use netlink_bytes::DecodeError;
 
 /// Two attributes, (1, aa) and (2, 01020304).
 const TWO: [u8; 16] = [5, 0, 1, 0, 0xaa, 0, 0, 0, 8, 0, 2, 0, 1, 2, 3, 4];
@@ -16,7 +17,7 @@ fn a_value_is_written_in_place(rt: HostRuntime) {
         }
         None => assert!(rt; false),
     }
-    assert!(rt; walks_as(&block, &[(1, &[0xaa]), (2, &[5, 6, 7, 8])], 0));
+    assert!(rt; walks_as(&block, &[(1, &[0xaa]), (2, &[5, 6, 7, 8])], None));
     match nlas_value_mut(&mut block, 1) {
         Some(value) => {
             assert_eq!(rt; value.len(), 4);
@@ -24,7 +25,7 @@ fn a_value_is_written_in_place(rt: HostRuntime) {
         }
         None => assert!(rt; false),
     }
-    assert!(rt; walks_as(&block, &[(1, &[0xaa]), (2, &[8, 0, 2, 0])], 0));
+    assert!(rt; walks_as(&block, &[(1, &[0xaa]), (2, &[8, 0, 2, 0])], None));
 }
 
 #[test]
@@ -33,7 +34,7 @@ fn no_value_leaves_the_block(rt: HostRuntime) {
         let mut block = TWO;
         assert!(rt; nlas_value_mut(&mut block, index).is_none());
         assert!(rt; block == TWO);
-        assert!(rt; walks_as(&block, &[(1, &[0xaa]), (2, &[1, 2, 3, 4])], 0));
+        assert!(rt; walks_as(&block, &[(1, &[0xaa]), (2, &[1, 2, 3, 4])], None));
     }
 }
 
@@ -45,7 +46,7 @@ fn values_in_front_of_a_fault(rt: HostRuntime) {
         None => assert!(rt; false),
     }
     assert!(rt; nlas_value_mut(&mut block, 1).is_none());
-    assert!(rt; walks_as(&block, &[(1, &[])], 7));
+    assert!(rt; walks_as(&block, &[(1, &[])], Some(3)));
 
     let mut block = [5, 0, 1, 0, 0xaa, 1, 2, 3, 3, 0, 7, 0];
     match nlas_value_mut(&mut block, 0) {
@@ -56,11 +57,11 @@ fn values_in_front_of_a_fault(rt: HostRuntime) {
         None => assert!(rt; false),
     }
     assert!(rt; block == [5, 0, 1, 0, 0xbb, 1, 2, 3, 3, 0, 7, 0]);
-    assert!(rt; walks_as(&block, &[(1, &[0xbb])], 7));
+    assert!(rt; walks_as(&block, &[(1, &[0xbb])], Some(3)));
 }
 
-/// Whether the block walks as these kinds and values, and then the fault of this number, or none for 0.
-fn walks_as(block: &[u8], attributes: &[(u16, &[u8])], fault: u8) -> bool {
+/// Whether the block walks as these kinds and values, and then ends or has C7 of 4 and this length.
+fn walks_as(block: &[u8], attributes: &[(u16, &[u8])], damaged: Option<usize>) -> bool {
     let mut expected = attributes.iter();
     for item in NlasIterator::new(block) {
         match item {
@@ -72,8 +73,16 @@ fn walks_as(block: &[u8], attributes: &[(u16, &[u8])], fault: u8) -> bool {
                 }
                 None => return false,
             },
-            Err(found) => return expected.next().is_none() && found.number() == fault,
+            Err(
+                DecodeError::NlaInvalidLength {
+                    buffer_len,
+                    nla_len,
+                },
+            ) => {
+                return expected.next().is_none() && buffer_len == 4 && damaged == Some(nla_len);
+            }
+            Err(_) => return false,
         }
     }
-    expected.next().is_none() && fault == 0
+    expected.next().is_none() && damaged.is_none()
 }
