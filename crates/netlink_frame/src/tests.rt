@@ -1,4 +1,5 @@
 mod attributes;
+mod datagrams;
 mod messages;
 mod refusals;
 mod runs;
