@@ -11,6 +11,7 @@ pub use Rattle.netlink_attributes.specs.Block
 pub use Rattle.netlink_attributes.specs.Cuts
 pub use Rattle.netlink_attributes.specs.OlderBlock
 pub use Rattle.netlink_attributes.specs.Places
+pub use Rattle.netlink_attributes.specs.Sizes as AttributeSizes
 pub use Rattle.netlink_attributes.specs.Steps
 pub use Rattle.netlink_attributes.specs.Views
 pub use Rattle.netlink_attributes.specs.Walk
