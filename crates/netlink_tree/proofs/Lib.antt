@@ -1,3 +1,10 @@
 pub mod FrameAppends
 pub mod FrameStarts
 pub mod FrameWalks
+pub mod TreeEqual
+pub mod TreeOnce
+pub mod TreeReading
+pub mod TreeTotal
+pub mod TreeTrips
+pub mod TreeViews
+pub mod TreeWriting

@@ -1,14 +1,20 @@
-//! Laws over the definitions alone: each has an empty body, and its contract is the law.
+//! Laws over the definitions alone: each has no effect, and its contract is the law.
 
-ghost use Rattle.std.specs.Prelude.{◌≡◌, ◌↔◌, ℕ, List, [], Option, None, All, IsTrue};
+ghost use Rattle.std.specs.Prelude.{◌≡◌, ◌↔◌, ℕ, List, [], Option, None, Ok, All, IsTrue};
 ghost use denote.Ref.{Bor};
 ghost use Rattle.netlink_packet_core.specs.DecodeError.{DecodeError};
 ghost use Rattle.netlink_packet_core.specs.Header.{HoldsFrame};
+ghost use Rattle.netlink_packet_core.specs.Numbers.{IsBytes};
 ghost use Rattle.netlink_tree.specs.FrameSteps.{FrameItem, GivesFrame, GivesFrames, unread_frames};
 ghost use Rattle.netlink_tree.specs.FrameWalk.{FrameWalk};
+ghost use Rattle.netlink_tree.specs.Reading.{Outcome, Trees};
+ghost use Rattle.netlink_tree.specs.Tree.{Forest, view, AreWellFormed, TreesInRange};
+ghost use Rattle.netlink_tree.specs.Writing.{writing, IsCanonicalDeep};
 ghost use Rattle.netlink_tree.specs.declared.frames.Frames.{Frames};
+ghost use Rattle.netlink_tree.specs.declared.tree.NlaTree.{NlaTree};
 
 use crate::frames::Frames;
+use netlink_packet_core::laws::{walk_total, walk_unique, written_walks};
 
 /// Every byte list is frames one after another, and then nothing or one fault.
 pub fn frames_total()
@@ -38,4 +44,38 @@ pub fn frames_stop()
 /// Two walks are equal exactly if the bytes still to be walked are.
 pub fn frames_equal()
     ensures equal { (a b : Frames (Bor (List ℕ))) → IsTrue (⟦<Frames<&'static [u8]> as PartialEq>⟧.eq a b) ↔ (unread_frames a ≡ unread_frames b) }
+{}
+
+/// Every byte list comes to trees or a fault, however many levels are allowed.
+pub fn trees_total()
+    ensures exists { (levels : ℕ) (bytes : List ℕ) → IsBytes bytes → (outcome : Outcome) × Trees levels bytes outcome }
+{
+    walk_total()
+}
+
+/// And to one of them alone.
+pub fn trees_unique()
+    ensures unique { (levels : ℕ) (bytes : List ℕ) (r s : Outcome) → Trees levels bytes r → Trees levels bytes s → r ≡ s }
+{
+    walk_unique()
+}
+
+/// What is written of well-formed trees reads as the same trees.
+pub fn trees_read_back()
+    ensures back { (ts : Forest) (text : List ℕ) → AreWellFormed ts → TreesInRange ts → writing ts ≡ Ok text → Trees 16 text (Ok ts) }
+{
+    written_walks()
+}
+
+/// What was read is written as it was exactly if it is canonical at every depth.
+pub fn trees_write_back()
+    ensures back { (bytes : List ℕ) (ts : Forest) → Trees 16 bytes (Ok ts) → (writing ts ≡ Ok bytes) ↔ IsCanonicalDeep bytes }
+{
+    walk_unique();
+    written_walks();
+}
+
+/// Trees are equal, by `==`, exactly if they have the same shape, kinds and values.
+pub fn trees_equal()
+    ensures equal { (a b : NlaTree) → IsTrue (⟦<crate::NlaTree as PartialEq>⟧.eq a b) ↔ (view a ≡ view b) }
 {}

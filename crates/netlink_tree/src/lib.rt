@@ -3,9 +3,17 @@
 //! Proved from the public contracts of `netlink_packet_core` alone.
 #![tactic(auto)]
 
+mod fault;
 mod frames;
 pub mod laws;
+mod read;
 #[cfg(test)]
 mod tests;
+mod tree;
+mod write;
 
+pub use crate::fault::TreeFault;
 pub use crate::frames::{Frames, append_frame};
+pub use crate::read::read_tree;
+pub use crate::tree::{NlaTree, is_well_formed};
+pub use crate::write::write_tree;

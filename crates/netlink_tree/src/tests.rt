@@ -1,3 +1,4 @@
 //! Worked rows of each public call.
 
 mod frames;
+mod trees;

@@ -1,0 +1,11 @@
+use Rattle.std.proofs.Common.{◌≡◌, ◌++◌, drop, false}
+use Rattle.netlink_tree.specs.Tree.{views, TreesInRange}
+use Rattle.netlink_tree.specs.Writing.{are_too_long, tree_text}
+use Rattle.netlink_tree.proofs.write.+writing.Given as goal
+
+-- the trees so far are in range, and their text is written
+abbrev pub invariant-text_of-loop-tree : goal.invariant-text_of-loop-tree
+invariant-text_of-loop-tree l =
+    (are_too_long (views (drop l.tree-index l.trees)) ≡ false)
+    × (TreesInRange (views (drop l.tree-index l.trees)) → TreesInRange (views l.trees))
+    × (l.block.items ++ tree_text (views (drop l.tree-index l.trees)) ≡ tree_text (views l.trees))

@@ -1,0 +1,10 @@
+-- The text of a fault.
+use Rattle.std.specs.Prelude.{ℕ, List, codes}
+use Rattle.netlink_packet_core.specs.Causes.{cause_text}
+use Rattle.netlink_tree.specs.declared.fault.TreeFault.{TreeFault}
+use Rattle.netlink_tree.specs.declared.fault.TreeFault.TheVariants.{TooDeep, TooLong, Decode}
+
+abbrev pub fault_text : TreeFault → List ℕ
+fault_text TooDeep = codes "attributes are nested deeper than 16"
+fault_text TooLong = codes "the value of an attribute is longer than 65531 bytes"
+fault_text (Decode cause) = cause_text cause

@@ -1,0 +1,46 @@
+-- Trees written as bytes.
+use Rattle.std.specs.Prelude.{ℕ, ◌≡◌, Bool, true, false, ◌||◌, nat_lt, if◌then◌else◌, List, [], ◌∷◌, length, Contains, Result, Ok, Err}
+use Rattle.netlink_packet_core.specs.Attribute.{Attribute}
+use Rattle.netlink_packet_core.specs.Block.{canonical_block, IsBlockOf}
+use Rattle.netlink_packet_core.specs.Views.{is_nested}
+use Rattle.netlink_tree.specs.Tree.{Tree, leaf, nest, Forest, no_trees, grow, levels}
+use Rattle.netlink_tree.specs.declared.fault.TreeFault.{TreeFault}
+use Rattle.netlink_tree.specs.declared.fault.TreeFault.TheVariants.{TooDeep, TooLong}
+
+abbrev mutual
+  -- the attribute that a tree is written as: the value of a nest is the block of what is inside
+  pub written : Tree → Attribute
+  written (leaf kind value) = record { kind = kind; value = value }
+  written (nest kind children) = record { kind = kind; value = canonical_block (attributes_of children) }
+
+  pub attributes_of : Forest → List Attribute
+  attributes_of no_trees = []
+  attributes_of (grow t ts) = written t ∷ attributes_of ts
+
+-- the text of trees: the canonical block of the attributes that they are written as
+abbrev pub tree_text : Forest → List ℕ
+tree_text ts = canonical_block (attributes_of ts)
+
+-- longer than the length field of an attribute can count
+abbrev pub is_long : List ℕ → Bool
+is_long value = nat_lt 65531 (length value)
+
+abbrev mutual
+  -- a value, or the text inside a nest, is too long
+  pub is_too_long : Tree → Bool
+  is_too_long (leaf kind value) = is_long value
+  is_too_long (nest kind children) = are_too_long children || is_long (tree_text children)
+
+  pub are_too_long : Forest → Bool
+  are_too_long no_trees = false
+  are_too_long (grow t ts) = is_too_long t || are_too_long ts
+
+-- what the writing of trees comes to
+abbrev pub writing : Forest → Result (List ℕ) TreeFault
+writing ts = if nat_lt 16 (levels ts) then Err TooDeep else if are_too_long ts then Err TooLong else Ok (tree_text ts)
+
+-- a canonical block, and so is the value of each of its attributes with the bit of nested attributes, at every depth
+pub data IsCanonicalDeep : List ℕ → Type 0 where
+  deep : (bytes : List ℕ) (all : List Attribute) → IsBlockOf bytes all
+      → ((a : Attribute) → Contains all a → is_nested a.kind ≡ true → IsCanonicalDeep a.value)
+      → IsCanonicalDeep bytes

@@ -1,0 +1,73 @@
+//! Why trees are not read, or not written.
+
+ghost use Rattle.std.specs.Prelude.{◌≡◌};
+ghost use Rattle.netlink_tree.specs.Fault.{fault_text};
+
+use netlink_packet_core::DecodeError;
+use std::alloc::{AllocError, AllocFailed};
+use std::error::Error;
+use std::fmt;
+
+/// Why trees are not read, or not written. Only a `Decode` holds memory.
+#[derive(Debug, Drop)]
+pub enum TreeFault {
+    /// Something stands deeper than 16, where the outer attributes have depth 1.
+    TooDeep,
+    /// A value, or the block inside a nest as it is written, is above 65531 bytes.
+    TooLong,
+    /// Bytes are no attributes (C5, C6 or C7), or a request for memory was refused (C16).
+    Decode(DecodeError),
+}
+
+impl fmt::Display for TreeFault {
+    ghost use Rattle.std.specs.Prelude.{Some};
+
+    ghost output = { λ fault. Some (fault_text fault) };
+
+    fn fmt<W: fmt::Write>(&self, f: &mut fmt::Formatter<W>) -> fmt::Result {
+        match self {
+            TreeFault::TooDeep => f.write_str("attributes are nested deeper than 16"),
+            TreeFault::TooLong => {
+                f.write_str("the value of an attribute is longer than 65531 bytes")
+            }
+            TreeFault::Decode(cause) => write!(f, "{cause}"),
+        }
+    }
+}
+
+impl Error for TreeFault {}
+
+impl From<DecodeError> for TreeFault {
+    ghost use Rattle.netlink_tree.specs.declared.fault.TreeFault.TheVariants.{Decode};
+
+    ghost from_gives = { λ cause fault. fault ≡ Decode cause };
+
+    /// A `Decode` of it.
+    fn from(refusal: DecodeError) -> Self {
+        TreeFault::Decode(refusal)
+    }
+}
+
+impl From<AllocError> for TreeFault {
+    ghost use Rattle.netlink_packet_core.specs.DecodeError.TheVariants.{OutOfMemory};
+    ghost use Rattle.netlink_tree.specs.declared.fault.TreeFault.TheVariants.{Decode};
+
+    ghost from_gives = { λ _ fault. fault ≡ Decode OutOfMemory };
+
+    /// A `Decode` of C16, so that `?` hands on a refused request for memory.
+    fn from(_refused: AllocError) -> Self {
+        TreeFault::Decode(DecodeError::OutOfMemory)
+    }
+}
+
+impl<T: Drop> From<AllocFailed<T>> for TreeFault {
+    ghost use Rattle.netlink_packet_core.specs.DecodeError.TheVariants.{OutOfMemory};
+    ghost use Rattle.netlink_tree.specs.declared.fault.TreeFault.TheVariants.{Decode};
+
+    ghost from_gives = { λ _ fault. fault ≡ Decode OutOfMemory };
+
+    /// The same where a value found no room; the value is given up.
+    fn from(_refused: AllocFailed<T>) -> Self {
+        TreeFault::from(AllocError)
+    }
+}

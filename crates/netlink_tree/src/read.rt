@@ -1,0 +1,84 @@
+//! Bytes read as trees.
+
+ghost use Rattle.std.specs.Prelude.{◌≡◌, ◌⊎◌, [], Ok, Err, MatchResult, IfOk, IsOk};
+ghost use Rattle.netlink_packet_core.specs.DecodeError.{DecodeError};
+ghost use Rattle.netlink_packet_core.specs.Views.{attribute_of, shown, HoldsAttribute};
+ghost use Rattle.netlink_tree.specs.Tree.{view, views, AreWellFormed};
+ghost use Rattle.netlink_tree.specs.Reading.{Trees, IsRead};
+
+use crate::fault::TreeFault;
+use crate::tree::{GREATEST_DEPTH, NlaTree};
+use netlink_packet_core::laws::walk_total;
+use netlink_packet_core::{NlaBuffer, NlasIterator};
+use std::alloc::{AllocError, Global};
+
+/// The trees of a block: an attribute whose kind has the bit `NLA_F_NESTED` is a nest of the block
+/// that is its value, any other is a leaf.
+///
+/// The attributes of the outer block have depth 1. A block of depth 17 that is not empty is
+/// `TooDeep`, whatever it holds; what is no attribute is a `Decode` of the walk's fault (C5, C6 or
+/// C7). The first fault in reading order is answered, where the inside of an attribute is read
+/// before the next one. No fault asks for memory of its own; the trees do, and `Decode` of C16
+/// says that it was refused. No bytes ask for none.
+pub fn read_tree(alloc: Global, bytes: &[u8]) -> Result<Vec<NlaTree>, TreeFault>
+    ensures trees { MatchResult result
+        (λ ts. Trees 16 bytes.now (Ok (views ts.items)))
+        (λ e. (e ≡ TreeFault.Decode DecodeError.OutOfMemory) ⊎ Trees 16 bytes.now (Err e)) }
+    ensures formed { IfOk result (λ ts. AreWellFormed (views ts.items)) }
+    ensures empty { bytes.now ≡ [] → IsOk result }
+{
+    read_block(alloc, bytes, GREATEST_DEPTH)
+}
+
+/// The trees of a block whose attributes may stand so many levels deep.
+#[tactic(auto, using(crate::proofs::TreeReading::block_ends))]
+#[cycle(reading)]
+fn read_block(alloc: Global, bytes: &[u8], levels: usize) -> Result<Vec<NlaTree>, TreeFault>
+    ensures trees { MatchResult result
+        (λ ts. Trees levels bytes.now (Ok (views ts.items)))
+        (λ e. (e ≡ TreeFault.Decode DecodeError.OutOfMemory) ⊎ Trees levels bytes.now (Err e)) }
+    ensures empty { bytes.now ≡ [] → IsOk result }
+{
+    let mut trees = Vec::new(alloc);
+    if bytes.is_empty() {
+        return Ok(trees);
+    }
+    if levels == 0 {
+        return Err(TreeFault::TooDeep);
+    }
+    walk_total();
+    for item in NlasIterator::new(bytes) {
+        let tree = read_attribute(alloc, item?, levels - 1)?;
+        trees.push(tree)?;
+    }
+    Ok(trees)
+}
+
+/// An attribute as a tree, inside which attributes may stand so many levels deep.
+#[cycle(reading)]
+fn read_attribute(alloc: Global, nla: NlaBuffer<&[u8]>, levels: usize) -> Result<NlaTree, TreeFault>
+    requires { HoldsAttribute (shown nla) }
+    ensures { MatchResult result
+        (λ t. IsRead (Trees levels) (attribute_of (shown nla.entry)) (Ok (view t)))
+        (λ e. (e ≡ TreeFault.Decode DecodeError.OutOfMemory) ⊎ IsRead (Trees levels) (attribute_of (shown nla.entry)) (Err e)) }
+{
+    let kind = nla.raw_kind();
+    if nla.nested_flag() {
+        let children = read_block(alloc, nla.value(), levels)?;
+        Ok(NlaTree::Nest { kind, children })
+    } else {
+        let value = copied(alloc, nla.value())?;
+        Ok(NlaTree::Leaf { kind, value })
+    }
+}
+
+/// A copy of the bytes, of their exact size. No bytes ask for no memory.
+fn copied(alloc: Global, bytes: &[u8]) -> Result<Vec<u8>, AllocError>
+    ensures ok { IfOk result (λ copy. copy.items ≡ bytes.now) }
+    ensures empty { bytes.now ≡ [] → IsOk result }
+{
+    if bytes.is_empty() {
+        return Ok(Vec::new(alloc));
+    }
+    Vec::from_slice(alloc, bytes)
+}

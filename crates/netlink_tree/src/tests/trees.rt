@@ -1,0 +1,180 @@
+//! Trees read and written.
+
+use crate::laws::{trees_equal, trees_read_back, trees_total, trees_unique, trees_write_back};
+use crate::{NlaTree, TreeFault, is_well_formed, read_tree, write_tree};
+use std::alloc::{AllocError, Global};
+use std::test::Fail;
+
+#[test]
+fn a_nest_holds_its_leaf(rt: HostRuntime) -> Result<(), Fail> {
+    let alloc = rt.alloc();
+    let trees = read_tree(alloc, &[9, 0, 1, 0x80, 5, 0, 2, 0, 0xaa])?;
+    let value = vec![in alloc; 0xaa]?;
+    let children = vec![in alloc; NlaTree::Leaf { kind: 2, value }]?;
+    let same = vec![in alloc;
+        NlaTree::Nest {
+            kind: 0x8001,
+            children
+        },
+    ]?;
+    assert!(rt; trees == same);
+    let text = write_tree(alloc, &trees)?;
+    assert!(rt; text.as_slice() == [12, 0, 1, 0x80, 5, 0, 2, 0, 0xaa, 0, 0, 0].as_slice());
+    Ok(())
+}
+
+#[test]
+fn the_first_fault_is_told(rt: HostRuntime) -> Result<(), Fail> {
+    let damage = "NLA has invalid length: 3 (should be at least 4 bytes)";
+    let rows: [(&[u8], &str); 3] = [
+        (&[], ""),
+        (&[8, 0, 1, 0x80, 3, 0, 2, 0], damage),
+        (&[8, 0, 1, 0x80, 3, 0, 2, 0, 3, 0], damage),
+    ];
+    for (bytes, fault) in rows {
+        assert_eq!(rt; read_fault(rt.alloc(), bytes)?.as_str(), fault);
+    }
+    Ok(())
+}
+
+#[test]
+fn sixteen_levels_are_read(rt: HostRuntime) -> Result<(), Fail> {
+    let alloc = rt.alloc();
+    let mut block = Vec::new(alloc);
+    for length in (4..=68u8).rev().step_by(4) {
+        block.extend_from_slice(&[length, 0, 1, 0x80])?;
+    }
+    assert_eq!(rt; block.len(), 68);
+    assert_eq!(rt; read_fault(alloc, &block)?.as_str(), TOO_DEEP);
+    let trees = read_tree(alloc, &block[4..])?;
+    assert!(rt; write_tree(alloc, &trees)?.as_slice() == &block[4..]);
+
+    let mut damaged = Vec::new(alloc);
+    for length in (5..=65u8).rev().step_by(4) {
+        damaged.extend_from_slice(&[length, 0, 1, 0x80])?;
+    }
+    damaged.push(0xff)?;
+    assert_eq!(rt; damaged.len(), 65);
+    assert_eq!(rt; read_fault(alloc, &damaged)?.as_str(), TOO_DEEP);
+    Ok(())
+}
+
+#[test]
+fn sixteen_levels_are_written(rt: HostRuntime) -> Result<(), Fail> {
+    let alloc = rt.alloc();
+    let nests = nested(alloc, 16, Vec::new(alloc))?;
+    assert_eq!(rt; written(alloc, &nests)?.0, 64);
+    let nests = nested(alloc, 17, Vec::new(alloc))?;
+    assert_eq!(rt; written(alloc, &nests)?.1.as_str(), TOO_DEEP);
+    let nests = nested(alloc, 16, leaf(alloc, 65532)?)?;
+    assert_eq!(rt; written(alloc, &nests)?.1.as_str(), TOO_DEEP);
+    Ok(())
+}
+
+#[test]
+fn both_flag_bits_are_kept(rt: HostRuntime) -> Result<(), Fail> {
+    let alloc = rt.alloc();
+    let children = Vec::new(alloc);
+    let trees = vec![in alloc;
+        NlaTree::Nest {
+            kind: 0xc001,
+            children
+        },
+    ]?;
+    assert!(rt; is_well_formed(&trees));
+    assert!(rt; write_tree(alloc, &trees)?.as_slice() == [4, 0, 1, 0xc0].as_slice());
+    Ok(())
+}
+
+#[test]
+fn values_have_at_most_65531_bytes(rt: HostRuntime) -> Result<(), Fail> {
+    let alloc = rt.alloc();
+    assert_eq!(rt; written(alloc, &leaf(alloc, 65531)?)?.0, 65536);
+    assert_eq!(rt; written(alloc, &leaf(alloc, 65532)?)?.1.as_str(), TOO_LONG);
+    let nest = nested(alloc, 1, leaf(alloc, 65524)?)?;
+    assert_eq!(rt; written(alloc, &nest)?.0, 65532);
+    let nest = nested(alloc, 1, leaf(alloc, 65525)?)?;
+    assert_eq!(rt; written(alloc, &nest)?.1.as_str(), TOO_LONG);
+
+    // the padding of the leaf is missing, and is wanted where it is written
+    let mut block = vec![in alloc; 0xff, 0xff, 1, 0x80, 0xfb, 0xff, 2, 0]?;
+    block.resize(65535, 0)?;
+    let trees = read_tree(alloc, &block)?;
+    assert!(rt; trees == nested(alloc, 1, leaf(alloc, 65527)?)?);
+    assert_eq!(rt; written(alloc, &trees)?.1.as_str(), TOO_LONG);
+    Ok(())
+}
+
+#[test]
+fn kinds_are_looked_at_inside(rt: HostRuntime) -> Result<(), Fail> {
+    let alloc = rt.alloc();
+    assert!(rt; is_well_formed(&[]));
+    for (kind, is_nest, formed) in [
+        (2, false, true),
+        (0x4002, false, true),
+        (0x8002, false, false),
+        (0xc002, true, true),
+        (0x7fff, true, false),
+    ] {
+        let inside = if is_nest {
+            let children = Vec::new(alloc);
+            vec![in alloc; NlaTree::Nest { kind, children }]?
+        } else {
+            let value = Vec::new(alloc);
+            vec![in alloc; NlaTree::Leaf { kind, value }]?
+        };
+        assert_eq!(rt; is_well_formed(&nested(alloc, 1, inside)?), formed);
+    }
+    Ok(())
+}
+
+#[test]
+fn the_laws_hold() {
+    trees_total();
+    trees_unique();
+    trees_read_back();
+    trees_write_back();
+    trees_equal();
+}
+
+const TOO_DEEP: &str = "attributes are nested deeper than 16";
+
+const TOO_LONG: &str = "the value of an attribute is longer than 65531 bytes";
+
+/// The text of the fault of bytes, or none where they are read.
+fn read_fault(alloc: Global, bytes: &[u8]) -> Result<String, AllocError> {
+    match read_tree(alloc, bytes) {
+        Ok(_) => Ok(String::new(alloc)),
+        Err(fault) => fault.to_string(alloc),
+    }
+}
+
+/// The size of what is written of trees, or the text of the fault.
+fn written(alloc: Global, trees: &[NlaTree]) -> Result<(usize, String), AllocError> {
+    if !is_well_formed(trees) {
+        return Ok((0, String::new(alloc)));
+    }
+    match write_tree(alloc, trees) {
+        Ok(text) => Ok((text.len(), String::new(alloc))),
+        Err(fault) => Ok((0, fault.to_string(alloc)?)),
+    }
+}
+
+/// A leaf of kind 2 with a value of so many zeros.
+fn leaf(alloc: Global, size: usize) -> Result<Vec<NlaTree>, AllocError> {
+    let value = vec![in alloc; 0; size]?;
+    Ok(vec![in alloc; NlaTree::Leaf { kind: 2, value }]?)
+}
+
+/// The trees inside so many nests of kind 0x8001.
+fn nested(alloc: Global, depth: usize, inside: Vec<NlaTree>) -> Result<Vec<NlaTree>, AllocError> {
+    let mut trees = inside;
+    for _ in 0..depth {
+        let nest = NlaTree::Nest {
+            kind: 0x8001,
+            children: trees,
+        };
+        trees = vec![in alloc; nest]?;
+    }
+    Ok(trees)
+}

@@ -1,0 +1,137 @@
+//! Trees written as bytes.
+
+ghost use Rattle.std.specs.Prelude.{◌≡◌, ◌≤◌, ◌⊎◌, ◌++◌, ◌||◌, [], true, false, Ok, Err, MatchResult, MatchOption, OnOk, IfOk, IfErr, IsOk, nat_lt, length};
+ghost use Rattle.netlink_packet_core.specs.Attribute.{padded};
+ghost use Rattle.netlink_packet_core.specs.DecodeError.{DecodeError};
+ghost use Rattle.netlink_tree.specs.Tree.{view, views, levels, AreWellFormed, TreeInRange, TreesInRange};
+ghost use Rattle.netlink_tree.specs.Reading.{Trees};
+ghost use Rattle.netlink_tree.specs.Writing.{written, tree_text, is_long, is_too_long, are_too_long, writing, IsCanonicalDeep};
+
+use crate::fault::TreeFault;
+use crate::tree::{GREATEST_DEPTH, NlaTree};
+use netlink_packet_core::laws::written_walks;
+use netlink_packet_core::{NLA_HEADER_SIZE, append_nla, nla_align};
+use std::alloc::Global;
+
+/// The most bytes of a value: the length field has 16 bits and counts the header.
+const LONGEST_VALUE: usize = 65531;
+
+/// The canonical block of well-formed trees, at every depth: each attribute with its kind as it is
+/// and with its padding of zeros, the value of a nest being the block of what is inside.
+///
+/// Where an attribute stands deeper than 16, the outer ones having depth 1, the answer is `TooDeep`;
+/// otherwise, where a value or the block inside a nest is above 65531 bytes, it is `TooLong`.
+/// Neither asks for memory. Otherwise `Decode` of C16 says that a request for memory was refused;
+/// no trees ask for none.
+pub fn write_tree(alloc: Global, trees: &[NlaTree]) -> Result<Vec<u8>, TreeFault>
+    requires formed { AreWellFormed (views trees.now) }
+    ensures text { MatchResult result
+        (λ v. writing (views trees.now) ≡ Ok v.items)
+        (λ e. (writing (views trees.now) ≡ Err e)
+        ⊎ ((e ≡ TreeFault.Decode DecodeError.OutOfMemory) × (writing (views trees.now) ≡ Ok (tree_text (views trees.now))))) }
+    ensures reads_back { IfOk result (λ v. Trees 16 v.items (Ok (views trees.now))) }
+    ensures canonical { IfOk result (λ v. IsCanonicalDeep v.items) }
+    ensures empty { trees.now ≡ [] → IsOk result }
+{
+    if is_too_deep(trees, GREATEST_DEPTH) {
+        return Err(TreeFault::TooDeep);
+    }
+    if are_too_long(trees) {
+        return Err(TreeFault::TooLong);
+    }
+    written_walks();
+    text_of(alloc, trees)
+}
+
+/// Whether attributes stand more than so many levels deep.
+fn is_too_deep(trees: &[NlaTree], limit: usize) -> bool
+    ensures { result ≡ nat_lt limit (levels (views trees.now)) }
+{
+    for tree in trees {
+        if limit == 0 {
+            return true;
+        }
+        if let NlaTree::Nest { children, .. } = tree {
+            if is_too_deep(children, limit - 1) {
+                return true;
+            }
+        }
+    }
+    false
+}
+
+/// Whether a value, or the text inside a nest, is too long.
+fn are_too_long(trees: &[NlaTree]) -> bool
+    ensures { result ≡ are_too_long (views trees.now) }
+{
+    for tree in trees {
+        if value_size(tree).is_none() {
+            return true;
+        }
+    }
+    false
+}
+
+/// The size of the value that a tree is written with; none where it or a value inside is too long.
+#[cycle(sizes)]
+fn value_size(tree: &NlaTree) -> Option<usize>
+    ensures { MatchOption result
+        (is_too_long (view tree.now) ≡ true)
+        (λ n. (is_too_long (view tree.now) ≡ false) × (n ≤ 65531) × (n ≡ length (written (view tree.now)).value)) }
+{
+    match tree {
+        NlaTree::Leaf { value, .. } => (value.len() <= LONGEST_VALUE).then_some(value.len()),
+        NlaTree::Nest { children, .. } => text_size(children),
+    }
+}
+
+/// The size of the text of trees inside a nest; none where it or a value in it is too long.
+#[tactic(auto, using(std::proofs::lemmas::Grind::common_steps, crate::proofs::TreeWriting::text_sizes))]
+#[cycle(sizes)]
+fn text_size(trees: &[NlaTree]) -> Option<usize>
+    ensures { MatchOption result
+        (are_too_long (views trees.now) || is_long (tree_text (views trees.now)) ≡ true)
+        (λ n. (are_too_long (views trees.now) ≡ false) × (n ≤ 65531) × (n ≡ length (tree_text (views trees.now)))) }
+{
+    let mut size = 0;
+    for tree in trees {
+        size += nla_align(value_size(tree)? + NLA_HEADER_SIZE);
+        if size > LONGEST_VALUE {
+            return None;
+        }
+    }
+    Some(size)
+}
+
+/// The text of trees.
+#[cycle(writing)]
+fn text_of(alloc: Global, trees: &[NlaTree]) -> Result<Vec<u8>, TreeFault>
+    requires { are_too_long (views trees.now) ≡ false }
+    ensures text { MatchResult result (λ v. v.items ≡ tree_text (views trees.now)) (λ e. e ≡ TreeFault.Decode DecodeError.OutOfMemory) }
+    ensures in_range { OnOk result (TreesInRange (views trees.now)) }
+    ensures empty { trees.now ≡ [] → IsOk result }
+{
+    let mut block = Vec::new(alloc);
+    for tree in trees {
+        append_tree(alloc, &mut block, tree)?;
+    }
+    Ok(block)
+}
+
+/// Adds the text of a tree to a block.
+#[cycle(writing)]
+fn append_tree(alloc: Global, block: &mut Vec<u8>, tree: &NlaTree) -> Result<(), TreeFault>
+    requires { is_too_long (view tree.now) ≡ false }
+    ensures ok { OnOk result (block.new.items ≡ block.old.items ++ padded (written (view tree.now))) }
+    ensures in_range { OnOk result (TreeInRange (view tree.now)) }
+    ensures err { IfErr result (λ e. e ≡ TreeFault.Decode DecodeError.OutOfMemory) }
+{
+    match tree {
+        NlaTree::Leaf { kind, value } => append_nla(alloc, block, *kind, value)?,
+        NlaTree::Nest { kind, children } => {
+            let inside = text_of(alloc, children)?;
+            append_nla(alloc, block, *kind, &inside)?
+        }
+    }
+    Ok(())
+}
