@@ -5,8 +5,10 @@ mod command;
 mod frames;
 pub mod laws;
 mod nlas;
+pub mod overwrite;
 mod ping_pong;
 mod run;
+pub mod samples;
 #[cfg(test)]
 mod tests;
 mod text;

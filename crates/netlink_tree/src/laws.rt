@@ -69,7 +69,7 @@ pub fn trees_read_back()
 
 /// What was read is written as it was exactly if it is canonical at every depth.
 pub fn trees_write_back()
-    ensures back { (bytes : List ℕ) (ts : Forest) → Trees 16 bytes (Ok ts) → (writing ts ≡ Ok bytes) ↔ IsCanonicalDeep bytes }
+    ensures unchanged { (bytes : List ℕ) (ts : Forest) → Trees 16 bytes (Ok ts) → (writing ts ≡ Ok bytes) ↔ IsCanonicalDeep bytes }
 {
     walk_unique();
     written_walks();

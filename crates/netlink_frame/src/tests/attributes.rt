@@ -5,11 +5,11 @@ use crate::nlas::nlas_fault;
 use crate::run::{Fault, run};
 use std::test::Fail;
 
-const TWO: [u8; 16] = [5, 0, 1, 0, 0xaa, 0, 0, 0, 8, 0, 2, 0, 1, 2, 3, 4];
+pub const TWO: [u8; 16] = [5, 0, 1, 0, 0xaa, 0, 0, 0, 8, 0, 2, 0, 1, 2, 3, 4];
 
 const FLAGGED: [u8; 8] = [8, 0, 6, 0x40, 0, 0, 0x0e, 0x10];
 
-const SHORT: [u8; 9] = [4, 0, 1, 0, 3, 0, 7, 0, 0xff];
+pub const SHORT: [u8; 9] = [4, 0, 1, 0, 3, 0, 7, 0, 0xff];
 
 #[test]
 fn lines_of_attributes(rt: HostRuntime) -> Result<(), Fail> {

@@ -6,7 +6,7 @@ use crate::run::{Fault, run};
 use std::test::Fail;
 
 /// A frame of 20 bytes, and one of 17 with its padding.
-const DATAGRAM: [u8; 40] = [
+pub const DATAGRAM: [u8; 40] = [
     20, 0, 0, 0, 18, 0, 0, 0, 0, 0, 0, 0, 0, 0, 0, 0, 0, 1, 2, 3, //
     17, 0, 0, 0, 4, 0, 0, 0, 0, 0, 0, 0, 0, 0, 0, 0, 0xff, 0, 0, 0,
 ];
@@ -39,7 +39,10 @@ fn lines_of_frames_up_to_a_fault(rt: HostRuntime) -> Result<(), Fail> {
     match run(rt.alloc(), Command::Frames, &mut reader, &mut output) {
         Err(Fault::Decode(cause)) => {
             assert_eq!(rt; cause.number(), 9);
-            assert_eq!(rt; cause.to_string(rt.alloc())?.as_str(), "invalid netlink buffer length caused by invalid netlink buffer: length is 1 but netlink packets are at least 16 bytes");
+            assert_eq!(rt;
+                cause.to_string(rt.alloc())?.as_str(),
+                "invalid netlink buffer length caused by invalid netlink buffer: length is 1 but netlink packets are at least 16 bytes"
+            );
         }
         _ => assert!(rt; false),
     }

@@ -10,7 +10,7 @@ const SHORT_DONE: [u8; 19] = [0x13, 0, 0, 0, 3, 0, 0, 0, 0, 0, 0, 0, 0, 0, 0, 0,
 
 const EMPTY_ERROR: [u8; 16] = [0x10, 0, 0, 0, 2, 0, 0, 0, 0, 0, 0, 0, 0, 0, 0, 0];
 
-const UNKNOWN: [u8; 16] = [0x10, 0, 0, 0, 0x13, 0, 0, 0, 0, 0, 0, 0, 0, 0, 0, 0];
+pub const UNKNOWN: [u8; 16] = [0x10, 0, 0, 0, 0x13, 0, 0, 0, 0, 0, 0, 0, 0, 0, 0, 0];
 
 fn refusal_of(alloc: Global, bytes: &[u8]) -> Result<DecodeError, Fail> {
     match Message::deserialize(alloc, bytes) {

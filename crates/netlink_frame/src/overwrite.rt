@@ -1,0 +1,26 @@
+//! A value written in place.
+
+ghost use Rattle.std.specs.Prelude.{◌≡◌, ◌↔◌, List, Option, IsTrue, false, length};
+ghost use Rattle.netlink_packet_core.specs.Attribute.{Attribute};
+ghost use Rattle.netlink_packet_core.specs.DecodeError.{DecodeError};
+ghost use Rattle.netlink_packet_core.specs.Places.{HasValueOf, IsWritten};
+ghost use Rattle.netlink_packet_core.specs.Walk.{Walk};
+
+use netlink_packet_core::nla_place;
+
+/// Writes a value over that of the attribute with this index, which counts from 0, also in front of
+/// a fault. True exactly where there is such an attribute and its value has the same size in bytes;
+/// otherwise the block stays as it was. Asks for no memory.
+pub fn overwrite(block: &mut [u8], index: usize, value: &[u8]) -> bool
+    ensures answer { (all : List Attribute) (fault : Option DecodeError) → Walk block.old all fault → IsTrue result ↔ HasValueOf all index (length value.now) }
+    ensures written { IsTrue result → IsWritten block.old index value.now block.new }
+    ensures unchanged { result ≡ false → block.new ≡ block.old }
+{
+    match nla_place(&block[..], index) {
+        Some((start, end)) if end - start == value.len() => {
+            block[start..end].copy_from_slice(value);
+            true
+        }
+        _ => false,
+    }
+}

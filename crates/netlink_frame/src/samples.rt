@@ -1,0 +1,89 @@
+//! A sub-protocol of zeros, for tests of long messages without their bytes.
+
+ghost use Rattle.std.specs.Prelude.{◌≡◌, false, refl};
+ghost use Rattle.netlink_frame.specs.Zeros.{are_zeros, zeros_decoding, zeros_encoding};
+ghost use Rattle.netlink_frame.specs.ZerosLaws.{equal_pairs, reading_is_lawful, value_is_lawful};
+
+use crate::ping_pong::DeserializeError;
+use netlink_packet_core::{
+    NetlinkDeserializable, NetlinkHeader, NetlinkProtocol, NetlinkSerializable, parse_u64_le,
+};
+use std::alloc::Global;
+
+/// The message type of zeros.
+const ZEROS_MESSAGE: u16 = 18;
+
+/// The message type of a count of zeros, which is read and never written.
+const COUNT_MESSAGE: u16 = 19;
+
+/// Zeros by their count; its text is that many zero bytes. No call asks for memory.
+///
+/// It is read from type 18 with a payload of zeros, which are counted, and from type 19 with a
+/// payload of 8 bytes, which are the count, the lowest byte first. All else is an `InvalidType`.
+#[derive(Clone, Copy, Debug, PartialEq, Eq)]
+pub struct Zeros(pub u64);
+
+impl NetlinkSerializable for Zeros {
+    ghost encoding = { zeros_encoding };
+
+    fn message_type(&self) -> u16 {
+        ZEROS_MESSAGE
+    }
+
+    fn buffer_len(&self) -> usize {
+        self.0 as usize
+    }
+
+    fn serialize(&self, buffer: &mut [u8]) {
+        buffer.fill(0);
+    }
+}
+
+impl NetlinkDeserializable for Zeros {
+    type Error = DeserializeError;
+
+    ghost decoding = { zeros_decoding };
+
+    ghost wants_memory = { λ _. false };
+
+    #[tactic(auto, using(crate::proofs::Zeros::reads_zeros))]
+    fn deserialize(
+        _alloc: Global,
+        header: &NetlinkHeader,
+        payload: &[u8],
+    ) -> Result<Self, DeserializeError> {
+        match header.message_type {
+            ZEROS_MESSAGE if are_zeros(payload) => Ok(Zeros(payload.len() as u64)),
+            COUNT_MESSAGE => match parse_u64_le(payload) {
+                Ok(count) => Ok(Zeros(count)),
+                Err(_) => Err(DeserializeError::InvalidType),
+            },
+            _ => Err(DeserializeError::InvalidType),
+        }
+    }
+
+    fn is_out_of_memory(_error: &DeserializeError) -> bool {
+        false
+    }
+}
+
+impl NetlinkProtocol for Zeros {
+    fn in_widths(&self) {
+        let _count = self.0;
+    }
+
+    ghost own_pair = { λ v. refl };
+
+    ghost equal_pairs = { λ v w _ _. equal_pairs v w };
+
+    ghost value_is_lawful = { λ v _. value_is_lawful v };
+
+    ghost reading_is_lawful = { reading_is_lawful };
+}
+
+/// Whether every byte is zero.
+fn are_zeros(bytes: &[u8]) -> bool
+    ensures { result ≡ are_zeros bytes.now }
+{
+    bytes.iter().all(|byte| *byte == 0)
+}

@@ -1,0 +1,45 @@
+//! With ample memory, want of memory is not answered.
+
+use crate::ping_pong::PingPongMessage;
+use crate::tests::messages::Message;
+use netlink_packet_core::{DecodeError, is_canonical_frame, normalize, normalize_nlas};
+
+/// An answer, or a refusal for another cause.
+fn has_memory<T: Drop>(answer: Result<T, DecodeError>) -> bool {
+    match answer {
+        Ok(_) => true,
+        Err(error) => !error.is_out_of_memory(),
+    }
+}
+
+/// Frames of each type that copies, with every small size of a payload of ones.
+#[test]
+fn frames_of_every_small_size(rt: HostRuntime) {
+    for kind in [2u8, 3, 4, 18, 20] {
+        for size in 0..=64u8 {
+            let mut bytes = [1u8; 80];
+            bytes[..16].fill(0);
+            bytes[0] = 16 + size;
+            bytes[4] = kind;
+            let frame = &bytes[..16 + usize::from(size)];
+            let read = Message::deserialize(rt.alloc(), frame);
+            assert!(rt; has_memory(read), "type {kind} with {size} bytes");
+            let normal = normalize::<PingPongMessage>(rt.alloc(), frame);
+            assert!(rt; has_memory(normal), "type {kind} with {size} bytes");
+            let verdict = is_canonical_frame::<PingPongMessage>(rt.alloc(), frame);
+            assert!(rt; has_memory(verdict), "type {kind} with {size} bytes");
+        }
+    }
+}
+
+/// Attributes with every small size of a value of ones.
+#[test]
+fn attributes_of_every_small_size(rt: HostRuntime) {
+    for size in 0..=64u8 {
+        let mut bytes = [1u8; 68];
+        bytes[..4].copy_from_slice(&[4 + size, 0, 1, 0]);
+        let block = &bytes[..4 + usize::from(size)];
+        let normal = normalize_nlas(rt.alloc(), block);
+        assert!(rt; has_memory(normal), "a value of {size} bytes");
+    }
+}

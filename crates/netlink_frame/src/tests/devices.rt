@@ -1,0 +1,188 @@
+//! Readers and writers that fail.
+
+use crate::command::Command;
+use crate::run::{Fault, run};
+use crate::tests::attributes::{SHORT, TWO};
+use crate::tests::datagrams::DATAGRAM;
+use crate::tests::messages::PING;
+use std::alloc::Global;
+use std::io;
+use std::io::{Read, Write};
+use std::test::Fail;
+
+/// Each command, with bytes of which it makes some output.
+pub const COMMANDS: [(Command, &[u8]); 5] = [
+    (Command::Normalize, &PING),
+    (Command::Show, &PING),
+    (Command::Nlas, &TWO),
+    (Command::Canon, &TWO),
+    (Command::Frames, &DATAGRAM),
+];
+
+/// Gives a byte a call, and fails after some.
+#[derive(Drop)]
+struct FailingReader<'a> {
+    bytes: &'a [u8],
+    good: usize,
+}
+
+impl Read for FailingReader<'_> {
+    fn read(&mut self, buf: &mut [u8]) -> io::Result<usize> {
+        if self.good == 0 {
+            return Err(io::Error::from(io::ErrorKind::BrokenPipe));
+        }
+        self.good -= 1;
+        match (self.bytes.split_first(), buf.first_mut()) {
+            (Some((first, rest)), Some(place)) => {
+                *place = *first;
+                self.bytes = rest;
+                Ok(1)
+            }
+            _ => Ok(0),
+        }
+    }
+}
+
+/// Gives a byte a call, for ever.
+#[derive(Drop)]
+struct Endless {
+    calls: u64,
+}
+
+impl Read for Endless {
+    fn read(&mut self, buf: &mut [u8]) -> io::Result<usize> {
+        self.calls = self.calls.saturating_add(1);
+        match buf.first_mut() {
+            Some(place) => {
+                *place = 1;
+                Ok(1)
+            }
+            None => Ok(0),
+        }
+    }
+}
+
+/// Is interrupted before each byte.
+#[derive(Drop)]
+struct Interrupted<'a> {
+    bytes: &'a [u8],
+    is_due: bool,
+}
+
+impl Read for Interrupted<'_> {
+    fn read(&mut self, buf: &mut [u8]) -> io::Result<usize> {
+        self.is_due = !self.is_due;
+        if !self.is_due {
+            return Err(io::Error::from(io::ErrorKind::Interrupted));
+        }
+        match (self.bytes.split_first(), buf.first_mut()) {
+            (Some((first, rest)), Some(place)) => {
+                *place = *first;
+                self.bytes = rest;
+                Ok(1)
+            }
+            _ => Ok(0),
+        }
+    }
+}
+
+/// Takes some bytes, and then fails.
+#[derive(Drop)]
+struct FailingWriter {
+    taken: Vec<u8>,
+    room: usize,
+}
+
+impl Write for FailingWriter {
+    fn write(&mut self, buf: &[u8]) -> io::Result<usize> {
+        let count = buf.len().min(self.room);
+        if count == 0 && !buf.is_empty() {
+            return Err(io::Error::from(io::ErrorKind::BrokenPipe));
+        }
+        self.taken.extend_from_slice(&buf[..count])?;
+        self.room -= count;
+        Ok(count)
+    }
+
+    fn flush(&mut self) -> io::Result<()> {
+        Ok(())
+    }
+}
+
+/// What a command makes of bytes that a slice gives.
+fn output_of(alloc: Global, command: Command, input: &[u8]) -> Result<Vec<u8>, Fault> {
+    let mut reader = input;
+    let mut output = Vec::new(alloc);
+    run(alloc, command, &mut reader, &mut output)?;
+    Ok(output)
+}
+
+#[test]
+fn a_reader_that_fails(rt: HostRuntime) {
+    for (command, _) in COMMANDS {
+        for good in 0..PING.len() {
+            let mut reader = FailingReader { bytes: &PING, good };
+            let mut output: Vec<u8> = Vec::new(rt.alloc());
+            let answer = run(rt.alloc(), command, &mut reader, &mut output);
+            assert!(rt; matches!(answer, Err(Fault::Read)), "after {good} bytes");
+            assert!(rt; output.is_empty(), "after {good} bytes");
+        }
+    }
+}
+
+#[test]
+fn a_reader_without_an_end(rt: HostRuntime) {
+    let mut reader = Endless { calls: 0 };
+    let mut output: Vec<u8> = Vec::new(rt.alloc());
+    let answer = run(rt.alloc(), Command::Normalize, &mut reader, &mut output);
+    assert!(rt; matches!(answer, Err(Fault::Read)));
+    assert!(rt; output.is_empty());
+    assert_eq!(rt; reader.calls, 1_048_576);
+}
+
+#[test]
+fn an_interrupted_read_is_made_again(rt: HostRuntime) -> Result<(), Fail> {
+    let mut reader = Interrupted {
+        bytes: &PING,
+        is_due: true,
+    };
+    let mut output: Vec<u8> = Vec::new(rt.alloc());
+    run(rt.alloc(), Command::Normalize, &mut reader, &mut output)?;
+    assert_eq!(rt; output.as_slice(), PING.as_slice());
+    Ok(())
+}
+
+#[test]
+fn a_writer_that_fails(rt: HostRuntime) -> Result<(), Fail> {
+    for (command, input) in COMMANDS {
+        let output = output_of(rt.alloc(), command, input)?;
+        assert!(rt; !output.is_empty());
+        for room in 0..output.len() {
+            let mut reader = input;
+            let mut writer = FailingWriter {
+                taken: Vec::new(rt.alloc()),
+                room,
+            };
+            let answer = run(rt.alloc(), command, &mut reader, &mut writer);
+            assert!(rt;
+                matches!(answer, Err(Fault::Write)),
+                "room for {room} bytes"
+            );
+            assert!(rt; output.starts_with(&writer.taken));
+        }
+    }
+    Ok(())
+}
+
+/// The line in front of the fault is not taken, so the fault is not told.
+#[test]
+fn a_failed_write_stands_before_a_fault(rt: HostRuntime) {
+    let mut reader: &[u8] = &SHORT;
+    let mut writer = FailingWriter {
+        taken: Vec::new(rt.alloc()),
+        room: 3,
+    };
+    let answer = run(rt.alloc(), Command::Nlas, &mut reader, &mut writer);
+    assert!(rt; matches!(answer, Err(Fault::Write)));
+    assert!(rt; b"0001 0 -\n".starts_with(&writer.taken));
+}

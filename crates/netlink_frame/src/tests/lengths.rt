@@ -1,0 +1,163 @@
+//! Length fields, each value in place of the field.
+
+use crate::ping_pong::PingPongMessage;
+use crate::samples::Zeros;
+use crate::tests::cuts::{Ending, WELL, nlas_of};
+use crate::tests::messages::{Message, PING};
+use netlink_packet_core::{
+    DecodeError, NetlinkBuffer, NetlinkMessage, NetlinkPayload, NlaBuffer, normalize,
+};
+use std::alloc::Global;
+use std::process::Abort;
+use std::test::Fail;
+
+/// A ping of four bytes with another length: it is refused, read shorter, or cut.
+#[test]
+fn lengths_of_a_ping(rt: HostRuntime) {
+    for length in 0..22 {
+        ping_of_length(&rt, rt.alloc(), length);
+    }
+    ping_of_length(&rt, rt.alloc(), u32::MAX);
+}
+
+fn ping_of_length(rt: &impl Abort, alloc: Global, length: u32) {
+    let mut frame = PING;
+    NetlinkBuffer::new(&mut frame[..]).set_length(length);
+    match Message::deserialize(alloc, &frame) {
+        Ok(message) => match &message.payload {
+            NetlinkPayload::InnerMessage(PingPongMessage::Ping(bytes)) => {
+                assert!(rt; PING.get(16..length as usize) == Some(bytes.as_slice()));
+            }
+            _ => assert!(rt; false, "length {length}"),
+        },
+        Err(
+            DecodeError::FrameLength {
+                length: said,
+                inside: true,
+            },
+        ) => assert!(rt; length < 16 && said == length),
+        Err(
+            DecodeError::FrameCut {
+                length: said,
+                size: 20,
+                inside: true,
+            },
+        ) => assert!(rt; length > 20 && said == length),
+        Err(_) => assert!(rt; false, "length {length}"),
+    }
+}
+
+/// An attribute of kind 1 with another length.
+#[test]
+fn lengths_of_an_attribute(rt: HostRuntime) -> Result<(), Fail> {
+    let rows: [(u16, &str, Ending); 11] = [
+        (0, "", (7, 4, 0)),
+        (1, "", (7, 4, 1)),
+        (2, "", (7, 4, 2)),
+        (3, "", (7, 4, 3)),
+        (4, "0001 0 -\n", (6, 4, 48042)),
+        (5, "0001 1 aa\n", WELL),
+        (6, "0001 2 aabb\n", WELL),
+        (7, "0001 3 aabbcc\n", WELL),
+        (8, "0001 4 aabbccdd\n", WELL),
+        (9, "", (6, 8, 9)),
+        (65535, "", (6, 8, 65535)),
+    ];
+    for (length, lines, ending) in rows.iter() {
+        let mut block = [0, 0, 1, 0, 0xaa, 0xbb, 0xcc, 0xdd];
+        NlaBuffer::new(&mut block[..]).set_length(*length);
+        let (output, ended) = nlas_of(rt.alloc(), &block)?;
+        assert_eq!(rt; output.as_slice(), lines.as_bytes(), "length {length}");
+        assert!(rt; ended == *ending, "length {length}");
+    }
+    Ok(())
+}
+
+/// Error and done bodies of fewer than four bytes. A done body of none has code 0.
+#[test]
+fn lengths_of_a_body(rt: HostRuntime) {
+    for size in 0..4u8 {
+        let mut frame = [0u8; 20];
+        frame[0] = 16 + size;
+        frame[4] = 2;
+        match &Message::deserialize(rt.alloc(), &frame) {
+            Err(
+                DecodeError::ErrorShort {
+                    size: said,
+                    inside: true,
+                },
+            ) => assert_eq!(rt; *said, usize::from(size)),
+            _ => assert!(rt; false, "{size} bytes of an error"),
+        }
+        frame[4] = 3;
+        match &Message::deserialize(rt.alloc(), &frame) {
+            Ok(message) => match &message.payload {
+                NetlinkPayload::Done(done) => {
+                    assert!(rt; size == 0 && done.code == 0 && done.extended_ack.is_empty());
+                }
+                _ => assert!(rt; false),
+            },
+            Err(
+                DecodeError::DoneShort {
+                    size: said,
+                    inside: true,
+                },
+            ) => assert!(rt; size != 0 && *said == usize::from(size)),
+            Err(_) => assert!(rt; false, "{size} bytes of a done message"),
+        }
+    }
+}
+
+/// The frame of type 19 with a count of zeros.
+pub(crate) fn counted(count: u64) -> [u8; 24] {
+    let mut frame = [0u8; 24];
+    frame[0] = 24;
+    frame[4] = 19;
+    let [a, b, c, d, e, f, g, h] = count.to_le_bytes();
+    frame[16..].copy_from_slice(&[a, b, c, d, e, f, g, h]);
+    frame
+}
+
+/// The longest message that fits 32 bits has 4294967279 bytes behind its header; no test makes them.
+#[test]
+fn the_longest_message(rt: HostRuntime) -> Result<(), Fail> {
+    let longest = NetlinkMessage::from_inner(Zeros(4294967279));
+    assert!(rt; longest.fits());
+    let longer = NetlinkMessage::from_inner(Zeros(4294967280));
+    assert!(rt; !longer.fits());
+    match normalize::<Zeros>(rt.alloc(), &counted(4294967280)) {
+        Err(refusal) => assert_eq!(rt; refusal.number(), 15),
+        Ok(_) => assert!(rt; false),
+    }
+    let four = [
+        0x14, 0, 0, 0, 0x12, 0, 0, 0, 0, 0, 0, 0, 0, 0, 0, 0, 0, 0, 0, 0,
+    ];
+    let frame = normalize::<Zeros>(rt.alloc(), &counted(4))?;
+    assert_eq!(rt; frame.as_slice(), four.as_slice());
+    Ok(())
+}
+
+/// Zeros are counted or read as a count; all else is refused.
+#[test]
+fn zeros_are_read(rt: HostRuntime) -> Result<(), Fail> {
+    let mut three = [0u8; 19];
+    three[0] = 19;
+    three[4] = 18;
+    assert!(rt; zeros_of(&NetlinkMessage::deserialize(rt.alloc(), &three)?) == Some(3));
+    three[18] = 1;
+    assert!(rt; NetlinkMessage::<Zeros>::deserialize(rt.alloc(), &three).is_err());
+    three[4] = 19;
+    assert!(rt; NetlinkMessage::<Zeros>::deserialize(rt.alloc(), &three).is_err());
+    three[4] = 20;
+    assert!(rt; NetlinkMessage::<Zeros>::deserialize(rt.alloc(), &three).is_err());
+    let count = NetlinkMessage::deserialize(rt.alloc(), &counted(0x0102030405060708))?;
+    assert!(rt; zeros_of(&count) == Some(0x0102030405060708));
+    Ok(())
+}
+
+fn zeros_of(message: &NetlinkMessage<Zeros>) -> Option<u64> {
+    match &message.payload {
+        NetlinkPayload::InnerMessage(zeros) => Some(zeros.0),
+        _ => None,
+    }
+}

@@ -1,0 +1,102 @@
+//! Values written in place, each followed by the walk of the block.
+
+ghost use Rattle.std.specs.Prelude.{◌≡◌, ◌∷◌, []};
+
+use crate::overwrite::overwrite;
+use crate::tests::attributes::{SHORT, TWO};
+use crate::tests::cuts::{Ending, WELL, nlas_of};
+use netlink_packet_core::nlas_value_mut;
+use std::test::Fail;
+
+const REPLACED: [u8; 16] = [5, 0, 1, 0, 0xaa, 0, 0, 0, 8, 0, 2, 0, 8, 0, 2, 0];
+
+#[test]
+fn a_value_is_written_over(rt: HostRuntime) -> Result<(), Fail> {
+    let both = "0001 1 aa\n0002 4 01020304\n";
+    let rows: [(&[u8], usize, &[u8], bool, &[u8], &str, Ending); 7] = [
+        (
+            &TWO,
+            1,
+            &[8, 0, 2, 0],
+            true,
+            &REPLACED,
+            "0001 1 aa\n0002 4 08000200\n",
+            WELL,
+        ),
+        (&TWO, 1, &[1, 2, 3], false, &TWO, both, WELL),
+        (&TWO, 2, &[1, 2, 3, 4], false, &TWO, both, WELL),
+        (&TWO, usize::MAX, &[], false, &TWO, both, WELL),
+        (&SHORT, 0, &[], true, &SHORT, "0001 0 -\n", (7, 4, 3)),
+        (&SHORT, 1, &[], false, &SHORT, "0001 0 -\n", (7, 4, 3)),
+        (
+            &[5, 0, 1, 0, 0xaa, 1, 2, 3, 3, 0, 7, 0],
+            0,
+            &[0xbb],
+            true,
+            &[5, 0, 1, 0, 0xbb, 1, 2, 3, 3, 0, 7, 0],
+            "0001 1 bb\n",
+            (7, 4, 3),
+        ),
+    ];
+    for (old, index, value, answer, new, lines, ending) in rows.iter() {
+        let mut block = old.to_vec(rt.alloc())?;
+        assert_eq!(rt; overwrite(block.as_mut_slice(), *index, value), *answer);
+        assert_eq!(rt; block.as_slice(), *new);
+        let (output, ended) = nlas_of(rt.alloc(), &block)?;
+        assert_eq!(rt; output.as_slice(), lines.as_bytes());
+        assert!(rt; ended == *ending);
+    }
+    Ok(())
+}
+
+/// A caller that knows the block learns the bytes that it becomes.
+fn replaced() -> [u8; 16]
+    ensures { result ≡ 5 ∷ 0 ∷ 1 ∷ 0 ∷ 0xaa ∷ 0 ∷ 0 ∷ 0 ∷ 8 ∷ 0 ∷ 2 ∷ 0 ∷ 8 ∷ 0 ∷ 2 ∷ 0 ∷ [] }
+{
+    let mut block = TWO;
+    overwrite(&mut block, 1, &[8, 0, 2, 0]);
+    block
+}
+
+#[test]
+fn a_known_block(rt: HostRuntime) {
+    assert_eq!(rt; replaced(), REPLACED);
+}
+
+/// A value is lent and written through the loan; what is not there is not lent.
+#[test]
+fn a_value_is_lent(rt: HostRuntime) -> Result<(), Fail> {
+    let mut block = TWO;
+    match nlas_value_mut(&mut block, 1) {
+        Some(value) => {
+            assert_eq!(rt; value.len(), 4);
+            assert_eq!(rt; &*value, [1u8, 2, 3, 4].as_slice());
+            value.copy_from_slice(&[5, 6, 7, 8]);
+        }
+        None => assert!(rt; false),
+    }
+    let (output, ended) = nlas_of(rt.alloc(), &block)?;
+    assert_eq!(rt;
+        output.as_slice(),
+        b"0001 1 aa\n0002 4 05060708\n".as_slice()
+    );
+    assert!(rt; ended == WELL);
+    assert!(rt; nlas_value_mut(&mut block, 2).is_none());
+    assert!(rt; nlas_value_mut(&mut block, usize::MAX).is_none());
+    let (again, ended) = nlas_of(rt.alloc(), &block)?;
+    assert_eq!(rt; again.as_slice(), output.as_slice());
+    assert!(rt; ended == WELL);
+    Ok(())
+}
+
+/// In front of a fault too.
+#[test]
+fn a_value_of_no_bytes_is_lent(rt: HostRuntime) -> Result<(), Fail> {
+    let mut block = SHORT;
+    assert!(rt; nlas_value_mut(&mut block, 0).is_some_and(|value| value.is_empty()));
+    assert!(rt; nlas_value_mut(&mut block, 1).is_none());
+    let (output, ended) = nlas_of(rt.alloc(), &block)?;
+    assert_eq!(rt; output.as_slice(), b"0001 0 -\n".as_slice());
+    assert!(rt; ended == (7, 4, 3));
+    Ok(())
+}

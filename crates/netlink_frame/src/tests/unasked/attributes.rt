@@ -1,0 +1,164 @@
+//! Attributes and blocks.
+
+ghost use Rattle.std.specs.Prelude.{◌∷◌, []};
+
+use crate::nlas::nlas_fault;
+use crate::overwrite::overwrite;
+use crate::tests::attributes::{SHORT, TWO};
+use crate::tests::hoard::{Hoard, refuses};
+use netlink_packet_core::{
+    DefaultNla, Emitable, EthernetProtocol, Nla, NlaBuffer, Nlas, NlasIterator, Parseable,
+    emit_nla, is_canonical_nlas, nla_align, nla_buffer_len, nla_fits, nla_place, nlas_value_mut,
+    normalize_nlas,
+};
+use std::test::Fail;
+
+const FLAGGED: [u8; 8] = [8, 0, 6, 0x40, 0, 0, 0x0e, 0x10];
+
+#[test]
+fn views_of_an_attribute(rt: HostRuntime) -> Result<(), Fail> {
+    let hoard = Hoard::new(rt.alloc(), 0)?;
+    match NlaBuffer::new_checked(&FLAGGED[..]) {
+        Ok(mut view) => {
+            assert!(rt; view.check_buffer_length().is_ok());
+            assert!(rt; view.length() == 8 && view.value_length() == 4);
+            assert!(rt; view.kind() == 6 && view.raw_kind() == 0x4006);
+            assert!(rt; view.network_byte_order_flag() && !view.nested_flag());
+            assert!(rt; view.value() == &FLAGGED[4..]);
+            assert!(rt; view.inner().len() == 8);
+            assert!(rt; view.into_inner() == &FLAGGED[..]);
+        }
+        Err(_) => assert!(rt; false),
+    }
+    let rows: [(&[u8], u8); 3] = [(&[5, 0, 1], 5), (&[5, 0, 1, 0], 6), (&[3, 0, 1, 0], 7)];
+    for (bytes, number) in rows.iter() {
+        assert!(rt; refuses(NlaBuffer::new_checked(*bytes), *number));
+        let view = NlaBuffer::new(*bytes);
+        assert!(rt; refuses(view.check_buffer_length(), *number));
+    }
+    assert!(rt; hoard.has_all());
+    Ok(())
+}
+
+#[test]
+fn fields_of_an_attribute(rt: HostRuntime) -> Result<(), Fail> {
+    let hoard = Hoard::new(rt.alloc(), 0)?;
+    let mut bytes = FLAGGED;
+    NlaBuffer::new(&mut bytes[..]).set_nested_flag();
+    assert!(rt; bytes == [8, 0, 6, 0x80, 0, 0, 0x0e, 0x10]);
+    NlaBuffer::new(&mut bytes[..]).set_network_byte_order_flag();
+    assert!(rt; bytes == FLAGGED);
+    NlaBuffer::new(&mut bytes[..]).set_kind(0xc007);
+    assert!(rt; bytes == [8, 0, 7, 0, 0, 0, 0x0e, 0x10]);
+    NlaBuffer::new(&mut bytes[..]).set_length(6);
+    assert!(rt; bytes == [6, 0, 7, 0, 0, 0, 0x0e, 0x10]);
+    let mut view = NlaBuffer::new(&mut bytes[..]);
+    if view.check_buffer_length().is_ok() {
+        view.value_mut().fill(9);
+    }
+    assert!(rt; view.inner_mut().len() == 8);
+    assert!(rt; bytes == [6, 0, 7, 0, 9, 9, 0x0e, 0x10]);
+    assert!(rt; hoard.has_all());
+    Ok(())
+}
+
+/// A flag of one byte.
+#[derive(Drop)]
+struct Flag(u8);
+
+impl Nla for Flag {
+    ghost kind_of = { λ _. 0x4007 };
+
+    ghost value_of = { λ flag. flag.0 ∷ [] };
+
+    fn value_len(&self) -> usize {
+        1
+    }
+
+    fn kind(&self) -> u16 {
+        0x4007
+    }
+
+    fn emit_value(&self, buffer: &mut [u8]) {
+        buffer[0] = self.0;
+    }
+}
+
+#[test]
+fn attributes_are_written(rt: HostRuntime) -> Result<(), Fail> {
+    let value = [9u8].to_vec(rt.alloc())?;
+    let hoard = Hoard::new(rt.alloc(), 0)?;
+    let nla = DefaultNla::new(0xc006, value);
+    assert!(rt; nla.kind() == 0xc006 && nla.value_len() == 1);
+    assert!(rt; nla.is_nested() && nla.is_network_byteorder());
+    assert!(rt; nla_align(5) == 8);
+    assert!(rt; nla_buffer_len(&nla) == 8);
+    assert!(rt; nla_fits(&nla));
+    let mut buffer = [0x55u8; 9];
+    emit_nla(&nla, &mut buffer);
+    assert!(rt; buffer == [5, 0, 6, 0xc0, 9, 0, 0, 0, 0x55]);
+    assert!(rt; nla.buffer_len() == 8);
+    let mut again = [0x55u8; 9];
+    nla.emit(&mut again);
+    assert!(rt; again == buffer);
+    let list = [Flag(9)];
+    let nlas = Nlas(&list);
+    assert!(rt; nlas.buffer_len() == 8);
+    nlas.emit(&mut again);
+    assert!(rt; again == [5, 0, 7, 0x40, 9, 0, 0, 0, 0x55]);
+    assert!(rt; hoard.has_all());
+    Ok(())
+}
+
+#[test]
+fn blocks_are_walked(rt: HostRuntime) -> Result<(), Fail> {
+    let alloc = rt.alloc();
+    let hoard = Hoard::new(alloc, 0)?;
+    let mut walk = NlasIterator::new(&SHORT);
+    assert!(rt; matches!(walk.next(), Some(Ok(_))));
+    match walk.next() {
+        Some(item) => assert!(rt; refuses(item, 7)),
+        None => assert!(rt; false),
+    }
+    assert!(rt; walk.next().is_none());
+    assert!(rt; walk == NlasIterator::new(&[]));
+    assert!(rt; nla_place(&TWO, 1) == Some((12, 16)) && nla_place(&TWO, 2).is_none());
+    assert!(rt; nlas_fault(&TWO).is_none());
+    match nlas_fault(&SHORT) {
+        Some(fault) => assert!(rt; fault.number() == 7),
+        None => assert!(rt; false),
+    }
+    assert!(rt; normalize_nlas(alloc, &[])?.is_empty());
+    let damaged: [(&[u8], u8); 3] = [(&TWO[..9], 5), (&TWO[..15], 6), (&SHORT, 7)];
+    for (block, number) in damaged.iter() {
+        assert!(rt; refuses(normalize_nlas(alloc, block), *number));
+    }
+    let mut block = TWO;
+    assert!(rt; overwrite(&mut block, 0, &[0xbb]));
+    assert!(rt; !overwrite(&mut block, 1, &[0xbb]));
+    assert!(rt; block == [5, 0, 1, 0, 0xbb, 0, 0, 0, 8, 0, 2, 0, 1, 2, 3, 4]);
+    assert!(rt; is_canonical_nlas(&TWO) && !is_canonical_nlas(&SHORT));
+    assert!(rt; nlas_value_mut(&mut block, 0).is_some_and(|value| value.len() == 1));
+    assert!(rt; nlas_value_mut(&mut block, 2).is_none());
+    assert!(rt; hoard.has_all());
+    Ok(())
+}
+
+#[test]
+fn attributes_without_a_value(rt: HostRuntime) -> Result<(), Fail> {
+    let alloc = rt.alloc();
+    let hoard = Hoard::new(alloc, 0)?;
+    let nla = DefaultNla::new(0xc006, Vec::new(alloc));
+    match NlaBuffer::new_checked(&[4, 0, 6, 0xc0][..]) {
+        Ok(view) => {
+            assert!(rt; DefaultNla::parse(alloc, &view)? == nla);
+        }
+        Err(_) => assert!(rt; false),
+    }
+    assert!(rt; nla.try_clone(alloc)? == nla);
+    assert!(rt; EthernetProtocol::from(0x0800) == EthernetProtocol::Ip);
+    assert!(rt; EthernetProtocol::from(0x1234).value() == 0x1234);
+    assert!(rt; EthernetProtocol::Other(0x0800).value() == 0x0800);
+    assert!(rt; hoard.has_all());
+    Ok(())
+}

@@ -1,0 +1,103 @@
+//! Messages.
+
+use crate::ping_pong::PingPongMessage;
+use crate::samples::Zeros;
+use crate::tests::hoard::{Hoard, refuses};
+use crate::tests::lengths::counted;
+use crate::tests::messages::{EMPTY_DONE, ERROR, Message, NOOP, PING};
+use netlink_packet_core::{
+    Emitable, NetlinkBuffer, NetlinkHeader, NetlinkMessage, NetlinkPayload, Parseable,
+    is_canonical_frame, normalize,
+};
+use std::test::Fail;
+
+#[test]
+fn a_message_is_written(rt: HostRuntime) -> Result<(), Fail> {
+    let alloc = rt.alloc();
+    let bytes = [0u8, 1, 2, 3].to_vec(alloc)?;
+    let hoard = Hoard::new(alloc, 0)?;
+    let mut message = Message::from_inner(PingPongMessage::Ping(bytes));
+    assert!(rt; message.fits());
+    message.finalize();
+    assert!(rt; message.buffer_len() == 20);
+    assert!(rt; message.payload.message_type() == 18);
+    let mut buffer = [0x55u8; 21];
+    message.serialize(&mut buffer);
+    assert!(rt; &buffer[..20] == &PING[..] && buffer[20] == 0x55);
+    let mut again = [0x55u8; 21];
+    message.emit(&mut again);
+    assert!(rt; again == buffer);
+    let (header, payload) = message.into_parts();
+    assert!(rt; header.length == 20);
+    let renewed = Message::new(NetlinkHeader::default(), payload);
+    assert!(rt; renewed.fits());
+    assert!(rt; !NetlinkMessage::from_inner(Zeros(4294967280)).fits());
+    assert!(rt; hoard.has_all());
+    Ok(())
+}
+
+const CODED_DONE: [u8; 20] = [
+    0x14, 0, 0, 0, 3, 0, 0, 0, 0, 0, 0, 0, 0, 0, 0, 0, 5, 0, 0, 0,
+];
+
+const EMPTY_OVERRUN: [u8; 16] = [0x10, 0, 0, 0, 4, 0, 0, 0, 0, 0, 0, 0, 0, 0, 0, 0];
+
+/// A noop, codes with no bytes behind them and an empty overrun are read without memory.
+#[test]
+fn messages_with_nothing_to_copy(rt: HostRuntime) -> Result<(), Fail> {
+    let alloc = rt.alloc();
+    let hoard = Hoard::new(alloc, 0)?;
+    let rows: [(&[u8], u16, i32, bool); 5] = [
+        (&NOOP, 1, 0, false),
+        (&ERROR, 2, -8765, true),
+        (&EMPTY_DONE, 3, 0, false),
+        (&CODED_DONE, 3, 5, true),
+        (&EMPTY_OVERRUN, 4, 0, true),
+    ];
+    for (frame, kind, code, canonical) in rows.iter() {
+        let message = Message::deserialize(alloc, frame)?;
+        assert!(rt; message.header.length as usize == frame.len());
+        assert!(rt; kind_and_code(&message) == (*kind, *code));
+        let view = NetlinkBuffer::new_checked(*frame)?;
+        assert!(rt; Message::parse(alloc, &view)? == message);
+        let verdict = is_canonical_frame::<PingPongMessage>(alloc, frame);
+        assert!(rt; verdict.ok() == Some(*canonical));
+    }
+    assert!(rt; hoard.has_all());
+    Ok(())
+}
+
+fn kind_and_code(message: &Message) -> (u16, i32) {
+    match &message.payload {
+        NetlinkPayload::Error(body) => (message.payload.message_type(), body.raw_code()),
+        NetlinkPayload::Done(body) => (message.payload.message_type(), body.code),
+        _ => (message.payload.message_type(), 0),
+    }
+}
+
+#[test]
+fn refusals_without_words(rt: HostRuntime) -> Result<(), Fail> {
+    let alloc = rt.alloc();
+    let mut short_done = [0u8; 19];
+    short_done[0] = 19;
+    short_done[4] = 3;
+    let mut short_error = [0u8; 19];
+    short_error[0] = 19;
+    short_error[4] = 2;
+    let hoard = Hoard::new(alloc, 0)?;
+    let rows: [(&[u8], u8); 5] = [
+        (&PING[..15], 9),
+        (&PING[..19], 10),
+        (&[0; 16], 11),
+        (&short_done, 12),
+        (&short_error, 13),
+    ];
+    for (bytes, number) in rows.iter() {
+        assert!(rt; refuses(Message::deserialize(alloc, bytes), *number));
+        let verdict = is_canonical_frame::<PingPongMessage>(alloc, bytes);
+        assert!(rt; verdict.ok() == Some(false));
+    }
+    assert!(rt; refuses(normalize::<Zeros>(alloc, &counted(4294967280)), 15));
+    assert!(rt; hoard.has_all());
+    Ok(())
+}

@@ -1,0 +1,147 @@
+//! Numbers, addresses, causes and texts.
+
+use crate::tests::hoard::{Hoard, refuses};
+use netlink_packet_core::{
+    DecodeError, ErrorContext, IpAddr, NonZeroI32, emit_i16, emit_i16_be, emit_i16_le, emit_i32,
+    emit_i32_be, emit_i32_le, emit_i64, emit_i64_be, emit_i64_le, emit_i128, emit_i128_be,
+    emit_i128_le, emit_u16, emit_u16_be, emit_u16_le, emit_u32, emit_u32_be, emit_u32_le, emit_u64,
+    emit_u64_be, emit_u64_le, emit_u128, emit_u128_be, emit_u128_le, parse_i8, parse_i16,
+    parse_i16_be, parse_i16_le, parse_i32, parse_i32_be, parse_i32_le, parse_i64, parse_i64_be,
+    parse_i64_le, parse_i128, parse_i128_be, parse_i128_le, parse_ip, parse_ipv6, parse_mac,
+    parse_string, parse_u8, parse_u16, parse_u16_be, parse_u16_le, parse_u32, parse_u32_be,
+    parse_u32_le, parse_u64, parse_u64_be, parse_u64_le, parse_u128, parse_u128_be, parse_u128_le,
+};
+use std::process::Abort;
+use std::test::Fail;
+
+/// A number is written as its bytes and read from them, and refused where there is no byte.
+macro_rules! number {
+    ($rt:expr, $emit:ident, $parse:ident, $value:expr, $bytes:expr) => {{
+        let bytes = $bytes;
+        let mut buffer = bytes;
+        buffer.fill(0x55);
+        assert!($rt; $emit(&mut buffer, $value).is_ok());
+        assert!($rt; buffer == bytes);
+        assert!($rt; $parse(&bytes).ok() == Some($value));
+        assert!($rt; refuses($emit(&mut [], $value), 8));
+        assert!($rt; refuses($parse(&[]), 4));
+    }};
+}
+
+fn two_bytes(rt: &impl Abort) {
+    number!(rt, emit_u16, parse_u16, 0x0201, [1, 2]);
+    number!(rt, emit_u16_le, parse_u16_le, 0x0201, [1, 2]);
+    number!(rt, emit_u16_be, parse_u16_be, 0x0102, [1, 2]);
+    number!(rt, emit_i16, parse_i16, -2, [0xfe, 0xff]);
+    number!(rt, emit_i16_le, parse_i16_le, -2, [0xfe, 0xff]);
+    number!(rt, emit_i16_be, parse_i16_be, -2, [0xff, 0xfe]);
+}
+
+fn four_bytes(rt: &impl Abort) {
+    number!(rt, emit_u32, parse_u32, 0x04030201, [1, 2, 3, 4]);
+    number!(rt, emit_u32_le, parse_u32_le, 0x04030201, [1, 2, 3, 4]);
+    number!(rt, emit_u32_be, parse_u32_be, 0x01020304, [1, 2, 3, 4]);
+    number!(rt, emit_i32, parse_i32, -2, [0xfe, 0xff, 0xff, 0xff]);
+    number!(rt, emit_i32_le, parse_i32_le, -2, [0xfe, 0xff, 0xff, 0xff]);
+    number!(rt, emit_i32_be, parse_i32_be, -2, [0xff, 0xff, 0xff, 0xfe]);
+}
+
+fn eight_bytes(rt: &impl Abort) {
+    let rising = [1, 2, 3, 4, 5, 6, 7, 8];
+    let low = [0xfe, 0xff, 0xff, 0xff, 0xff, 0xff, 0xff, 0xff];
+    let high = [0xff, 0xff, 0xff, 0xff, 0xff, 0xff, 0xff, 0xfe];
+    number!(rt, emit_u64, parse_u64, 0x0807060504030201, rising);
+    number!(rt, emit_u64_le, parse_u64_le, 0x0807060504030201, rising);
+    number!(rt, emit_u64_be, parse_u64_be, 0x0102030405060708, rising);
+    number!(rt, emit_i64, parse_i64, -2, low);
+    number!(rt, emit_i64_le, parse_i64_le, -2, low);
+    number!(rt, emit_i64_be, parse_i64_be, -2, high);
+}
+
+fn sixteen_bytes(rt: &impl Abort) {
+    let rising = [1, 2, 3, 4, 5, 6, 7, 8, 9, 10, 11, 12, 13, 14, 15, 16];
+    let mut low = [0xff; 16];
+    low[0] = 0xfe;
+    let mut high = [0xff; 16];
+    high[15] = 0xfe;
+    let lowest_first = 0x100f0e0d0c0b0a090807060504030201;
+    let highest_first = 0x0102030405060708090a0b0c0d0e0f10;
+    number!(rt, emit_u128, parse_u128, lowest_first, rising);
+    number!(rt, emit_u128_le, parse_u128_le, lowest_first, rising);
+    number!(rt, emit_u128_be, parse_u128_be, highest_first, rising);
+    number!(rt, emit_i128, parse_i128, -2, low);
+    number!(rt, emit_i128_le, parse_i128_le, -2, low);
+    number!(rt, emit_i128_be, parse_i128_be, -2, high);
+}
+
+#[test]
+fn numbers(rt: HostRuntime) -> Result<(), Fail> {
+    let hoard = Hoard::new(rt.alloc(), 0)?;
+    assert!(rt; hoard.has_all());
+    two_bytes(&rt);
+    four_bytes(&rt);
+    eight_bytes(&rt);
+    sixteen_bytes(&rt);
+    assert!(rt; NonZeroI32::new(0).is_none());
+    match NonZeroI32::new(-8765) {
+        Some(number) => assert!(rt; number.get() == -8765),
+        None => assert!(rt; false),
+    }
+    assert!(rt; hoard.has_all());
+    Ok(())
+}
+
+#[test]
+fn bytes_and_addresses(rt: HostRuntime) -> Result<(), Fail> {
+    let hoard = Hoard::new(rt.alloc(), 0)?;
+    assert!(rt; parse_u8(&[7]).ok() == Some(7));
+    assert!(rt; refuses(parse_u8(&[]), 4));
+    assert!(rt; parse_i8(&[0x80]).ok() == Some(-128));
+    assert!(rt; refuses(parse_i8(&[1, 2]), 4));
+    assert!(rt; parse_mac(&[1, 2, 3, 4, 5, 6]).ok() == Some([1, 2, 3, 4, 5, 6]));
+    assert!(rt; refuses(parse_mac(&[0; 5]), 2));
+    assert!(rt; parse_ipv6(&[9; 16]).ok() == Some([9; 16]));
+    assert!(rt; refuses(parse_ipv6(&[0; 4]), 3));
+    assert!(rt; parse_ip(&[127, 0, 0, 1]).ok() == Some(IpAddr::V4([127, 0, 0, 1])));
+    assert!(rt; parse_ip(&[9; 16]).ok() == Some(IpAddr::V6([9; 16])));
+    assert!(rt; refuses(parse_ip(&[0; 5]), 3));
+    assert!(rt; hoard.has_all());
+    Ok(())
+}
+
+#[test]
+fn causes_and_empty_texts(rt: HostRuntime) -> Result<(), Fail> {
+    let alloc = rt.alloc();
+    let words = String::from_str(alloc, "a text")?;
+    let hoard = Hoard::new(alloc, 0)?;
+    let rows = [
+        (DecodeError::invalid_buffer(alloc, "", 0, 1), 1),
+        (DecodeError::invalid_mac_address(5), 2),
+        (DecodeError::invalid_ip_address(5), 3),
+        (DecodeError::invalid_number(8, 7), 4),
+        (DecodeError::nla_buffer_too_small(1, 4), 5),
+        (DecodeError::nla_length_mismatch(4, 5), 6),
+        (DecodeError::nla_invalid_length(4, 3), 7),
+        (DecodeError::buffer_too_small(3, 4), 8),
+        (DecodeError::frame_short(4, true), 9),
+        (DecodeError::frame_cut(40, 24, true), 10),
+        (DecodeError::frame_length(15, true), 11),
+        (DecodeError::done_short(3, true), 12),
+        (DecodeError::error_short(3, true), 13),
+        (DecodeError::from_text(alloc, ""), 14),
+        (DecodeError::from(words), 14),
+        (DecodeError::too_long(), 15),
+        (DecodeError::out_of_memory(), 16),
+        (DecodeError::out_of_memory().context(alloc, "a line"), 16),
+    ];
+    for (cause, number) in rows.iter() {
+        assert!(rt; cause.number() == *number);
+        assert!(rt; cause.is_out_of_memory() == (*number == 16));
+    }
+    let fine: Result<u8, DecodeError> = Ok(7);
+    assert!(rt; fine.context(alloc, "a line").ok() == Some(7));
+    assert!(rt; parse_string(alloc, &[])?.as_str().is_empty());
+    assert!(rt; parse_string(alloc, &[0])?.as_str().is_empty());
+    assert!(rt; hoard.has_all());
+    Ok(())
+}
