@@ -1,5 +1,5 @@
 -- What a canonical block starts with.
-use Rattle.std.proofs.Common.{◌≡◌, ◌≢◌, ◌↔◌, ℕ, ◌-◌, ◌<◌, min, List, [], ◌∷◌, ◌++◌, length, take, drop, refl, ap, sym, subst, ◌∙◌, inl, inr, arith, append_assoc, length-append, length-drop}
+use Rattle.std.proofs.Common.{◌≡◌, ◌≢◌, ◌↔◌, ℕ, ◌-◌, ◌<◌, min, List, [], ◌∷◌, ◌++◌, length, take, drop, ap, sym, subst, ◌∙◌, inl, inr, arith, length-append, length-drop}
 use Rattle.std.proofs.lemmas.List.{length-take, length-replicate, take_at, drop_at}
 use Rattle.std.specs.Prelude.{replicate}
 use Rattle.netlink_bytes.specs.declared.error.DecodeError.{DecodeError}
@@ -7,7 +7,7 @@ use Rattle.netlink_attributes.specs.Attribute.{Attribute, attribute_text, padded
 use Rattle.netlink_attributes.specs.Block.{IsBlockOf, IsCanonicalBlock}
 use Rattle.netlink_attributes.specs.Sizes.{length-attribute_text}
 use Rattle.netlink_attributes.specs.Views.{length_field}
-use Rattle.netlink_attributes.specs.Walk.{Starts, Walk, IsFault}
+use Rattle.netlink_attributes.specs.Walk.{Starts, IsFault}
 use Rattle.netlink_attributes.proofs.Blocks.{block_walks}
 use Rattle.netlink_attributes.proofs.Starting.{starts-attribute_of, starts-fault, starts-length_field, starts-rest, nothing_starts}
 

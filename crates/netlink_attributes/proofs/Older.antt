@@ -1,5 +1,5 @@
 -- What was canonical while an attribute with both flag bits lost one is so still.
-use Rattle.std.proofs.Common.{◌≡◌, ℕ, Bool, cond, ◌-◌, ◌<◌, ◌^◌, List, [], ◌∷◌, ◌++◌, length, refl, ap, sym, ◌∙◌, arith, Option, None}
+use Rattle.std.proofs.Common.{◌≡◌, ℕ, Bool, cond, ◌-◌, ◌<◌, ◌^◌, List, [], ◌∷◌, ◌++◌, refl, ap, sym, ◌∙◌, Option, None}
 use Rattle.std.proofs.lemmas.Bool.{lt-leb}
 use Rattle.netlink_bytes.specs.declared.error.DecodeError.{DecodeError}
 use Rattle.netlink_attributes.specs.Attribute.{Attribute, padded}

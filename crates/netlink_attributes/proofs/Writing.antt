@@ -1,11 +1,11 @@
 -- The sizes and the pieces of what is written.
 use Rattle.std.proofs.Common.{◌≡◌, ℕ, ◌+◌, ◌-◌, ◌<◌, ◌^◌, List, [], ◌++◌, length, get_or, take, drop, ap, sym, ◌∙◌, arith, All, None, append_assoc, append-nil, length-append, length-drop}
-use Rattle.std.proofs.lemmas.List.{length-replicate, drop-drop, drop_more, drop_all, take_rest, take_at, drop_at}
+use Rattle.std.proofs.lemmas.List.{drop-drop, drop_more, drop_all, take_rest, take_at, drop_at}
 use borrow.Rule.Slice.PartMut.{put_mid}
 use Rattle.std.specs.Prelude.{replicate}
 use Rattle.netlink_bytes.specs.Numbers.{text_le}
 use Rattle.std.proofs.lemmas.List.Elements.{All-map}
-use Rattle.netlink_attributes.specs.Attribute.{Attribute, FitsAttribute, attribute_text, padded, padding}
+use Rattle.netlink_attributes.specs.Attribute.{FitsAttribute, padded, padding}
 use Rattle.netlink_attributes.specs.Block.{canonical_block}
 use Rattle.netlink_attributes.specs.Nla.{attribute_with, attributes_of, AllFit}
 use Rattle.netlink_attributes.specs.Walk.{Walk}
