@@ -1,6 +1,6 @@
 //! A sub-protocol of zeros, for tests of long messages without their bytes.
 
-ghost use Rattle.std.specs.Prelude.{◌≡◌, false, refl};
+ghost use Rattle.std.specs.Prelude.{◌≡◌, IfErr, IfOk, IsTrue, None, OnErr, Some, false, refl};
 ghost use Rattle.netlink_frame.specs.Zeros.{are_zeros, zeros_decoding, zeros_encoding};
 ghost use Rattle.netlink_frame.specs.ZerosLaws.{equal_pairs, reading_is_lawful, value_is_lawful};
 
@@ -51,7 +51,13 @@ impl NetlinkDeserializable for Zeros {
         _alloc: Global,
         header: &NetlinkHeader,
         payload: &[u8],
-    ) -> Result<Self, DeserializeError> {
+    ) -> Result<Self, DeserializeError>
+        ensures in_range { IfOk result (λ v. IsTrue (zeros_decoding.in_range v)) }
+        ensures reads { IfOk result (λ v. zeros_decoding.reading header.now payload.now ≡ Some (zeros_decoding.stands_for v)) }
+        ensures refuses { OnErr result (zeros_decoding.reading header.now payload.now ≡ None) }
+        // There is one error, which is not want of memory.
+        ensures fault { IfErr result (λ e. e ≡ DeserializeError.InvalidType) }
+    {
         match header.message_type {
             ZEROS_MESSAGE if are_zeros(payload) => Ok(Zeros(payload.len() as u64)),
             COUNT_MESSAGE => match parse_u64_le(payload) {
