@@ -68,6 +68,7 @@ fn words_and_faults(rt: HostRuntime) -> Result<(), Fail> {
     assert!(rt; Command::from_text("show") == Some(Command::Show));
     assert!(rt; Command::from_text("nlas") == Some(Command::Nlas));
     assert!(rt; Command::from_text("canon") == Some(Command::Canon));
+    assert!(rt; Command::from_text("frames") == Some(Command::Frames));
     for word in [
         "",
         "Normalize",
@@ -76,7 +77,7 @@ fn words_and_faults(rt: HostRuntime) -> Result<(), Fail> {
         "shows",
         "nla",
         "canonical",
-        "frames",
+        "frame",
     ] {
         assert!(rt; Command::from_text(word).is_none());
     }
