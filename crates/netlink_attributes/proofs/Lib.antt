@@ -3,7 +3,6 @@ pub mod Canonicals
 pub mod Cutting
 pub mod Fields
 pub mod Older
-pub mod Lending
 pub mod Passing
 pub mod Normalizing
 pub mod Placing

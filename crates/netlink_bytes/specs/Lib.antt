@@ -2,6 +2,7 @@ pub mod Causes
 pub mod ContextLaws
 pub mod Contexts
 pub mod Laws
+pub mod Lending
 pub mod NonZero
 pub mod NumberLaws
 pub mod Numbers

@@ -1,26 +1,27 @@
 -- The range is looked up, and that part of the slice is lent on, or the slice stays.
-use Rattle.std.proofs.Common.{◌≡◌, ℕ, ◌-◌, ◌^◌, ◌<◌, ◌≤◌, List, [], ◌∷◌, ◌++◌, refl, ap, ◌∙◌, lit<, w64, arith, length, take, drop as drop_list, ◌+◌, MutBor, length-drop}
+use Rattle.std.proofs.Common.{◌≡◌, ℕ, ◌-◌, ◌^◌, ◌<◌, ◌≤◌, List, [], ◌∷◌, ◌++◌, refl, ap, ◌∙◌, lit<, w64, arith, length, take, ◌+◌, MutBor}
 use Rattle.std.proofs.VecSteps.Element.{Some-of, none_of}
 use Rattle.std.proofs.VecSteps.Shapes.{after}
-use Rattle.std.proofs.lemmas.List.{length-take}
 use Rattle.std.proofs.raw_atomic.Walks.{proved}
 use Rattle.std.specs.Prelude.{Some, None, Option, OnSome}
 use Rattle.std.specs.contracts.option.Option as OP
+use Rattle.netlink_bytes.specs.Lending.{starts_at, length_part, mid, lends_part}
 use Rattle.netlink_bytes.specs.Storage.{put_at}
-use Rattle.netlink_attributes.proofs.Lending.{mid, lends_part, says_both}
 use Rattle.netlink_attributes.proofs.Values.{no_value, some_value, value_held, value_written}
 use Rattle.netlink_attributes.specs.Places.{IsRange, IsWritten}
 use base.Fml.{ftrue, flft, fobs, fres, fex, GName}
-use base.Logic.{id⊢}
+use base.Logic.{SProp, id⊢, sep, via, assoc∗}
 use base.Stored.{coded_list}
-use borrow.Table.Elements.{at, at_mul}
+use borrow.Table.Elements.{at}
 use lib.Dec.{ltb→lt, nltb→le}
 use mathlib.Core.Option as maybe
 use mir.Syntax.{named}
 use mir.Val.{Val, vint, vstruct, of_list}
 use contract.Monad.{fact}
+use seplogic.Ra.Ura.{Ura}
+use types.Logic.{Logic}
 use contract.Running.{tables}
-use types.Kit.{‵, raw, ◌⊛◌, some, later, at_ret, ◌$◌, ◌∵◌, !, qed, done, move, keep, drop, use0, use1, use2, split, split3, join, fsplit, fsplit3, fjoin, fpick, fpack, feq_l, pick, await, rewrite, suffices, frame}
+use types.Kit.{Item, Step, step, prop, ‵, raw, ◌⊛◌, some, later, at_ret, ◌$◌, ◌∵◌, !, qed, done, move, keep, drop, use0, use1, use2, split, split3, join, fsplit, fsplit3, fjoin, fpick, fpack, feq_l, pick, await, rewrite, suffices, frame}
 use types.Match.{live}
 use types.Run.{enter, of_opd, lit, bin, addr, and_then, no_more, stop, fld, hop, from, first, branches, skips, exec, returns, returns_within}
 use types.Part.{whole, sub, agg}
@@ -44,7 +45,7 @@ use denote.Triple.Call.{calls_at}
 use denote.Triple.Clauses.{lasts}
 use denote.Triple.Spec.{triple_of}
 use denote.Triple.Table.{framed}
-use denote.Triple.Walked.{Stays, walk_of, stay_dropped, Goes-spent_slice, Goes-dropped, ends_at}
+use denote.Triple.Walked.{Stays, walk_of, says, stay_dropped, Goes-spent_slice, Goes-dropped, ends_at}
 use Rattle.netlink_attributes.specs.contracts.place.nlas_value_mut as f
 use Rattle.netlink_attributes.proofs.place.nlas_value_mut.Statement.{statement}
 use Rattle.netlink_attributes.proofs.place.nlas_value_mut.Code as code
@@ -66,11 +67,9 @@ Such bytes index r = (s : (List ℕ → List ℕ) × List ℕ) × ((value : List
 abbrev triple : List Val → List Val → List Val → List Val
 triple us vs ws = vstruct (of_list (us ++ (vs ++ (ws ++ [])))) ∷ []
 
-starts_at : (n o : ℕ) (xs : List ℕ) → n ≤ length xs → at o 1 (length (take n xs)) ≡ n + o
-starts_at n o xs inside = let steps = at_mul o 1 (length (take n xs)) in let taken = length-take n xs in omega arith
-
-length_part : (n m : ℕ) (xs : List ℕ) → n ≤ m → m ≤ length xs → length (take (m - n) (drop_list n xs)) ≡ m - n
-length_part n m xs order inside = let taken = length-take (m - n) (drop_list n xs) in let left = length-drop n xs in omega arith
+-- a goal P ∗ (⌜φ⌝ ∗ ⌜ψ⌝): both facts are shown, and P is left
+says_both : {M : Type 1} {𝓤 : Ura M} {𝓛 : Logic 𝓤} {K : Type 0} {Γ : List (Item 𝓤)} → K → {φ ψ : Type 0} {P : SProp 𝓤} → φ → ψ → Step K 𝓛 Γ (prop P) Γ (prop (sep 𝓤 P (sep 𝓤 (fact 𝓤 φ) (fact 𝓤 ψ))))
+says_both {𝓤 = 𝓤} t {φ} {ψ} {P} x y = step (λ s. record { prf = via 𝓤 (sep 𝓤 (sep 𝓤 P (fact 𝓤 φ)) (fact 𝓤 ψ)) (says t y $ says t x $ s).prf (assoc∗ 𝓤 P (fact 𝓤 φ) (fact 𝓤 ψ)) })
 
 pub nlas_value_mut_spec : {M : Type 1} → statement M
 unfolding follows_by such_by

@@ -6,11 +6,14 @@ use crate::nlas::nlas_fault;
 use crate::overwrite::overwrite;
 use crate::tests::attributes::{SHORT, TWO};
 use crate::tests::hoard::{Hoard, refuses};
+use netlink_ethernet::{Comparisons, look_up};
 use netlink_packet_core::{
     DefaultNla, Emitable, EthernetProtocol, Nla, NlaBuffer, Nlas, NlasIterator, Parseable,
     emit_nla, is_canonical_nlas, nla_align, nla_buffer_len, nla_fits, nla_place, nlas_value_mut,
     normalize_nlas,
 };
+use std::fmt;
+use std::fmt::Write;
 use std::test::Fail;
 
 const FLAGGED: [u8; 8] = [8, 0, 6, 0x40, 0, 0, 0x0e, 0x10];
@@ -156,9 +159,44 @@ fn attributes_without_a_value(rt: HostRuntime) -> Result<(), Fail> {
         Err(_) => assert!(rt; false),
     }
     assert!(rt; nla.try_clone(alloc)? == nla);
+    assert!(rt; hoard.has_all());
+    Ok(())
+}
+
+/// A buffer that text is written to, of few bytes.
+#[derive(Drop)]
+struct Line {
+    text: [u8; 8],
+    len: usize,
+}
+
+impl fmt::Write for Line {
+    fn write_str(&mut self, s: &str) -> fmt::Result {
+        for byte in s.as_bytes().iter() {
+            match self.text.get_mut(self.len) {
+                Some(place) => *place = *byte,
+                None => return Err(fmt::Error),
+            }
+            self.len += 1;
+        }
+        Ok(())
+    }
+}
+
+#[test]
+fn ethernet_protocols(rt: HostRuntime) -> Result<(), Fail> {
+    let hoard = Hoard::new(rt.alloc(), 0)?;
     assert!(rt; EthernetProtocol::from(0x0800) == EthernetProtocol::Ip);
     assert!(rt; EthernetProtocol::from(0x1234).value() == 0x1234);
     assert!(rt; EthernetProtocol::Other(0x0800).value() == 0x0800);
+    assert!(rt; u16::from(EthernetProtocol::Ip) == 0x0800);
+    let mut comparisons = Comparisons::new();
+    assert!(rt; look_up(0x0800, &mut comparisons) == EthernetProtocol::Ip);
+    assert!(rt; comparisons.count() <= 7);
+    let mut line = Line { text: [0; 8], len: 0 };
+    assert!(rt; write!(line, "{}", EthernetProtocol::Ip).is_ok());
+    assert!(rt; write!(line, "{}", EthernetProtocol::Other(0x1234)).is_ok());
+    assert!(rt; line.text == *b"ip0x1234");
     assert!(rt; hoard.has_all());
     Ok(())
 }

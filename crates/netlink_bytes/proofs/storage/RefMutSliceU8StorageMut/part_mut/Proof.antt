@@ -1,8 +1,6 @@
 -- Part of what the inner reference holds is lent on.
-use Rattle.std.proofs.Common.{◌≡◌, ℕ, ◌*◌, ◌-◌, ◌^◌, ◌<◌, ◌≤◌, List, [], ◌∷◌, refl, ap, w8, w64, arith, length, take, drop as drop_list, ◌+◌, length-drop}
-use Rattle.std.proofs.lemmas.List.{length-take}
-use borrow.Table.Elements.{at, at_mul}
-use Rattle.netlink_bytes.proofs.Lends.{mid, lends_part}
+use Rattle.std.proofs.Common.{◌≡◌, ℕ, ◌*◌, ◌-◌, ◌^◌, ◌<◌, ◌≤◌, List, [], ◌∷◌, refl, ap, w8, w64, arith, length, ◌+◌}
+use Rattle.netlink_bytes.specs.Lending.{starts_at, length_part, mid, lends_part}
 use Rattle.netlink_bytes.specs.Storage.{put_at}
 use Rattle.std.proofs.raw_atomic.Walks.{proved}
 use base.Fraction.{full_share}
@@ -36,12 +34,6 @@ use Rattle.netlink_bytes.proofs.storage.RefMutSliceU8StorageMut.part_mut.Code as
 
 abbrev stayed : Stays f.ended.signature.params f.ended.kept
 stayed = (stay_dropped (RefMutOf (0 ∷ []) tt (SliceRefMutOf (1 ∷ []) tt (plain (λ κs. u8)) (λ κs. tt)) (λ κs. tt)) no, (stay_dropped (plain (λ _. usize)) yes, (stay_dropped (plain (λ _. usize)) yes, tt)))
-
-starts_at : (n o : ℕ) (xs : List ℕ) → n ≤ length xs → at o 1 (length (take n xs)) ≡ n + o
-starts_at n o xs h = let e = at_mul o 1 (length (take n xs)) in let l = length-take n xs in omega arith
-
-length_part : (n m : ℕ) (xs : List ℕ) → n ≤ m → m ≤ length xs → length (take (m - n) (drop_list n xs)) ≡ m - n
-length_part n m xs h g = let l = length-take (m - n) (drop_list n xs) in let k = length-drop n xs in omega arith
 
 pub part_mut_spec : {M : Type 1} → statement M
 part_mut_spec 𝓤 𝓛 𝓜 𝓡 wired =

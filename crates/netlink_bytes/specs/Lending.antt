@@ -1,6 +1,6 @@
--- Part of a borrowed slice is lent on, and the slice ends with what was written there.
-use Rattle.std.proofs.Common.{◌≡◌, ℕ, ◌+◌, List, [], ◌∷◌, ◌++◌, length, take, drop as drop_list, refl, sym, ap, ◌∙◌, arith, length-append}
-use Rattle.std.proofs.lemmas.List.{take-append-drop, drop_at, drop-drop}
+-- Laws of lending, for callers to cite: part of a borrowed slice is lent on, and the slice ends with what was written there.
+use Rattle.std.proofs.Common.{◌≡◌, ℕ, ◌+◌, ◌-◌, ◌≤◌, List, [], ◌∷◌, ◌++◌, length, take, drop as drop_list, refl, sym, ap, ◌∙◌, arith, length-append, length-drop}
+use Rattle.std.proofs.lemmas.List.{take-append-drop, drop_at, drop-drop, length-take}
 use seplogic.Ra.Ura.{Ura}
 use mir.Syntax.{Lifetime}
 use mir.Val.{Val}
@@ -18,7 +18,14 @@ use denote.Array.{Array}
 use denote.Slice.{MutSlice, Room, slice_val}
 use denote.Follow.{follows}
 use denote.FollowSlice.{heres_id, slice_of}
-use borrow.Table.Elements.{at, cut_app, join_app}
+use borrow.Table.Elements.{at, at_mul, cut_app, join_app}
+
+-- where a part of bytes starts in memory, and how long it is
+pub starts_at : (n o : ℕ) (xs : List ℕ) → n ≤ length xs → at o 1 (length (take n xs)) ≡ n + o
+starts_at n o xs inside = let steps = at_mul o 1 (length (take n xs)) in let taken = length-take n xs in omega arith
+
+pub length_part : (n m : ℕ) (xs : List ℕ) → n ≤ m → m ≤ length xs → length (take (m - n) (drop_list n xs)) ≡ m - n
+length_part n m xs order inside = let taken = length-take (m - n) (drop_list n xs) in let left = length-drop n xs in omega arith
 
 module _ {M : Type 1} {𝓤 : Ura M} (𝓛 : Logic 𝓤) (ℓ : Lifetime) (κ : Lft) (q : Share) (b o : ℕ) (γ : GName) where
   open 𝓛 use {H, A}
