@@ -1,4 +1,4 @@
--- What holds of numbers and their bytes at every width, and of two contexts.
+-- What holds of numbers and their bytes at every width.
 use Rattle.std.specs.Prelude.{◌≡◌, ◌<◌, ◌+◌, ◌*◌, ◌%◌, ◌^◌, ℕ, ℤ, suc, List, [], ◌∷◌, ◌++◌, length, reverse, take}
 use Rattle.netlink_bytes.specs.Numbers.{IsBytes, IsSigned, number_le, number_be, text_le, text_be, signed, unsigned}
 

@@ -7,7 +7,7 @@ use crate::error::DecodeError;
 use std::alloc::Global;
 use std::convert::AsStr;
 
-/// What puts a line in front of an error. `T` is `&str` or `String`.
+/// What puts a line in front of an error. `T` is a text: `&str`, `String` or another `AsStr`.
 pub trait ErrorContext<T> {
     /// It is an error that takes a line.
     ghost takes_line: { Self → Type 0 };

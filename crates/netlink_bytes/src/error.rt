@@ -7,6 +7,7 @@ mod display;
 
 use std::alloc::{AllocError, Global};
 use std::error::Error;
+use std::str::Utf8Error;
 use std::string::FromUtf8Error;
 
 /// The cause of a refusal, one of a closed list. Sizes and lengths are in bytes.
@@ -39,7 +40,7 @@ pub enum DecodeError {
         buffer_len: usize,
         nla_len: usize,
     },
-    /// C6: an attribute's length field is above the bytes that there are.
+    /// C6: an attribute's length field is above the number of bytes that there are.
     NlaLengthMismatch {
         buffer_len: usize,
         nla_len: usize,
@@ -59,7 +60,7 @@ pub enum DecodeError {
         size: usize,
         inside: bool,
     },
-    /// C10: a message's length field is above the bytes that there are.
+    /// C10: a message's length field is above the number of bytes that there are.
     FrameCut {
         length: u32,
         size: usize,
@@ -70,12 +71,12 @@ pub enum DecodeError {
         length: u32,
         inside: bool,
     },
-    /// C12: the body of a done message is below 4 bytes.
+    /// C12: the body of a done message has fewer than 4 bytes. In a whole message no bytes at all stand for code 0.
     DoneShort {
         size: usize,
         inside: bool,
     },
-    /// C13: the body of an error message is below 4 bytes.
+    /// C13: the body of an error message has fewer than 4 bytes.
     ErrorShort {
         size: usize,
         inside: bool,
@@ -233,7 +234,7 @@ impl DecodeError {
     pub fn from_utf8_error(alloc: Global, error: FromUtf8Error) -> Self
         ensures begins { TextBegins (codes "Invalid UTF-8 sequence: ") result }
     {
-        match utf8_text(alloc, error) {
+        match utf8_text(alloc, error.utf8_error()) {
             Ok(text) => DecodeError::Message(text),
             Err(_) => DecodeError::OutOfMemory,
         }
@@ -283,7 +284,7 @@ fn copied(alloc: Global, text: &str) -> Result<String, AllocError>
 }
 
 /// The text of an error of UTF-8, behind its fixed beginning.
-fn utf8_text(alloc: Global, error: FromUtf8Error) -> Result<String, AllocError>
+pub(crate) fn utf8_text(alloc: Global, error: Utf8Error) -> Result<String, AllocError>
     ensures { IfOk result (λ text. (rest : List ℕ) × (string_bytes text ≡ codes "Invalid UTF-8 sequence: " ++ rest)) }
 {
     let fault = error.to_string(alloc)?;

@@ -1,9 +1,9 @@
-//! Laws of numbers and their bytes and of contexts, for callers to cite.
+//! Laws of numbers and their bytes, and of lines in front of an error, for callers to cite.
 
 ghost use Rattle.netlink_bytes.specs.Contexts.{LinesChain};
 ghost use Rattle.netlink_bytes.specs.Laws.{BytesReadBack, NumberIsSum, SignedReadsBack, TextIsBytes, TextReadsBack, UnsignedReadsBack, WrittenIsRead, WrittenSignedIsRead};
 
-/// The number of bytes is the sum of each byte by its place, and a text of so many bytes is a list of so many bytes.
+/// The number of bytes is the sum of each byte times 256 to the power of its place, and a text of some size is a list of as many bytes.
 pub fn numbers_are_sums()
     ensures sums { NumberIsSum }
     ensures bytes { TextIsBytes }
@@ -15,7 +15,7 @@ pub fn numbers_read_back()
     ensures bytes { BytesReadBack }
 {}
 
-/// Two's complement is one to one at each width.
+/// Two's complement is one to one at each width from one byte on.
 pub fn signed_numbers_read_back()
     ensures signed { SignedReadsBack }
     ensures unsigned { UnsignedReadsBack }
@@ -27,7 +27,7 @@ pub fn written_is_read()
     ensures signed { WrittenSignedIsRead }
 {}
 
-/// Of two contexts the later one stands first: `b caused by a caused by` the text of the error, memory aside.
+/// Of two lines in front of an error the later one stands first: `b caused by a caused by` the text of the error, memory aside.
 pub fn contexts_chain()
     ensures chain { LinesChain }
 {}

@@ -1,4 +1,4 @@
-//! Whole numbers as bytes. Native order is little-endian here.
+//! Whole numbers as bytes. Native order is little-endian here. No call asks for memory.
 #![tactic(auto, using(crate::proofs::Bytes::numbers_as_bytes))]
 
 pub mod signed;

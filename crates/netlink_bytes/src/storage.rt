@@ -1,6 +1,6 @@
 //! What a view stands over.
 
-ghost use Rattle.std.specs.Prelude.{◌≡◌, ◌≤◌, slice_range, ℕ, List, [], length};
+ghost use Rattle.std.specs.Prelude.{◌≡◌, ◌≤◌, slice_range, ℕ, List, length};
 ghost use Rattle.std.specs.Borrow.{Lends, Array, sem, u8 as byte};
 ghost use Rattle.std.specs.Vec.{with_items};
 ghost use Rattle.netlink_bytes.specs.Storage.{put_at};
@@ -29,7 +29,8 @@ pub trait StorageMut: Storage {
         ensures* writes_back { sem 𝓛 (Lends Self.row (Array byte 0) self.entry result (holding self.old)) }
         ensures value { result.now ≡ Self.held self.old };
 
-    /// The bytes from `start` up to `end`, lent for writing. Asks for no memory.
+    /// The bytes from `start` up to `end`, lent for writing; `start` is at most `end`, and `end` at
+    /// most their number. Asks for no memory.
     fn part_mut(&mut self, start: usize, end: usize) -> &mut [u8]
         requires order { start ≤ end }
         requires inside { end ≤ length (Self.held self.old) }

@@ -1,4 +1,4 @@
-//! Rows of the tables, with ample memory.
+//! Each public call, with ample memory.
 
 mod causes;
 mod contexts;

@@ -1,14 +1,13 @@
 //! Texts in bytes.
 
-ghost use Rattle.std.specs.Prelude.{◌≡◌, ◌++◌, ◌⊎◌, ℕ, List, [], codes, string_bytes, IsOk, IsErr, IfOk, IfErr, IsOkUnless};
+ghost use Rattle.std.specs.Prelude.{◌≡◌, [], codes, string_bytes, IsOk, IsErr, IfOk, IfErr, IsOkUnless};
 ghost use Rattle.std.specs.Str.{IsUtf8};
 ghost use Rattle.netlink_bytes.specs.Causes.{TextBegins};
 ghost use Rattle.netlink_bytes.specs.Text.{without_last_zero};
 ghost use Rattle.netlink_bytes.specs.declared.error.DecodeError.TheVariants.{OutOfMemory};
 
-use crate::error::DecodeError;
-use std::alloc::{AllocError, Global};
-use std::str::Utf8Error;
+use crate::error::{DecodeError, utf8_text};
+use std::alloc::Global;
 
 /// The text of the bytes without one zero byte at their end.
 ///
@@ -27,7 +26,7 @@ pub fn parse_string(alloc: Global, payload: &[u8]) -> Result<String, DecodeError
     }
     match std::str::from_utf8(bytes) {
         Ok(text) => Ok(String::from_str(alloc, text)?),
-        Err(error) => Err(DecodeError::Message(not_utf8(alloc, error)?)),
+        Err(error) => Err(DecodeError::Message(utf8_text(alloc, error)?)),
     }
 }
 
@@ -39,12 +38,4 @@ fn cut_last_zero(bytes: &[u8]) -> &[u8]
         [front @ .., 0] => front,
         whole => whole,
     }
-}
-
-/// The text of an error of UTF-8, behind its fixed beginning.
-fn not_utf8(alloc: Global, error: Utf8Error) -> Result<String, AllocError>
-    ensures { IfOk result (λ text. (rest : List ℕ) × (string_bytes text ≡ codes "Invalid UTF-8 sequence: " ++ rest)) }
-{
-    let fault = error.to_string(alloc)?;
-    format!(in alloc; "Invalid UTF-8 sequence: {fault}")
 }

@@ -19,12 +19,13 @@ pub trait Emitable {
     /// A buffer longer than the text is taken; otherwise it has to be of the text's size.
     ghost takes_longer: { Bool };
 
-    /// The size of the text in bytes. Asks for no memory.
+    /// The size of the text in bytes, which has to be below 2 to the power of 64. Asks for no memory.
     fn buffer_len(&self) -> usize
         requires in_size { length (text self.now) < 2 ^ 64 }
         ensures size { result ≡ length (text self.now) };
 
-    /// Writes the text at the start of the buffer and leaves the rest. Asks for no memory.
+    /// Writes the text at the start of the buffer and leaves the rest. The buffer has the text's
+    /// size, or more where a longer one is taken. Asks for no memory.
     fn emit(&self, buffer: &mut [u8])
         requires can { can_emit self.now }
         requires room { HasRoom takes_longer (length (text self.now)) (length buffer.old) }

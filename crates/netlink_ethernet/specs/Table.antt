@@ -16,7 +16,7 @@ row number name = record { number = number; name = name }
 abbrev pub hexadecimal : ℕ → List ℕ
 hexadecimal n = codes "0x" ++ digits 16 false n
 
--- the table: each protocol's number in linux/if_ether.h, and its printed name
+-- the table: each protocol's number and its printed name, after linux/if_ether.h
 abbrev pub row_of : EthernetProtocol → Row
 row_of Loop = row 0x0060 (codes "loop")
 row_of Pup = row 0x0200 (codes "pup")

@@ -23,7 +23,7 @@ const NUMBERS: [u16; ROWS] = [
     0x9988, 0xdada, 0xdadb, 0xe001, 0xed3e, 0xfbfb,
 ];
 
-// The numbers rise strictly, so one comparison decides every row on one side of its own.
+/// The numbers rise strictly, so one comparison also settles every row on one side of the row compared.
 fn numbers_rise()
     ensures rise { IsStrictlyIncreasing NUMBERS }
 {}

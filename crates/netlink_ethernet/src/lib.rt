@@ -1,4 +1,4 @@
-//! Ethernet protocol numbers, as linux/if_ether.h has them, and their names.
+//! Ethernet protocol numbers and their names, after linux/if_ether.h.
 //!
 //! `EthernetProtocol` has a variant for each of 102 numbers, and `Other` for every other number.
 //! It converts from and to the number by `From`, and prints the protocol's name by `Display`.

@@ -9,9 +9,9 @@ use std::fmt;
 
 /// The protocol that an Ethernet frame carries.
 ///
-/// Each variant but `Other` stands for one number: `DnaDl` for that of `ETH_P_DNA_DL` in
-/// linux/if_ether.h, and so on. A number converted by `From` is `Other` only if no variant
-/// stands for it.
+/// Each variant but `Other` stands for one number, and is named after linux/if_ether.h: `DnaDl`
+/// after `ETH_P_DNA_DL`, and so on. Not every release of that file has all of them. A number
+/// converted by `From` is `Other` only if no variant stands for it.
 #[derive(Clone, Copy, Debug, PartialEq, Eq, Hash)]
 pub enum EthernetProtocol {
     // Ethernet II types.
@@ -123,8 +123,8 @@ pub enum EthernetProtocol {
 }
 
 impl EthernetProtocol {
-    /// The protocol's number, in host order: that of its variant in linux/if_ether.h, or the
-    /// one that `Other` holds. It is never refused.
+    /// The protocol's number, in host order: that of its variant in the table, or the one
+    /// that `Other` holds. It is never refused.
     pub fn value(&self) -> u16
         ensures number { result ≡ number_of self.now }
     {
@@ -235,7 +235,7 @@ impl EthernetProtocol {
         }
     }
 
-    // The printed name, unless it is `Other`.
+    /// The printed name, or `None` for `Other`.
     fn name(&self) -> Option<&'static str>
         ensures { MatchOption result (IsOther self.now) (λ name. name.now ≡ name_of self.now) }
     {

@@ -112,7 +112,7 @@ const PROTOCOLS: [EthernetProtocol; ROWS] = [
     EthernetProtocol::AfIucv,
 ];
 
-// The protocol of the row at the index.
+/// The protocol of the row at the index.
 fn protocol_at(index: usize) -> EthernetProtocol
     requires { index < 102 }
     ensures { slice_get named index ≡ Some result }
@@ -120,8 +120,8 @@ fn protocol_at(index: usize) -> EthernetProtocol
     PROTOCOLS[index]
 }
 
-// The row in the middle of those from low up to high, so that at most half of them are left on
-// either side.
+/// The row in the middle of those from `low` up to `high`, so that at most half of them are left on
+/// either side.
 fn middle_of(low: usize, high: usize) -> usize
     requires { low < high }
     ensures from { low ≤ result }

@@ -1,6 +1,7 @@
+//! Every number, there and back, and printed names.
+
+use crate::laws::{number_kept, protocol_kept};
 use crate::{Comparisons, EthernetProtocol, look_up};
-use std::alloc::Global;
-use std::process::Abort;
 use std::test::Fail;
 
 #[test]
@@ -13,6 +14,8 @@ fn converts_every_number_there_and_back(rt: HostRuntime) {
         assert_eq!(rt; protocol, EthernetProtocol::from(number));
         assert_eq!(rt; protocol.value(), number);
         assert_eq!(rt; u16::from(protocol), number);
+        number_kept(number);
+        protocol_kept(protocol);
         match protocol {
             EthernetProtocol::Other(_) => {}
             _ => with_a_variant = with_a_variant.saturating_add(1),
@@ -29,8 +32,8 @@ fn other_of_a_table_number_becomes_its_variant(rt: HostRuntime) {
 }
 
 #[test]
-fn prints_names_and_hexadecimal_numbers(rt: HostRuntime) {
-    let alloc: Global = rt.alloc();
+fn prints_names_and_hexadecimal_numbers(rt: HostRuntime) -> Result<(), Fail> {
+    let alloc = rt.alloc();
     for (protocol, text) in [
         (EthernetProtocol::from(0x0800), "ip"),
         (EthernetProtocol::from(0x1234), "0x1234"),
@@ -40,7 +43,7 @@ fn prints_names_and_hexadecimal_numbers(rt: HostRuntime) {
         (EthernetProtocol::Other(0), "0x0"),
         (EthernetProtocol::Other(0xffff), "0xffff"),
     ] {
-        let printed = protocol.to_string(alloc).expect(&rt, "memory");
-        assert_eq!(rt; printed.as_str(), text);
+        assert_eq!(rt; protocol.to_string(alloc)?.as_str(), text);
     }
+    Ok(())
 }

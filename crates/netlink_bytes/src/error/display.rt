@@ -11,6 +11,7 @@ impl fmt::Display for DecodeError {
 
     ghost output = { λ e. Some (cause_text e) };
 
+    /// Prints the cause's text, behind the line of its message or body where `inside` is true.
     fn fmt<W: fmt::Write>(&self, f: &mut fmt::Formatter<W>) -> fmt::Result {
         match self {
             DecodeError::InvalidBuffer {

@@ -78,6 +78,17 @@ fn contexts(rt: HostRuntime) -> Result<(), Fail> {
             .context(alloc, "a")
             .is_err_and(|e| e.is_out_of_memory())
     );
+    assert!(rt;
+        DecodeError::out_of_memory()
+            .context(alloc, owned(alloc, "a")?)
+            .is_out_of_memory()
+    );
+    let wanting: Result<u8, DecodeError> = Err(DecodeError::out_of_memory());
+    assert!(rt;
+        wanting
+            .context(alloc, owned(alloc, "a")?)
+            .is_err_and(|e| e.is_out_of_memory())
+    );
     let fine: Result<u8, DecodeError> = Ok(7);
     assert_eq!(rt; fine.context(alloc, "a").ok(), Some(7));
     Ok(())

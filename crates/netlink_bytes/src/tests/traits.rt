@@ -1,7 +1,7 @@
 //! The basic traits, at types of the tests and through their bounds.
 #![tactic(auto, using(crate::specs::NumberLaws::text_sizes))]
 
-ghost use Rattle.std.specs.Prelude.{◌≡◌, ◌≢◌, ◌<◌, ◌^◌, ⊤, List, ℕ, [], true, length, if◌then◌else◌, IfOk, IsOk};
+ghost use Rattle.std.specs.Prelude.{◌≡◌, ◌≢◌, ◌<◌, ◌^◌, ⊤, [], true, length, if◌then◌else◌, IfOk};
 ghost use Rattle.netlink_bytes.specs.Numbers.{number_be, number_le, text_le};
 ghost use Rattle.netlink_bytes.specs.declared.error.DecodeError.TheVariants.{InvalidNumber};
 
