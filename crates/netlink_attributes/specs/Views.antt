@@ -10,7 +10,7 @@ use Rattle.netlink_attributes.specs.declared.buffer.NlaBuffer.{NlaBuffer}
 abbrev pub length_field : List ℕ → ℕ
 length_field bytes = number_le (slice_range bytes 0 2)
 
--- the kind, its two flag bits among it
+-- the kind with its two flag bits
 abbrev pub raw_kind : List ℕ → ℕ
 raw_kind bytes = number_le (slice_range bytes 2 4)
 
@@ -25,7 +25,7 @@ with_kind bytes field = put_at bytes 2 (text_le field 2)
 abbrev pub masked : ℕ → ℕ
 masked kind = kind % 2 ^ 14
 
--- with one of these alone
+-- the kind with one of its flag bits alone
 abbrev pub nested : ℕ → ℕ
 nested kind = masked kind + 2 ^ 15
 

@@ -92,8 +92,8 @@ fn append_zeros(block: &mut Vec<u8>, count: usize) -> Result<(), AllocError>
 
 /// Adds an attribute to a block, its kind as it is, with its padding of zeros.
 ///
-/// The value has at most 65531 bytes. There is one request for memory at most, of the block's own
-/// allocator; where it is refused the answer is C16, and the block is as it was.
+/// The value has at most 65531 bytes. Where the block has no room its own allocator is asked;
+/// where that refuses the answer is C16, and the block is as it was.
 pub fn append_nla(
     _alloc: Global,
     block: &mut Vec<u8>,

@@ -9,8 +9,8 @@ pub const NLA_F_NET_BYTEORDER: u16 = 0x4000;
 /// The bits of a kind that are no flag.
 pub const NLA_TYPE_MASK: u16 = 0x3fff;
 
-/// What the bytes from one attribute to the next are a multiple of.
+/// The distance in bytes from one attribute's start to the next one's is a multiple of this.
 pub const NLA_ALIGNTO: usize = 4;
 
-/// The size of an attribute's header in bytes: a length and a kind of 16 bits each.
+/// The size of an attribute's header in bytes (`NLA_HDRLEN` of linux/netlink.h): a length and a kind of 16 bits each.
 pub const NLA_HEADER_SIZE: usize = 4;

@@ -41,7 +41,7 @@ impl DefaultNla {
     }
 }
 
-/// A copy of the bytes, of their exact size. No bytes ask for no memory.
+/// A copy of the bytes, of their exact size. An empty input asks for no memory.
 fn copied(alloc: Global, bytes: &[u8]) -> Result<Vec<u8>, DecodeError>
     ensures ok { IfOk result (λ copy. copy.items ≡ bytes.now) }
     ensures memory { IfErr result (λ e. e ≡ DecodeError.OutOfMemory) }
@@ -96,7 +96,7 @@ impl<'a> Parseable<NlaBuffer<&'a [u8]>> for DefaultNla {
 
     ghost needs_no_memory = { λ view. (attribute_of (shown view)).value ≡ [] };
 
-    /// The kind with both flag bits, and a copy of the value.
+    /// The kind with both flag bits, and a copy of the value. C16 where there is no memory for it; an empty value asks for none.
     fn parse(alloc: Global, buf: &NlaBuffer<&'a [u8]>) -> Result<Self, DecodeError> {
         Ok(DefaultNla {
             kind: buf.raw_kind(),

@@ -28,12 +28,12 @@ pub fn walk_total()
     ensures exists { (bytes : List ℕ) → IsBytes bytes → (all : List Attribute) × (fault : Option DecodeError) × Walk bytes all fault }
 {}
 
-/// And it is so in one way.
+/// Every byte list is so in one way: two walks of the same bytes are the same.
 pub fn walk_unique()
     ensures unique { (bytes : List ℕ) (a b : List Attribute) (f g : Option DecodeError) → Walk bytes a f → Walk bytes b g → (a ≡ b) × (f ≡ g) }
 {}
 
-/// Calls of `next` give exactly the walk of the bytes that are unread, from any iterator on.
+/// From any iterator, calls of `next` give exactly the walk of the bytes that are unread.
 pub fn walk_given()
     ensures given { (walk : NlasIterator (Bor (List ℕ))) → IsBytes (unread walk) → GivesWalk walk }
 {}
@@ -85,7 +85,7 @@ pub fn walk_cut(bytes: &[u8], cut: usize)
         → ((start : ℕ) → IsCutAt all fault cut start → ⊥) → end ≡ None }
 {}
 
-/// Behind a canonical block any bytes walk as they do alone. It is not so where the block lacks its last padding.
+/// Behind a canonical block any bytes walk as they do alone. It need not be so where the block lacks its last padding.
 pub fn walk_join(block: &[u8], bytes: &[u8])
     ensures joined { (all more : List Attribute) (fault : Option DecodeError) → IsCanonicalBlock block.now → Walk block.now all None → Walk bytes.now more fault
         → Walk (block.now ++ bytes.now) (all ++ more) fault }
@@ -102,7 +102,7 @@ pub fn fixed_points(bytes: &[u8])
     ensures canonical { (all : List Attribute) → Walk bytes.now all None → IsCanonicalBlock (canonical_block all) }
 {}
 
-/// A block that was canonical while an attribute with both flag bits lost the one for byte order is so still, and what was written of it then and is now is the block itself.
+/// A block that was canonical while an attribute with both flag bits lost the one for byte order is so still; what was written of its walk then, and what is written of it now, is the block itself.
 pub fn older_block_kept(bytes: &[u8])
     ensures canonical { IsOlderCanonicalBlock bytes.now → IsCanonicalBlock bytes.now }
     ensures written { (all : List Attribute) (fault : Option DecodeError) → IsOlderCanonicalBlock bytes.now → Walk bytes.now all fault

@@ -12,7 +12,7 @@ use crate::constants::NLA_HEADER_SIZE;
 
 /// A value that stands for an attribute: a kind, and the bytes of its value.
 pub trait Nla {
-    /// The kind, its two flag bits among it.
+    /// The kind with its two flag bits.
     ghost kind_of: { Self → ℕ };
 
     /// The bytes of the value.
@@ -22,7 +22,7 @@ pub trait Nla {
     fn value_len(&self) -> usize
         ensures size { result ≡ length (value_of self.now) };
 
-    /// The kind, its two flag bits among it.
+    /// The kind with its two flag bits.
     fn kind(&self) -> u16
         ensures kind { result ≡ kind_of self.now };
 

@@ -1,4 +1,4 @@
-//! Why a payload is no generic netlink message.
+//! The refusals of generic netlink.
 
 ghost use Rattle.std.specs.Prelude.{Some};
 ghost use Rattle.netlink_example.specs.Generic.{error_text};

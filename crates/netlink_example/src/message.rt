@@ -55,6 +55,8 @@ impl NetlinkDeserializable for GenericMessage {
 
     ghost wants_memory = { wants_memory };
 
+    /// Refuses a message type below `GENL_MIN_ID`, then a payload of fewer than 4 bytes, then reserved
+    /// bytes that are not zero; want of memory comes only where bytes stand behind the header.
     fn deserialize(
         alloc: Global,
         header: &NetlinkHeader,
@@ -104,7 +106,7 @@ impl NetlinkProtocol for GenericMessage {
     ghost reading_is_lawful = { Prim.search (rules, common_steps) };
 }
 
-/// A copy of the bytes, of their exact size. No bytes ask for no memory.
+/// A copy of the bytes, of their exact size. An empty input asks for no memory.
 fn copied(alloc: Global, bytes: &[u8]) -> Result<Vec<u8>, GenericError>
     ensures ok { IfOk result (λ copy. copy.items ≡ bytes.now) }
     ensures memory { IfErr result (λ e. e ≡ GenericError.OutOfMemory) }

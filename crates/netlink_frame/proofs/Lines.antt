@@ -1,4 +1,4 @@
--- What is shown, as far as a loop has come, and once for each message.
+-- What is shown, as far as a loop has come.
 use Rattle.std.proofs.Common.{◌≡◌, ℕ, zero, suc, ◌+◌, ◌/◌, ◌%◌, ◌<◌, List, [], ◌∷◌, ◌++◌, length, take, slice_index, refl, ap, ◌∙◌, arith, add-one, append_assoc}
 use Rattle.netlink_frame.specs.Lines.{hex_digit, hex_digits}
 

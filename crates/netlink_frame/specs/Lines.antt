@@ -29,11 +29,12 @@ shown (b ∷ bytes) = hex_digits (b ∷ bytes)
 abbrev pub number_line : List ℕ → ℕ → List ℕ
 number_line name n = name ++ (decimal n ++ (10 ∷ []))
 
--- what a payload is, its code and its bytes
+-- which of the two messages it is, and its bytes
 abbrev pub inner_text : PingPongMessage → List ℕ
 inner_text (Ping bytes) = codes "ping " ++ shown bytes.items
 inner_text (Pong bytes) = codes "pong " ++ shown bytes.items
 
+-- what a payload is, its code and its bytes
 abbrev pub payload_words : NetlinkPayload PingPongMessage → List ℕ
 payload_words Noop = codes "noop"
 payload_words (Done m) = codes "done " ++ (signed_decimal m.code ++ (codes " " ++ shown m.extended_ack.items))

@@ -22,7 +22,8 @@ pub fn frames_text(alloc: Global, datagram: &[u8]) -> Result<String, DecodeError
     Ok(shown_frames(alloc, datagram)?)
 }
 
-/// The fault that the frames of a datagram end with. No call asks for memory.
+/// The fault that the frames of a datagram end with (C9, C10 or C11), or `None` where they end
+/// without one. Asks for no memory.
 pub fn frames_fault(datagram: &[u8]) -> Option<DecodeError>
     ensures fault { (all : List (List ℕ)) × FrameWalk datagram.now all result }
     ensures each { (all : List (List ℕ)) (fault : Option DecodeError) → FrameWalk datagram.now all fault → result ≡ fault }

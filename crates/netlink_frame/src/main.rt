@@ -1,4 +1,4 @@
-//! Reads a netlink message from standard input, and writes what the command makes of it to standard output.
+//! Reads standard input, and writes what the command makes of it to standard output.
 #![tactic(auto)]
 
 mod command;

@@ -24,7 +24,8 @@ pub fn nlas_text(alloc: Global, block: &[u8]) -> Result<String, DecodeError>
     Ok(walked_text(alloc, block)?)
 }
 
-/// The fault that the walk of a block ends with. No call asks for memory.
+/// The fault that the walk of a block ends with (C5, C6 or C7), or `None` where it ends without one.
+/// Asks for no memory.
 pub fn nlas_fault(block: &[u8]) -> Option<DecodeError>
     ensures fault { (all : List Attribute) × Walk block.now all result }
     ensures each { (all : List Attribute) (fault : Option DecodeError) → Walk block.now all fault → result ≡ fault }

@@ -29,7 +29,7 @@ pub enum PingPongMessage {
 /// Why a payload is no message of the protocol.
 #[derive(Clone, Copy, Debug, PartialEq, Eq)]
 pub enum DeserializeError {
-    /// The header has another type than 18 and 20.
+    /// The header has another type than 18 and 20; of zeros, all that is refused.
     InvalidType,
     /// A request for memory was refused.
     OutOfMemory,
@@ -114,7 +114,7 @@ impl NetlinkProtocol for PingPongMessage {
     ghost reading_is_lawful = { reading_is_lawful };
 }
 
-/// A copy of the bytes, of their exact size. No bytes ask for no memory.
+/// A copy of the bytes, of their exact size. An empty input asks for no memory.
 fn copied(alloc: Global, bytes: &[u8]) -> Result<Vec<u8>, DeserializeError>
     ensures ok { IfOk result (λ copy. copy.items ≡ bytes.now) }
     ensures memory { IfErr result (λ e. e ≡ DeserializeError.OutOfMemory) }

@@ -1,3 +1,5 @@
+//! Rows of the program, and of what needs more than one crate.
+
 mod above;
 mod ample;
 mod attributes;

@@ -1,4 +1,4 @@
-//! What the program shows.
+//! What the program shows of a message.
 
 ghost use Rattle.std.specs.Prelude.{◌≡◌, ◌<◌, ◌++◌, [], ◌∷◌, OnOk, IfOk, IfErr, string_bytes};
 ghost use Rattle.netlink_frame.specs.Lines.{header_lines, hex_digit, inner_text, message_lines, number_line, payload_words, shown};

@@ -9,7 +9,7 @@ use Rattle.netlink_packet_core.specs.Frame.{Frame}
 use Rattle.netlink_packet_core.specs.Refusal.{IsRefusal}
 use Rattle.netlink_packet_core.specs.declared.message.NetlinkMessage.{NetlinkMessage}
 
--- a message whose length fits 32 bits
+-- a message whose length fits 32 bits, with a header and a code of their widths
 pub record Fits {I : Type 0} (encoding : Encoding I) (m : NetlinkMessage I) : Type 0 where
   pub size : 16 + length (payload_text encoding m.payload) < 2 ^ 32
   pub header : HeaderInRange m.header

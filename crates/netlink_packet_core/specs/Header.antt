@@ -22,7 +22,7 @@ pub record IsHeader (bytes : List ℕ) (h : NetlinkHeader) : Type 0 where
   pub whole : bytes ≡ header_text h ++ rest
   pub in_range : HeaderInRange h
 
--- the header of a message that was not sent yet
+-- a header of five zeros
 abbrev pub default_header : NetlinkHeader
 default_header = record { length = 0; message_type = 0; flags = 0; sequence_number = 0; port_number = 0 }
 
@@ -40,7 +40,7 @@ header_of bytes = record {
   port_number = field 12 4 bytes;
 }
 
--- the bytes from the 16th up to the length
+-- the bytes from 16 up to the length
 abbrev pub payload_of : List ℕ → List ℕ
 payload_of bytes = slice_range bytes 16 (field 0 4 bytes)
 

@@ -13,7 +13,9 @@ use crate::constants::NETLINK_HEADER_LEN;
 use crate::header::NetlinkHeader;
 use netlink_bytes::{DecodeError, Storage, StorageMut};
 
-/// The bytes of a message, looked at in place. No call asks for memory.
+/// The bytes of a message (`struct nlmsghdr` of linux/netlink.h, and what follows it), looked at in place.
+///
+/// All numbers are in native order, the lowest byte first. Sizes and lengths are in bytes. No call asks for memory.
 #[derive(Clone, Copy, Debug, PartialEq, Eq, Drop)]
 pub struct NetlinkBuffer<T: Storage> {
     /// What holds the bytes.

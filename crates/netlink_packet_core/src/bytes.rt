@@ -83,7 +83,7 @@ pub(crate) fn put_code(buffer: &mut [u8], code: i32, rest: &[u8])
     back.copy_from_slice(rest);
 }
 
-/// A copy of the bytes, of their exact size. No bytes ask for no memory.
+/// A copy of the bytes, of their exact size. An empty input asks for no memory.
 pub(crate) fn copied(alloc: Global, bytes: &[u8]) -> Result<Vec<u8>, DecodeError>
     ensures ok { IfOk result (λ copy. copy.items ≡ bytes.now) }
     ensures memory { IfErr result (λ e. e ≡ DecodeError.OutOfMemory) }

@@ -1,4 +1,4 @@
-//! Numbers of the format, by their names in linux/netlink.h.
+//! Numbers of the format, from linux/netlink.h, by the names of the Rust crate.
 
 /// The size of a message's header in bytes (`NLMSG_HDRLEN`).
 pub const NETLINK_HEADER_LEN: usize = 16;
@@ -21,7 +21,7 @@ pub const NLMSG_ALIGNTO: u16 = 4;
 /// Flag: a request.
 pub const NLM_F_REQUEST: u16 = 1;
 
-/// Flag: part of a multipart message, which `NLMSG_DONE` terminates.
+/// Flag: part of a multipart message, which `NLMSG_DONE` terminates (`NLM_F_MULTI`).
 pub const NLM_F_MULTIPART: u16 = 2;
 
 /// Flag: an answer with a code is asked for.

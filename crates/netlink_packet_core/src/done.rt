@@ -12,7 +12,7 @@ use crate::bytes::{code_at, copied, put_code, put_i32, split_code};
 use netlink_bytes::{DecodeError, Emitable, Parseable, Storage, StorageMut};
 use std::alloc::Global;
 
-/// The body of a message of type `NLMSG_DONE`, looked at in place: a code in 4 bytes, and what
+/// The body of a message of type `NLMSG_DONE`, looked at in place: a code in 4 bytes, in native order, and what
 /// stands behind it. No call asks for memory.
 #[derive(Clone, Copy, Debug, PartialEq, Eq, Drop)]
 pub struct DoneBuffer<T: Storage> {
@@ -96,7 +96,7 @@ impl<T: StorageMut> DoneBuffer<T> {
     }
 }
 
-/// The body of a message of type `NLMSG_DONE`: a code in 4 bytes, and what the kernel says of it.
+/// The body of a message of type `NLMSG_DONE`: a code in 4 bytes, in native order, and what the kernel says of it.
 #[derive(Debug, Drop, PartialEq, Eq)]
 pub struct DoneMessage {
     /// 0, or the negated number of an error.
@@ -120,7 +120,7 @@ impl DoneMessage {
         }
     }
 
-    /// A message of the same code and bytes, which is equal by `==`; C16, never without bytes to copy.
+    /// A message of the same code and bytes, which is equal by `==`; or C16 where memory was refused, never without bytes to copy.
     pub fn try_clone(&self, alloc: Global) -> Result<Self, DecodeError>
         ensures code { IfOk result (λ copy. copy.code ≡ self.now.code) }
         ensures bytes { IfOk result (λ copy. copy.extended_ack.items ≡ self.now.extended_ack.items) }
@@ -171,7 +171,7 @@ impl Emitable for DoneMessage {
 
     ghost takes_longer = { false };
 
-    /// 4 and the bytes.
+    /// 4 plus the number of bytes behind the code.
     #[tactic(auto, using(crate::specs::Sizes::text_sizes))]
     fn buffer_len(&self) -> usize {
         4 + self.extended_ack.len()
@@ -195,7 +195,8 @@ impl<'a> Parseable<DoneBuffer<&'a [u8]>> for DoneMessage {
 
     ghost needs_no_memory = { λ view. length view.buffer.now ≡ 4 };
 
-    /// The code and a copy of the bytes; C16 where there are some and memory was refused for them.
+    /// The code, and a copy of the bytes behind it, of a view of at least 4 bytes; C16 where there
+    /// are some and memory was refused for them.
     fn parse(alloc: Global, buf: &DoneBuffer<&'a [u8]>) -> Result<Self, DecodeError> {
         DoneMessage::of_code_and_rest(alloc, buf.buffer)
     }

@@ -14,7 +14,7 @@ use netlink_bytes::{DecodeError, Emitable, NonZeroI32, Parseable, Storage, Stora
 use std::alloc::Global;
 use std::fmt;
 
-/// The body of a message of type `NLMSG_ERROR`, looked at in place: a code in 4 bytes, and what
+/// The body of a message of type `NLMSG_ERROR`, looked at in place: a code in 4 bytes, in native order, and what
 /// stands behind it. No call asks for memory.
 #[derive(Clone, Copy, Debug, PartialEq, Eq, Drop)]
 pub struct ErrorBuffer<T: Storage> {
@@ -98,7 +98,7 @@ impl<T: StorageMut> ErrorBuffer<T> {
     }
 }
 
-/// The body of a message of type `NLMSG_ERROR` (`struct nlmsgerr`): a code in 4 bytes, and the
+/// The body of a message of type `NLMSG_ERROR` (`struct nlmsgerr`): a code in 4 bytes, in native order, and the
 /// header of the message that it answers. No code is an acknowledgement, any other a refusal
 /// (RFC 3549, section 2.3.2.2).
 #[derive(Debug, Drop, PartialEq, Eq)]
@@ -141,7 +141,7 @@ impl ErrorMessage {
         self.raw_code().unsigned_abs()
     }
 
-    /// A message of the same code and bytes, which is equal by `==`; C16, never without bytes to copy.
+    /// A message of the same code and bytes, which is equal by `==`; or C16 where memory was refused, never without bytes to copy.
     pub fn try_clone(&self, alloc: Global) -> Result<Self, DecodeError>
         ensures code { IfOk result (λ copy. copy.code ≡ self.now.code) }
         ensures bytes { IfOk result (λ copy. copy.header.items ≡ self.now.header.items) }
@@ -201,7 +201,7 @@ impl Emitable for ErrorMessage {
 
     ghost takes_longer = { false };
 
-    /// 4 and the bytes.
+    /// 4 plus the number of bytes behind the code.
     #[tactic(auto, using(crate::specs::Sizes::text_sizes))]
     fn buffer_len(&self) -> usize {
         4 + self.header.len()
@@ -225,7 +225,8 @@ impl<'a> Parseable<ErrorBuffer<&'a [u8]>> for ErrorMessage {
 
     ghost needs_no_memory = { λ view. length view.buffer.now ≡ 4 };
 
-    /// The code and a copy of the bytes; C16 where there are some and memory was refused for them.
+    /// The code, and a copy of the bytes behind it, of a view of at least 4 bytes; C16 where there
+    /// are some and memory was refused for them.
     fn parse(alloc: Global, buf: &ErrorBuffer<&'a [u8]>) -> Result<Self, DecodeError> {
         ErrorMessage::of_code_and_rest(alloc, buf.buffer)
     }

@@ -102,7 +102,7 @@ impl<'a> Parseable<NetlinkBuffer<&'a [u8]>> for NetlinkHeader {
 
     ghost needs_no_memory = { λ _. Unit {0} };
 
-    /// The header that the bytes begin with; always Ok.
+    /// The header that the bytes, at least 16, begin with; always Ok.
     fn parse(_alloc: Global, buf: &NetlinkBuffer<&'a [u8]>) -> Result<Self, DecodeError> {
         Ok(read_header(buf.buffer))
     }

@@ -57,8 +57,8 @@ impl<I: NetlinkDeserializable> NetlinkMessage<I> {
     /// The message whose frame the bytes begin with; what follows the frame is not looked at.
     ///
     /// Refuses bytes that hold no whole frame (C9, C10, C11), a done or an error body of too few
-    /// bytes (C12, C13), each with `inside` true, and a payload that the protocol refuses (C14, in
-    /// its name). C16 is answered only where bytes are copied or the protocol is asked.
+    /// bytes (C12, C13), each with `inside` true, and a payload that the protocol refuses (C14, with
+    /// the protocol's words). C16 is answered only where bytes are copied or the protocol is asked.
     pub fn deserialize(alloc: Global, buffer: &[u8]) -> Result<Self, DecodeError>
         // Only a frame of the message is read as it.
         ensures accepts { IfOk result (Frame I.decoding buffer.now) }
@@ -104,7 +104,7 @@ impl<'a, I: NetlinkDeserializable> Parseable<NetlinkBuffer<&'a [u8]>> for Netlin
 }
 
 impl<I: NetlinkSerializable> NetlinkMessage<I> {
-    /// Whether the length of the message fits 32 bits: 16 and the payload's text are below 2^32 bytes.
+    /// Whether the length of the message fits 32 bits: 16 plus the size of the payload's text is below 2^32.
     pub fn fits(&self) -> bool
         ensures fits { IsTrue result ↔ Fits I.encoding self.now }
     {
@@ -122,7 +122,8 @@ impl<I: NetlinkSerializable> NetlinkMessage<I> {
         NETLINK_HEADER_LEN + self.payload.buffer_len()
     }
 
-    /// Sets the header's length and message type to those of the payload, and changes nothing else.
+    /// Sets the header's length to 16 plus the size of the payload's text, and its message type to the
+    /// payload's; changes nothing else. The message has to fit (`fits`).
     pub fn finalize(&mut self)
         requires fits { Fits I.encoding self.old }
         ensures finalized { self.new ≡ finalized I.encoding self.old }
@@ -133,7 +134,8 @@ impl<I: NetlinkSerializable> NetlinkMessage<I> {
     }
 
     /// Writes the header and the payload's text at the front of the buffer, and leaves the bytes
-    /// behind them. The header's length has to be theirs, as `finalize` leaves it.
+    /// behind them. The header's length has to be their size, as `finalize` leaves it, and the buffer
+    /// has to hold as many bytes.
     pub fn serialize(&self, buffer: &mut [u8])
         requires length { self.now.header.length ≡ 16 + length (payload_text I.encoding self.now.payload) }
         requires room { self.now.header.length ≤ length buffer.old }

@@ -10,7 +10,8 @@ ghost use Rattle.netlink_tree.specs.FrameWalk.{StartsFrame, FrameWalk, frame_of,
 use netlink_packet_core::{DecodeError, NetlinkBuffer, nla_align};
 use std::alloc::{AllocError, Global};
 
-/// The frames of a datagram in order. An error is the last item, and `None` comes for good behind it.
+/// The frames of a datagram in order. An error (C9, C10 or C11) is the last item, and `None` comes
+/// for good behind it.
 ///
 /// An item is a frame without its padding, which `NetlinkBuffer::new_checked` accepts. Two are equal
 /// exactly if the bytes still to be walked are. No call asks for memory.
@@ -90,8 +91,8 @@ fn behind_frame(bytes: &[u8], size: usize) -> &[u8]
 ///
 /// Of `frame` the first `length` bytes are added, and nothing past them. Bytes that
 /// `NetlinkBuffer::new_checked` refuses are answered by the same error (C9, C10 or C11) without a
-/// request for memory. There is one request at most, of the datagram's own allocator, and none
-/// where the datagram has room; where it is refused the answer is C16. An error leaves the
+/// request for memory. Where the datagram has room the answer is Ok; otherwise its own allocator
+/// is asked, and where that refuses the answer is C16. An error leaves the
 /// datagram as it was.
 pub fn append_frame(_alloc: Global, datagram: &mut Vec<u8>, frame: &[u8]) -> Result<(), DecodeError>
     requires aligned { length datagram.old.items % 4 ≡ 0 }

@@ -21,17 +21,17 @@ pub fn frames_total()
     ensures exists { (bytes : List ℕ) → (all : List (List ℕ)) × (fault : Option DecodeError) × FrameWalk bytes all fault }
 {}
 
-/// And it is so in one way.
+/// Every byte list is so in one way: frames, and then nothing or one fault.
 pub fn frames_unique()
     ensures unique { (bytes : List ℕ) (a b : List (List ℕ)) (f g : Option DecodeError) → FrameWalk bytes a f → FrameWalk bytes b g → (a ≡ b) × (f ≡ g) }
 {}
 
-/// Calls of `next` give exactly the frames of the bytes that are unread, from any iterator on.
+/// From any iterator, calls of `next` give exactly the frames of the bytes that are unread.
 pub fn frames_given()
     ensures given { (walk : Frames (Bor (List ℕ))) → GivesFrames walk }
 {}
 
-/// Each of these frames holds itself whole: `NetlinkBuffer::new_checked` accepts it.
+/// Each frame of a datagram holds itself whole: `NetlinkBuffer::new_checked` accepts it.
 pub fn frames_hold()
     ensures holds { (bytes : List ℕ) (all : List (List ℕ)) (fault : Option DecodeError) → FrameWalk bytes all fault → All HoldsFrame all }
 {}
@@ -53,7 +53,7 @@ pub fn trees_total()
     walk_total()
 }
 
-/// And to one of them alone.
+/// Bytes come to one outcome only, however many levels are allowed.
 pub fn trees_unique()
     ensures unique { (levels : ℕ) (bytes : List ℕ) (r s : Outcome) → Trees levels bytes r → Trees levels bytes s → r ≡ s }
 {

@@ -1,6 +1,6 @@
 //! Above the messages of one frame: datagrams of many frames, and trees of nested attributes.
 //!
-//! Proved from the public contracts of `netlink_packet_core` alone.
+//! Proved from the public contracts and the specs of `netlink_packet_core` alone.
 #![tactic(auto)]
 
 mod fault;

@@ -18,8 +18,8 @@ use std::alloc::{AllocError, Global};
 /// The attributes of the outer block have depth 1. A block of depth 17 that is not empty is
 /// `TooDeep`, whatever it holds; what is no attribute is a `Decode` of the walk's fault (C5, C6 or
 /// C7). The first fault in reading order is answered, where the inside of an attribute is read
-/// before the next one. No fault asks for memory of its own; the trees do, and `Decode` of C16
-/// says that it was refused. No bytes ask for none.
+/// before the next one. `Decode` of C16 says that a request for memory was refused; an
+/// empty input asks for none.
 pub fn read_tree(alloc: Global, bytes: &[u8]) -> Result<Vec<NlaTree>, TreeFault>
     ensures trees { MatchResult result
         (λ ts. Trees 16 bytes.now (Ok (views ts.items)))
@@ -72,7 +72,7 @@ fn read_attribute(alloc: Global, nla: NlaBuffer<&[u8]>, levels: usize) -> Result
     }
 }
 
-/// A copy of the bytes, of their exact size. No bytes ask for no memory.
+/// A copy of the bytes, of their exact size. An empty input asks for no memory.
 fn copied(alloc: Global, bytes: &[u8]) -> Result<Vec<u8>, AllocError>
     ensures ok { IfOk result (λ copy. copy.items ≡ bytes.now) }
     ensures empty { bytes.now ≡ [] → IsOk result }

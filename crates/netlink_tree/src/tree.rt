@@ -10,7 +10,7 @@ use netlink_packet_core::NLA_F_NESTED;
 pub(crate) const GREATEST_DEPTH: usize = 16;
 
 /// An attribute with a value of its own, or with attributes inside. Both hold the kind as it stands
-/// on the wire, its two flag bits among it.
+/// on the wire, with its two flag bits.
 #[derive(Debug, PartialEq, Eq, Drop)]
 pub enum NlaTree {
     /// The value is bytes. Where it is well formed, the kind is without the bit `NLA_F_NESTED`.
@@ -20,7 +20,7 @@ pub enum NlaTree {
 }
 
 /// Whether, at every depth, the kinds of leaves are without the bit `NLA_F_NESTED` and those of nests
-/// have it. So it is for no trees. Asks for no memory.
+/// have it. An empty list is well formed. Asks for no memory.
 pub fn is_well_formed(trees: &[NlaTree]) -> bool
     ensures formed { IsTrue result ↔ AreWellFormed (views trees.now) }
 {

@@ -22,7 +22,7 @@ const LONGEST_VALUE: usize = 65531;
 /// Where an attribute stands deeper than 16, the outer ones having depth 1, the answer is `TooDeep`;
 /// otherwise, where a value or the block inside a nest is above 65531 bytes, it is `TooLong`.
 /// Neither asks for memory. Otherwise `Decode` of C16 says that a request for memory was refused;
-/// no trees ask for none.
+/// an empty list asks for none.
 pub fn write_tree(alloc: Global, trees: &[NlaTree]) -> Result<Vec<u8>, TreeFault>
     requires formed { AreWellFormed (views trees.now) }
     ensures text { MatchResult result

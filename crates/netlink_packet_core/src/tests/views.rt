@@ -3,7 +3,7 @@
 use crate::{DecodeError, NetlinkBuffer};
 use std::test::Fail;
 
-/// A dump of the interface's statistics, as a tool sent it.
+/// A request to list the links (type 18 is `RTM_GETLINK`), as a tool sent it.
 pub const REQUEST: [u8; 40] = [
     0x28, 0, 0, 0, 0x12, 0, 0x01, 0x03, 0x34, 0x0e, 0xf9, 0x5a, 0, 0, 0, 0, 0x11, 0, 0, 0, 0, 0, 0,
     0, 0, 0, 0, 0, 0, 0, 0, 0, 0x08, 0, 0x1d, 0, 0x01, 0, 0, 0,
