@@ -193,7 +193,10 @@ fn ethernet_protocols(rt: HostRuntime) -> Result<(), Fail> {
     let mut comparisons = Comparisons::new();
     assert!(rt; look_up(0x0800, &mut comparisons) == EthernetProtocol::Ip);
     assert!(rt; comparisons.count() <= 7);
-    let mut line = Line { text: [0; 8], len: 0 };
+    let mut line = Line {
+        text: [0; 8],
+        len: 0,
+    };
     assert!(rt; write!(line, "{}", EthernetProtocol::Ip).is_ok());
     assert!(rt; write!(line, "{}", EthernetProtocol::Other(0x1234)).is_ok());
     assert!(rt; line.text == *b"ip0x1234");
