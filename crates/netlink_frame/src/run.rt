@@ -27,8 +27,6 @@ pub enum Fault {
 }
 
 impl fmt::Display for Fault {
-    ghost use Rattle.std.specs.Prelude.{Some};
-
     ghost output = { λ fault. Some (fault_text fault) };
 
     fn fmt<W: fmt::Write>(&self, f: &mut fmt::Formatter<W>) -> fmt::Result {

@@ -1,6 +1,6 @@
 //! What the program shows of a message.
 
-ghost use Rattle.std.specs.Prelude.{◌≡◌, ◌<◌, ◌++◌, [], ◌∷◌, OnOk, IfOk, IfErr, string_bytes};
+ghost use Rattle.std.specs.Prelude.{◌≡◌, ◌<◌, [], ◌∷◌, IfOk, IfErr, string_bytes};
 ghost use Rattle.netlink_frame.specs.Lines.{header_lines, hex_digit, inner_text, message_lines, number_line, payload_words, shown};
 
 use crate::ping_pong::PingPongMessage;

@@ -15,7 +15,7 @@ use Rattle.netlink_tree.specs.FrameWalk.{StartsFrame, frame_of}
 field-append : (frame rest : List ℕ) → 4 ≤ length frame → field 0 4 (frame ++ rest) ≡ field 0 4 frame
 field-append frame rest long = ap number_le (take-append-le 4 frame rest long)
 
-pub starts-field : (bytes frame rest : List ℕ) → StartsFrame bytes frame rest → field 0 4 bytes ≡ length frame
+starts-field : (bytes frame rest : List ℕ) → StartsFrame bytes frame rest → field 0 4 bytes ≡ length frame
 starts-field bytes frame rest starts =
     let least = starts.least in
     ap (field 0 4) starts.whole ∙ field-append frame (starts.gap ++ rest) (omega arith) ∙ starts.size

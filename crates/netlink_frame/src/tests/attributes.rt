@@ -7,7 +7,7 @@ use std::test::Fail;
 
 pub const TWO: [u8; 16] = [5, 0, 1, 0, 0xaa, 0, 0, 0, 8, 0, 2, 0, 1, 2, 3, 4];
 
-const FLAGGED: [u8; 8] = [8, 0, 6, 0x40, 0, 0, 0x0e, 0x10];
+pub const FLAGGED: [u8; 8] = [8, 0, 6, 0x40, 0, 0, 0x0e, 0x10];
 
 pub const SHORT: [u8; 9] = [4, 0, 1, 0, 3, 0, 7, 0, 0xff];
 

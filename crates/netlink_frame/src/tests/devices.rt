@@ -5,13 +5,13 @@ use crate::run::{Fault, run};
 use crate::tests::attributes::{SHORT, TWO};
 use crate::tests::datagrams::DATAGRAM;
 use crate::tests::messages::PING;
-use std::alloc::Global;
+use crate::tests::runs::written;
 use std::io;
 use std::io::{Read, Write};
 use std::test::Fail;
 
 /// Each command, with bytes of which it makes some output.
-pub const COMMANDS: [(Command, &[u8]); 5] = [
+const COMMANDS: [(Command, &[u8]); 5] = [
     (Command::Normalize, &PING),
     (Command::Show, &PING),
     (Command::Nlas, &TWO),
@@ -47,11 +47,13 @@ impl Read for FailingReader<'_> {
 #[derive(Drop)]
 struct Endless {
     calls: u64,
+    longest: usize,
 }
 
 impl Read for Endless {
     fn read(&mut self, buf: &mut [u8]) -> io::Result<usize> {
         self.calls = self.calls.saturating_add(1);
+        self.longest = self.longest.max(buf.len());
         match buf.first_mut() {
             Some(place) => {
                 *place = 1;
@@ -109,12 +111,21 @@ impl Write for FailingWriter {
     }
 }
 
-/// What a command makes of bytes that a slice gives.
-fn output_of(alloc: Global, command: Command, input: &[u8]) -> Result<Vec<u8>, Fault> {
-    let mut reader = input;
-    let mut output = Vec::new(alloc);
-    run(alloc, command, &mut reader, &mut output)?;
-    Ok(output)
+/// Takes all, and counts its calls.
+#[derive(Drop)]
+struct Counting {
+    calls: u64,
+}
+
+impl Write for Counting {
+    fn write(&mut self, buf: &[u8]) -> io::Result<usize> {
+        self.calls = self.calls.saturating_add(1);
+        Ok(buf.len())
+    }
+
+    fn flush(&mut self) -> io::Result<()> {
+        Ok(())
+    }
 }
 
 #[test]
@@ -132,12 +143,16 @@ fn a_reader_that_fails(rt: HostRuntime) {
 
 #[test]
 fn a_reader_without_an_end(rt: HostRuntime) {
-    let mut reader = Endless { calls: 0 };
+    let mut reader = Endless {
+        calls: 0,
+        longest: 0,
+    };
     let mut output: Vec<u8> = Vec::new(rt.alloc());
     let answer = run(rt.alloc(), Command::Normalize, &mut reader, &mut output);
     assert!(rt; matches!(answer, Err(Fault::Read)));
     assert!(rt; output.is_empty());
     assert_eq!(rt; reader.calls, 1_048_576);
+    assert!(rt; reader.longest <= 4096);
 }
 
 #[test]
@@ -153,9 +168,32 @@ fn an_interrupted_read_is_made_again(rt: HostRuntime) -> Result<(), Fail> {
 }
 
 #[test]
+fn an_output_is_written_by_one_call(rt: HostRuntime) {
+    for (command, input) in COMMANDS {
+        let mut reader = input;
+        let mut writer = Counting { calls: 0 };
+        let answer = run(rt.alloc(), command, &mut reader, &mut writer);
+        assert!(rt; answer.is_ok());
+        assert_eq!(rt; writer.calls, 1, "{command:?}");
+    }
+}
+
+/// Of no bytes each command makes no output, with a fault or without.
+#[test]
+fn no_output_is_not_written(rt: HostRuntime) {
+    for (command, _) in COMMANDS {
+        let mut reader: &[u8] = &[];
+        let mut writer = Counting { calls: 0 };
+        let answer = run(rt.alloc(), command, &mut reader, &mut writer);
+        assert!(rt; matches!(answer, Ok(()) | Err(Fault::Decode(_))));
+        assert_eq!(rt; writer.calls, 0, "{command:?}");
+    }
+}
+
+#[test]
 fn a_writer_that_fails(rt: HostRuntime) -> Result<(), Fail> {
     for (command, input) in COMMANDS {
-        let output = output_of(rt.alloc(), command, input)?;
+        let output = written(rt.alloc(), command, input)?;
         assert!(rt; !output.is_empty());
         for room in 0..output.len() {
             let mut reader = input;

@@ -16,6 +16,11 @@ pub const PING: [u8; 20] = [
     0x14, 0, 0, 0, 0x12, 0, 0, 0, 0, 0, 0, 0, 0, 0, 0, 0, 0, 1, 2, 3,
 ];
 
+/// A pong of four bytes.
+pub const PONG: [u8; 20] = [
+    0x14, 0, 0, 0, 0x14, 0, 0, 0, 0, 0, 0, 0, 0, 0, 0, 0, 0, 1, 2, 3,
+];
+
 /// A ping of 24 bytes, with flags and a sequence number.
 pub const REQUEST: [u8; 40] = [
     0x28, 0, 0, 0, 0x12, 0, 0x01, 0x03, 0x34, 0x0e, 0xf9, 0x5a, 0, 0, 0, 0, 0x11, 0, 0, 0, 0, 0, 0,
@@ -26,7 +31,15 @@ pub const NOOP: [u8; 24] = [
     0x18, 0, 0, 0, 1, 0, 0, 0, 0, 0, 0, 0, 0, 0, 0, 0, 1, 2, 3, 4, 5, 6, 7, 8,
 ];
 
+/// What that is normalised to.
+pub const PLAIN_NOOP: [u8; 16] = [0x10, 0, 0, 0, 1, 0, 0, 0, 0, 0, 0, 0, 0, 0, 0, 0];
+
 pub const EMPTY_DONE: [u8; 16] = [0x10, 0, 0, 0, 3, 0, 0, 0, 0, 0, 0, 0, 0, 0, 0, 0];
+
+/// What that is normalised to.
+pub const PLAIN_DONE: [u8; 20] = [
+    0x14, 0, 0, 0, 3, 0, 0, 0, 0, 0, 0, 0, 0, 0, 0, 0, 0, 0, 0, 0,
+];
 
 pub const DONE: [u8; 24] = [
     0x18, 0, 0, 0, 3, 0, 0, 0, 0, 0, 0, 0, 0, 0, 0, 0, 0, 0, 0, 0, 6, 7, 8, 9,
@@ -44,7 +57,7 @@ const LONG_ERROR: [u8; 24] = [
     0x18, 0, 0, 0, 2, 0, 0, 0, 0, 0, 0, 0, 0, 0, 0, 0, 0xc3, 0xdd, 0xff, 0xff, 6, 7, 8, 9,
 ];
 
-const OVERRUN: [u8; 19] = [0x13, 0, 0, 0, 4, 0, 0, 0, 0, 0, 0, 0, 0, 0, 0, 0, 7, 8, 9];
+pub const OVERRUN: [u8; 19] = [0x13, 0, 0, 0, 4, 0, 0, 0, 0, 0, 0, 0, 0, 0, 0, 0, 7, 8, 9];
 
 #[test]
 fn a_ping_is_written_and_read_back(rt: HostRuntime) -> Result<(), Fail> {
@@ -69,6 +82,28 @@ fn a_ping_is_written_and_read_back(rt: HostRuntime) -> Result<(), Fail> {
     assert_eq!(rt; header.length, 20);
     assert_eq!(rt; payload.message_type(), 18);
     frame_unique::<PingPongMessage>();
+    Ok(())
+}
+
+#[test]
+fn a_pong_is_written_and_read_back(rt: HostRuntime) -> Result<(), Fail> {
+    let bytes = [0u8, 1, 2, 3].to_vec(rt.alloc())?;
+    let mut message = Message::from_inner(PingPongMessage::Pong(bytes));
+    assert!(rt; message.fits());
+    message.finalize();
+    assert_eq!(rt; message.buffer_len(), 20);
+    let mut buffer = [0x55u8; 20];
+    message.serialize(&mut buffer);
+    assert_eq!(rt; buffer, PONG);
+    let back = Message::deserialize(rt.alloc(), &PONG)?;
+    assert!(rt; back == message);
+    assert_eq!(rt; back.payload.message_type(), 20);
+    match &back.payload {
+        NetlinkPayload::InnerMessage(PingPongMessage::Pong(bytes)) => {
+            assert_eq!(rt; bytes.as_slice(), &PONG[16..]);
+        }
+        _ => assert!(rt; false),
+    }
     Ok(())
 }
 
@@ -135,13 +170,9 @@ fn parts(message: &Message) -> (u16, i32, &[u8]) {
 #[test]
 fn shared_payloads(rt: HostRuntime) -> Result<(), Fail> {
     let nothing: &[u8] = &[];
-    let plain_done: [u8; 20] = [
-        0x14, 0, 0, 0, 3, 0, 0, 0, 0, 0, 0, 0, 0, 0, 0, 0, 0, 0, 0, 0,
-    ];
-    let plain_noop: [u8; 16] = [0x10, 0, 0, 0, 1, 0, 0, 0, 0, 0, 0, 0, 0, 0, 0, 0];
     let rows: [(&[u8], u16, i32, &[u8], &[u8]); 7] = [
-        (&NOOP, 1, 0, nothing, &plain_noop),
-        (&EMPTY_DONE, 3, 0, nothing, &plain_done),
+        (&NOOP, 1, 0, nothing, &PLAIN_NOOP),
+        (&EMPTY_DONE, 3, 0, nothing, &PLAIN_DONE),
         (&DONE, 3, 0, &[6, 7, 8, 9], &DONE),
         (&CODED_DONE, 3, 5, &[1, 2, 3], &CODED_DONE),
         (&ERROR, 2, -8765, nothing, &ERROR),

@@ -6,11 +6,55 @@ use netlink_packet_core::{DecodeError, normalize};
 use std::alloc::Global;
 use std::test::Fail;
 
-const SHORT_DONE: [u8; 19] = [0x13, 0, 0, 0, 3, 0, 0, 0, 0, 0, 0, 0, 0, 0, 0, 0, 1, 2, 3];
+pub const SHORT_DONE: [u8; 19] = [0x13, 0, 0, 0, 3, 0, 0, 0, 0, 0, 0, 0, 0, 0, 0, 0, 1, 2, 3];
 
 const EMPTY_ERROR: [u8; 16] = [0x10, 0, 0, 0, 2, 0, 0, 0, 0, 0, 0, 0, 0, 0, 0, 0];
 
 pub const UNKNOWN: [u8; 16] = [0x10, 0, 0, 0, 0x13, 0, 0, 0, 0, 0, 0, 0, 0, 0, 0, 0];
+
+/// 24 bytes whose length field says 40.
+const CUT: [u8; 24] = [
+    0x28, 0, 0, 0, 0, 0, 0, 0, 0, 0, 0, 0, 0, 0, 0, 0, 0, 0, 0, 0, 0, 0, 0, 0,
+];
+
+/// 24 bytes whose length field says 15.
+const SHORT_LENGTH: [u8; 24] = [
+    0x0f, 0, 0, 0, 0, 0, 0, 0, 0, 0, 0, 0, 0, 0, 0, 0, 0, 0, 0, 0, 0, 0, 0, 0,
+];
+
+/// Bytes with the number and the text of their cause.
+const REFUSED: [(&[u8], u8, &str); 6] = [
+    (
+        &[0x28, 0, 0, 0],
+        9,
+        "failed deserializing NetlinkMessage caused by invalid netlink buffer length caused by invalid netlink buffer: length is 4 but netlink packets are at least 16 bytes",
+    ),
+    (
+        &CUT,
+        10,
+        "failed deserializing NetlinkMessage caused by invalid netlink buffer length caused by invalid netlink buffer: length field says 40 the buffer is 24 bytes long",
+    ),
+    (
+        &SHORT_LENGTH,
+        11,
+        "failed deserializing NetlinkMessage caused by invalid netlink buffer length caused by invalid netlink buffer: length field says 15 but netlink packets are at least 16 bytes",
+    ),
+    (
+        &SHORT_DONE,
+        12,
+        "failed to parse NLMSG_DONE caused by invalid DoneBuffer length caused by invalid DoneBuffer: length is 3 but DoneBuffer are at least 4 bytes",
+    ),
+    (
+        &EMPTY_ERROR,
+        13,
+        "failed parsing NLMSG_ERROR caused by invalid ErrorBuffer length caused by invalid ErrorBuffer: length is 0 but ErrorBuffer are at least 4 bytes",
+    ),
+    (
+        &UNKNOWN,
+        14,
+        "Failed to parse message with type 19: invalid ping-pong message: invalid message type",
+    ),
+];
 
 fn refusal_of(alloc: Global, bytes: &[u8]) -> Result<DecodeError, Fail> {
     match Message::deserialize(alloc, bytes) {
@@ -28,49 +72,13 @@ fn normal_refusal_of(alloc: Global, bytes: &[u8]) -> Result<DecodeError, Fail> {
 
 #[test]
 fn each_with_its_cause_and_text(rt: HostRuntime) -> Result<(), Fail> {
-    let mut cut = [0u8; 24];
-    cut[0] = 0x28;
-    let mut short = [0u8; 24];
-    short[0] = 0x0f;
-    let rows: [(&[u8], u8, &str); 6] = [
-        (
-            &[0x28, 0, 0, 0],
-            9,
-            "failed deserializing NetlinkMessage caused by invalid netlink buffer length caused by invalid netlink buffer: length is 4 but netlink packets are at least 16 bytes",
-        ),
-        (
-            &cut,
-            10,
-            "failed deserializing NetlinkMessage caused by invalid netlink buffer length caused by invalid netlink buffer: length field says 40 the buffer is 24 bytes long",
-        ),
-        (
-            &short,
-            11,
-            "failed deserializing NetlinkMessage caused by invalid netlink buffer length caused by invalid netlink buffer: length field says 15 but netlink packets are at least 16 bytes",
-        ),
-        (
-            &SHORT_DONE,
-            12,
-            "failed to parse NLMSG_DONE caused by invalid DoneBuffer length caused by invalid DoneBuffer: length is 3 but DoneBuffer are at least 4 bytes",
-        ),
-        (
-            &EMPTY_ERROR,
-            13,
-            "failed parsing NLMSG_ERROR caused by invalid ErrorBuffer length caused by invalid ErrorBuffer: length is 0 but ErrorBuffer are at least 4 bytes",
-        ),
-        (
-            &UNKNOWN,
-            14,
-            "Failed to parse message with type 19: invalid ping-pong message: invalid message type",
-        ),
-    ];
-    for (bytes, number, text) in rows.iter() {
+    for (bytes, number, text) in REFUSED {
         let refusal = refusal_of(rt.alloc(), bytes)?;
-        assert_eq!(rt; refusal.number(), *number);
-        assert_eq!(rt; refusal.to_string(rt.alloc())?.as_str(), *text);
+        assert_eq!(rt; refusal.number(), number);
+        assert_eq!(rt; refusal.to_string(rt.alloc())?.as_str(), text);
         let refusal = normal_refusal_of(rt.alloc(), bytes)?;
-        assert_eq!(rt; refusal.number(), *number);
-        assert_eq!(rt; refusal.to_string(rt.alloc())?.as_str(), *text);
+        assert_eq!(rt; refusal.number(), number);
+        assert_eq!(rt; refusal.to_string(rt.alloc())?.as_str(), text);
     }
     Ok(())
 }

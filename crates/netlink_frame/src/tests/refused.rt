@@ -10,8 +10,10 @@ use crate::tests::datagrams::DATAGRAM;
 use crate::tests::hoard::{
     Hoard, Outcome, ROUNDS, refused_or, refused_or_cause, refused_or_equal, usual,
 };
-use crate::tests::lengths::counted;
-use crate::tests::messages::{CODED_DONE, DONE, EMPTY_DONE, Message, NOOP, PING};
+use crate::tests::lengths::{FOUR_ZEROS, counted};
+use crate::tests::messages::{
+    CODED_DONE, DONE, EMPTY_DONE, Message, NOOP, PING, PLAIN_DONE, PLAIN_NOOP,
+};
 use crate::tests::refusals::UNKNOWN;
 use crate::text::show_text;
 use netlink_packet_core::{
@@ -259,20 +261,11 @@ fn parsed_again(alloc: Global, frame: &[u8], ample: &Message) -> Outcome {
 fn a_refused_message(rt: HostRuntime) -> Result<(), Fail> {
     let alloc = rt.alloc();
     let mut hoard = Hoard::new(alloc, 1)?;
+    assert!(rt; hoard.has_all());
     let rounds = hoard.sweep(|| refused_or_cause(Message::deserialize(alloc, &UNKNOWN), 14));
     assert!(rt; rounds.is_some() && rounds != Some(0));
     Ok(())
 }
-
-pub const PLAIN_DONE: [u8; 20] = [
-    0x14, 0, 0, 0, 3, 0, 0, 0, 0, 0, 0, 0, 0, 0, 0, 0, 0, 0, 0, 0,
-];
-
-pub const PLAIN_NOOP: [u8; 16] = [0x10, 0, 0, 0, 1, 0, 0, 0, 0, 0, 0, 0, 0, 0, 0, 0];
-
-pub const FOUR_ZEROS: [u8; 20] = [
-    0x14, 0, 0, 0, 0x12, 0, 0, 0, 0, 0, 0, 0, 0, 0, 0, 0, 0, 0, 0, 0,
-];
 
 /// The bytes of an answer, or want of memory.
 pub(crate) fn refused_or_bytes(answer: Result<Vec<u8>, DecodeError>, ample: &[u8]) -> Outcome {

@@ -13,7 +13,7 @@ use std::io::Write;
 use std::test::Fail;
 
 /// A run in memory, with what it wrote.
-fn written(alloc: Global, command: Command, input: &[u8]) -> Result<Vec<u8>, Fault>
+pub(crate) fn written(alloc: Global, command: Command, input: &[u8]) -> Result<Vec<u8>, Fault>
     ensures { IfOk result (λ output. Makes command input.now output.items None) }
 {
     let mut reader = input;

@@ -4,10 +4,10 @@ use crate::ping_pong::PingPongMessage;
 use crate::samples::Zeros;
 use crate::tests::attributes::SHORT;
 use crate::tests::hoard::{Hoard, refused_or_equal};
-use crate::tests::lengths::counted;
-use crate::tests::messages::{CODED_DONE, EMPTY_DONE, NOOP, PING, REQUEST};
+use crate::tests::lengths::{FOUR_ZEROS, counted};
+use crate::tests::messages::{CODED_DONE, EMPTY_DONE, NOOP, PING, PLAIN_DONE, PLAIN_NOOP, REQUEST};
 use crate::tests::refusals::UNKNOWN;
-use crate::tests::refused::{FOUR_ZEROS, PLAIN_DONE, PLAIN_NOOP};
+use netlink_packet_core::laws::{cut_refused, frames_fixed, tail_ignored};
 use netlink_packet_core::{is_canonical_frame, is_canonical_nlas};
 use std::test::Fail;
 
@@ -46,6 +46,9 @@ fn verdicts_on_frames(rt: HostRuntime) -> Result<(), Fail> {
         let answer = is_canonical_frame::<PingPongMessage>(rt.alloc(), frame)?;
         assert_eq!(rt; answer, *verdict);
     }
+    cut_refused::<PingPongMessage>(&PING, 19);
+    tail_ignored::<PingPongMessage>(&PING, &[0xff]);
+    frames_fixed::<PingPongMessage>(&PING);
     Ok(())
 }
 

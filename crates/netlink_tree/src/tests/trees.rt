@@ -1,7 +1,10 @@
 //! Trees read and written.
 
-use crate::laws::{trees_equal, trees_read_back, trees_total, trees_unique, trees_write_back};
-use crate::{NlaTree, TreeFault, is_well_formed, read_tree, write_tree};
+use crate::laws::{
+    frames_equal, frames_given, frames_hold, frames_stop, frames_total, frames_unique, trees_equal,
+    trees_read_back, trees_total, trees_unique, trees_write_back,
+};
+use crate::{NlaTree, is_well_formed, read_tree, write_tree};
 use std::alloc::{AllocError, Global};
 use std::test::Fail;
 
@@ -47,6 +50,7 @@ fn sixteen_levels_are_read(rt: HostRuntime) -> Result<(), Fail> {
     assert_eq!(rt; block.len(), 68);
     assert_eq!(rt; read_fault(alloc, &block)?.as_str(), TOO_DEEP);
     let trees = read_tree(alloc, &block[4..])?;
+    assert!(rt; trees == nested(alloc, 16, Vec::new(alloc))?);
     assert!(rt; write_tree(alloc, &trees)?.as_slice() == &block[4..]);
 
     let mut damaged = Vec::new(alloc);
@@ -130,6 +134,12 @@ fn kinds_are_looked_at_inside(rt: HostRuntime) -> Result<(), Fail> {
 
 #[test]
 fn the_laws_hold() {
+    frames_total();
+    frames_unique();
+    frames_given();
+    frames_hold();
+    frames_stop();
+    frames_equal();
     trees_total();
     trees_unique();
     trees_read_back();

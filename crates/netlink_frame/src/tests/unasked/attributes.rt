@@ -4,7 +4,7 @@ ghost use Rattle.std.specs.Prelude.{◌∷◌, []};
 
 use crate::nlas::nlas_fault;
 use crate::overwrite::overwrite;
-use crate::tests::attributes::{SHORT, TWO};
+use crate::tests::attributes::{FLAGGED, SHORT, TWO};
 use crate::tests::hoard::{Hoard, refuses};
 use netlink_ethernet::{Comparisons, look_up};
 use netlink_packet_core::{
@@ -15,8 +15,6 @@ use netlink_packet_core::{
 use std::fmt;
 use std::fmt::Write;
 use std::test::Fail;
-
-const FLAGGED: [u8; 8] = [8, 0, 6, 0x40, 0, 0, 0x0e, 0x10];
 
 #[test]
 fn views_of_an_attribute(rt: HostRuntime) -> Result<(), Fail> {

@@ -36,7 +36,7 @@ fn a_message_is_written(rt: HostRuntime) -> Result<(), Fail> {
     Ok(())
 }
 
-const CODED_DONE: [u8; 20] = [
+const BARE_DONE: [u8; 20] = [
     0x14, 0, 0, 0, 3, 0, 0, 0, 0, 0, 0, 0, 0, 0, 0, 0, 5, 0, 0, 0,
 ];
 
@@ -51,7 +51,7 @@ fn messages_with_nothing_to_copy(rt: HostRuntime) -> Result<(), Fail> {
         (&NOOP, 1, 0, false),
         (&ERROR, 2, -8765, true),
         (&EMPTY_DONE, 3, 0, false),
-        (&CODED_DONE, 3, 5, true),
+        (&BARE_DONE, 3, 5, true),
         (&EMPTY_OVERRUN, 4, 0, true),
     ];
     for (frame, kind, code, canonical) in rows.iter() {

@@ -1,4 +1,4 @@
-use Rattle.std.proofs.Common.{List, [], ◌∷◌, ℕ, refl, inl, arith, Option, None, lit<}
+use Rattle.std.proofs.Common.{List, [], ◌∷◌, ℕ, refl, inl, arith, None}
 use Rattle.netlink_packet_core.specs.Attribute.{Attribute}
 use Rattle.netlink_packet_core.specs.Numbers.{text_le}
 use Rattle.netlink_packet_core.specs.Walk.{Starts, Walk}
