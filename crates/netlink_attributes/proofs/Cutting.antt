@@ -1,14 +1,14 @@
 -- What is left of a walk where its bytes are cut.
 use Rattle.std.proofs.Common.{◌≡◌, ◌≢◌, ℕ, zero, suc, Bool, false, cond, ltb, ◌+◌, ◌-◌, ◌<◌, ◌≤◌, ◌⊎◌, List, [], ◌∷◌, ◌++◌, length, take, drop, refl, ap, sym, subst, ◌∙◌, inl, inr, arith, Option, Some, None, append-nil}
 use Rattle.std.proofs.lemmas.Bool.{cases_lt, lt-ltb, le-ltb, le-leb, lt-leb}
-use Rattle.std.proofs.lemmas.List.{length-take, drop-drop, take-append-le}
+use Rattle.std.proofs.lemmas.List.{length-take-le, take-take, drop-drop, take-append-le}
 use Rattle.std.proofs.Math.Seq.{take-append-add, take-nil}
 use Rattle.std.specs.Prelude.{slice_get}
 use Rattle.netlink_bytes.specs.Numbers.{number_le}
 use Rattle.netlink_bytes.specs.declared.error.DecodeError.{DecodeError}
 use Rattle.netlink_bytes.specs.declared.error.DecodeError.TheVariants.{NlaBufferTooSmall, NlaLengthMismatch, NlaInvalidLength}
 use Rattle.netlink_attributes.specs.Attribute.{Attribute, attribute_text, padding, padded_size}
-use Rattle.netlink_attributes.specs.Cuts.{kept_from, kept_by, fault_start_from, IsCutFrom, IsCutAt, fault_of, cut_fault}
+use Rattle.netlink_attributes.specs.Cuts.{kept_from, kept_by, fault_start_from, IsCutAt, fault_of, cut_fault}
 use Rattle.netlink_attributes.specs.Places.{ends_from}
 use Rattle.netlink_attributes.specs.Sizes.{length-attribute_text}
 use Rattle.netlink_attributes.specs.Views.{length_field}
@@ -18,18 +18,9 @@ use Rattle.netlink_attributes.proofs.Walking.{walk_once}
 
 -- ---- lists
 
-take_take : (m k : ℕ) (xs : List ℕ) → m ≤ k → take m (take k xs) ≡ take m xs
-take_take zero k xs low = refl
-take_take (suc m) zero xs low = absurd (omega arith)
-take_take (suc m) (suc k) [] low = refl
-take_take (suc m) (suc k) (x ∷ xs) low = ap (λ (t : List ℕ). x ∷ t) (take_take m k xs (omega arith))
-
 -- so many bytes from behind a front
 take_behind : (front rest : List ℕ) (k size : ℕ) → size ≡ length front + k → take size (front ++ rest) ≡ front ++ take k rest
 take_behind front rest k size is = ap (λ (n : ℕ). take n (front ++ rest)) is ∙ take-append-add front rest k
-
-length-take_all : (n : ℕ) (xs : List ℕ) → n ≤ length xs → length (take n xs) ≡ n
-length-take_all n xs inside = let taken = length-take n xs in omega arith
 
 -- ---- an attribute that ends by the cut
 
@@ -42,7 +33,7 @@ gap_cut a gap rest k size =
     elim (cases_lt k (length gap)) [
       | inl inside ↦
           let none : take {A = ℕ} (k - missing) rest ≡ [] = ap (λ (n : ℕ). take n rest) (let e : k - missing ≡ 0 = elim size [ inl full ↦ omega arith | inr short ↦ omega (arith, short.0) ] in e) in
-          let taken = length-take_all k gap (omega arith) in (
+          let taken = length-take-le k gap (omega arith) in (
             take k gap,
             take-append-le k gap rest (omega arith) ∙ sym (append-nil (take k gap)) ∙ ap (λ (x : List ℕ). take k gap ++ x) (sym none),
             inr (elim size [ inl full ↦ omega arith | inr short ↦ omega (arith, short.0) ], none),
@@ -70,11 +61,11 @@ starts_cut bytes a rest k starts inside =
 
 -- four bytes are enough for the length field
 length_field-take : (bytes : List ℕ) (k : ℕ) → 4 ≤ k → length_field (take k bytes) ≡ length_field bytes
-length_field-take bytes k long = ap number_le (take_take 2 k bytes (omega arith))
+length_field-take bytes k long = ap number_le (take-take 2 k bytes (omega arith))
 
 fault_is : (bytes : List ℕ) (k : ℕ) → k ≤ length bytes → (4 ≤ k → (length_field bytes < 4) ⊎ (k < length_field bytes)) → IsFault (take k bytes) (fault_of bytes k)
 fault_is bytes k inside damaged =
-    let size : length (take k bytes) ≡ k = length-take_all k bytes inside in
+    let size : length (take k bytes) ≡ k = length-take-le k bytes inside in
     let field : ℕ = length_field bytes in
     let told : Bool → Bool → DecodeError = λ short low. cond short (NlaBufferTooSmall k 4) (cond low (NlaInvalidLength 4 field) (NlaLengthMismatch k field)) in
     elim (cases_lt k 4) [
@@ -89,7 +80,7 @@ fault_is bytes k inside damaged =
     ]
 
 not_empty : (k : ℕ) (bytes : List ℕ) → 0 < k → k ≤ length bytes → take k bytes ≢ []
-not_empty k bytes some inside none = let size = length-take_all k bytes inside in omega (arith, ap length none)
+not_empty k bytes some inside none = let size = length-take-le k bytes inside in omega (arith, ap length none)
 
 -- bytes with a fault have one wherever they are cut
 fault_cut : (bytes : List ℕ) (fault : DecodeError) (k : ℕ) → IsFault bytes fault → k ≤ length bytes → 4 ≤ k → (length_field bytes < 4) ⊎ (k < length_field bytes)
@@ -99,6 +90,12 @@ fault_cut bytes (NlaInvalidLength m n) k is inside long = inl (omega arith)
 fault_cut bytes _ k is inside long = absurd is
 
 -- ---- offsets
+
+-- `IsCutAt`, of attributes from an offset on
+abbrev pub IsCutFrom : ℕ → List Attribute → Option DecodeError → ℕ → ℕ → Type 0
+IsCutFrom at all fault cut start =
+    ((index : ℕ) × (end : ℕ) × (slice_get (ends_from at all) index ≡ Some (start, end)) × (start < cut) × (cut < end))
+    ⊎ ((fault ≢ None) × (start ≡ fault_start_from at all) × (start < cut))
 
 start_or : Option (ℕ × ℕ) → ℕ → ℕ
 start_or None at = at

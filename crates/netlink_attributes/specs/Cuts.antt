@@ -3,7 +3,7 @@ use Rattle.std.specs.Prelude.{ℕ, ◌+◌, ◌-◌, ◌≡◌, ◌≢◌, ◌<�
 use Rattle.netlink_bytes.specs.declared.error.DecodeError.{DecodeError}
 use Rattle.netlink_bytes.specs.declared.error.DecodeError.TheVariants.{NlaBufferTooSmall, NlaLengthMismatch, NlaInvalidLength}
 use Rattle.netlink_attributes.specs.Attribute.{Attribute, padded_size}
-use Rattle.netlink_attributes.specs.Places.{ends_from}
+use Rattle.netlink_attributes.specs.Places.{ends_of}
 use Rattle.netlink_attributes.specs.Views.{length_field}
 
 -- the attributes that end by the cut, from an offset on
@@ -24,13 +24,10 @@ abbrev pub fault_start : List Attribute → ℕ
 fault_start all = fault_start_from 0 all
 
 -- the cut falls inside the attribute that starts here, or past the start of the fault, which is here
-abbrev pub IsCutFrom : ℕ → List Attribute → Option DecodeError → ℕ → ℕ → Type 0
-IsCutFrom at all fault cut start =
-    ((index : ℕ) × (end : ℕ) × (slice_get (ends_from at all) index ≡ Some (start, end)) × (start < cut) × (cut < end))
-    ⊎ ((fault ≢ None) × (start ≡ fault_start_from at all) × (start < cut))
-
 abbrev pub IsCutAt : List Attribute → Option DecodeError → ℕ → ℕ → Type 0
-IsCutAt all fault cut start = IsCutFrom 0 all fault cut start
+IsCutAt all fault cut start =
+    ((index : ℕ) × (end : ℕ) × (slice_get (ends_of all) index ≡ Some (start, end)) × (start < cut) × (cut < end))
+    ⊎ ((fault ≢ None) × (start ≡ fault_start all) × (start < cut))
 
 -- the fault of this many bytes, in which no attribute ends
 abbrev pub fault_of : List ℕ → ℕ → DecodeError

@@ -1,10 +1,11 @@
 //! Blocks of attributes, written.
 
-ghost use Rattle.std.specs.Prelude.{◌≡◌, ◌↔◌, ◌+◌, ◌-◌, ◌^◌, ◌<◌, ◌≤◌, ◌++◌, ◌⊎◌, List, [], Option, None, Some, IfErr, IfOk, IsOk, MatchResult, OnOk, length, replicate, vec_len, vec_capacity};
+ghost use Rattle.std.specs.Prelude.{◌≡◌, ◌↔◌, ◌+◌, ◌^◌, ◌<◌, ◌≤◌, ◌++◌, ◌⊎◌, List, [], None, Some, IfErr, IfOk, IsOk, MatchResult, OnOk, length, replicate, vec_len, vec_capacity};
 ghost use Rattle.netlink_bytes.specs.Numbers.{text_le};
 ghost use Rattle.netlink_bytes.specs.declared.error.DecodeError.{DecodeError};
 ghost use Rattle.netlink_attributes.specs.Attribute.{Attribute, padded, padding};
 ghost use Rattle.netlink_attributes.specs.Block.{canonical_block, IsCanonicalBlock};
+ghost use Rattle.netlink_attributes.specs.Nla.{attribute_with};
 ghost use Rattle.netlink_attributes.specs.Walk.{Walk};
 
 use crate::align::nla_align;
@@ -101,7 +102,7 @@ pub fn append_nla(
     value: &[u8],
 ) -> Result<(), DecodeError>
     requires fits { length value.now ≤ 65531 }
-    ensures ok { OnOk result (block.new.items ≡ block.old.items ++ padded (record { kind = kind; value = value.now })) }
+    ensures ok { OnOk result (block.new.items ≡ block.old.items ++ padded (attribute_with kind value.now)) }
     ensures err { IfErr result (λ e. (e ≡ DecodeError.OutOfMemory) × (block.new.items ≡ block.old.items)) }
 {
     let size = value.len() + NLA_HEADER_SIZE;

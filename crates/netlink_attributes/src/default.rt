@@ -1,6 +1,6 @@
 //! An attribute that keeps its value as bytes.
 
-ghost use Rattle.std.specs.Prelude.{◌≡◌, ◌<◌, ◌≤◌, [], IfErr, IfOk, IsOk, IsTrue, true, length};
+ghost use Rattle.std.specs.Prelude.{◌≡◌, ◌≤◌, [], IfErr, IfOk, IsOk, IsTrue, true, length};
 ghost use Rattle.netlink_attributes.specs.Attribute.{padded};
 ghost use Rattle.netlink_attributes.specs.Nla.{kept_attribute};
 ghost use Rattle.netlink_attributes.specs.Views.{attribute_of, shown, HoldsAttribute};

@@ -1,10 +1,8 @@
 //! Values lent for writing: what is found, what is written, and what the block then walks as.
 
+use super::TWO;
 use crate::{NlasIterator, nlas_value_mut};
 use netlink_bytes::DecodeError;
-
-/// Two attributes, (1, aa) and (2, 01020304).
-const TWO: [u8; 16] = [5, 0, 1, 0, 0xaa, 0, 0, 0, 8, 0, 2, 0, 1, 2, 3, 4];
 
 #[test]
 fn a_value_is_written_in_place(rt: HostRuntime) {

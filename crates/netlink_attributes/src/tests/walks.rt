@@ -1,11 +1,9 @@
 //! Walks, what is normalised, and where a value lies.
 
+use super::TWO;
 use crate::{NlasIterator, nla_place, normalize_nlas};
 use std::alloc::{AllocError, Global};
 use std::test::Fail;
-
-/// Two attributes, (1, aa) and (2, 01020304).
-const TWO: &[u8] = &[5, 0, 1, 0, 0xaa, 0, 0, 0, 8, 0, 2, 0, 1, 2, 3, 4];
 
 /// An attribute without value, and then a length field below 4.
 const DAMAGED: &[u8] = &[4, 0, 1, 0, 3, 0, 7, 0, 0xff];
@@ -28,7 +26,7 @@ fn walks_give_attributes_and_then_the_fault(rt: HostRuntime) -> Result<(), Fail>
             &[],
             "buffer has length 3, but an NLA header is 4 bytes",
         ),
-        (TWO, &[(1, 1), (2, 4)], &[0xaa, 1, 2, 3, 4], ""),
+        (&TWO, &[(1, 1), (2, 4)], &[0xaa, 1, 2, 3, 4], ""),
         (
             DAMAGED,
             &[(1, 0)],
@@ -94,7 +92,7 @@ fn blocks_are_normalised(rt: HostRuntime) -> Result<(), Fail> {
             &[5, 0, 1, 0, 0xaa, 0x11, 0x22, 0x33, 4, 0, 6, 0xc0],
             &[5, 0, 1, 0, 0xaa, 0, 0, 0, 4, 0, 6, 0xc0],
         ),
-        (TWO, TWO),
+        (&TWO, &TWO),
     ];
     for (bytes, block) in rows {
         match normalize_nlas(rt.alloc(), bytes) {
@@ -104,7 +102,10 @@ fn blocks_are_normalised(rt: HostRuntime) -> Result<(), Fail> {
     }
     match normalize_nlas(rt.alloc(), DAMAGED) {
         Ok(_) => assert!(rt; false),
-        Err(fault) => assert_eq!(rt; fault.number(), 7),
+        Err(fault) => assert_eq!(rt;
+            fault.to_string(rt.alloc())?.as_str(),
+            "NLA has invalid length: 3 (should be at least 4 bytes)"
+        ),
     }
     Ok(())
 }
@@ -112,11 +113,11 @@ fn blocks_are_normalised(rt: HostRuntime) -> Result<(), Fail> {
 #[test]
 fn values_have_places(rt: HostRuntime) {
     let overwritten: &[u8] = &[5, 0, 1, 0, 0xaa, 1, 2, 3, 3, 0, 7, 0];
-    let rows = [
-        (TWO, 0, Some((4, 5))),
-        (TWO, 1, Some((12, 16))),
-        (TWO, 2, None),
-        (TWO, usize::MAX, None),
+    let rows: [(&[u8], usize, Option<(usize, usize)>); 8] = [
+        (&TWO, 0, Some((4, 5))),
+        (&TWO, 1, Some((12, 16))),
+        (&TWO, 2, None),
+        (&TWO, usize::MAX, None),
         (DAMAGED, 0, Some((4, 4))),
         (DAMAGED, 1, None),
         (overwritten, 0, Some((4, 5))),

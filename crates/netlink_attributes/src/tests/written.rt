@@ -63,6 +63,7 @@ fn what_is_parsed_is_written_again(rt: HostRuntime) -> Result<(), Fail> {
     ];
     for (bytes, kind, size) in rows {
         let Ok(view) = NlaBuffer::new_checked(bytes) else {
+            assert!(rt; false);
             continue;
         };
         match DefaultNla::parse(rt.alloc(), &view) {

@@ -1,4 +1,4 @@
-use Rattle.std.proofs.Common.{◌≡◌, ℕ, zero, suc, ◌≤◌, List, [], ◌∷◌, length, ap, ◌∙◌, arith}
+use Rattle.std.proofs.Common.{◌≡◌, ℕ, zero, suc, List, [], ◌∷◌, length, ap, ◌∙◌, arith}
 use Rattle.netlink_attributes.specs.Block.{canonical_block}
 use Rattle.netlink_attributes.specs.Nla.{attribute_with, kept_attribute, AllFit}
 use Rattle.netlink_attributes.specs.declared.default.DefaultNla.{DefaultNla}
