@@ -1,3 +1,4 @@
+use crate::laws::protocols_equal;
 use crate::{Comparisons, EthernetProtocol, look_up};
 use std::alloc::Global;
 use std::process::Abort;
@@ -43,4 +44,14 @@ fn prints_names_and_hexadecimal_numbers(rt: HostRuntime) {
         let printed = protocol.to_string(alloc).expect(&rt, "memory");
         assert_eq!(rt; printed.as_str(), text);
     }
+}
+
+#[test]
+fn protocols_are_told_apart(rt: HostRuntime) {
+    protocols_equal();
+    assert!(rt; EthernetProtocol::Ip == EthernetProtocol::Ip);
+    assert!(rt; EthernetProtocol::Ip != EthernetProtocol::Ipv6);
+    assert!(rt; EthernetProtocol::Ip != EthernetProtocol::Other(0x0800));
+    assert!(rt; EthernetProtocol::Other(1) == EthernetProtocol::Other(1));
+    assert!(rt; EthernetProtocol::Other(1) != EthernetProtocol::Other(2));
 }
