@@ -1,8 +1,8 @@
 -- The fields of an attribute's bytes: by item, in a text, and as the text of what the bytes begin with.
-use Rattle.std.proofs.Common.{◌≡◌, ℕ, zero, suc, ◌+◌, ◌-◌, ◌*◌, ◌<◌, ◌≤◌, ◌^◌, List, [], ◌∷◌, ◌++◌, length, get_or, take, drop, refl, ap, sym, ◌∙◌, arith, append_assoc, length-drop}
-use Rattle.std.proofs.lemmas.List.{take-append-drop, length-take, length-take-le, get_or-drop, take_at, drop-drop}
+use Rattle.std.proofs.Common.{◌≡◌, ℕ, ◌+◌, ◌-◌, ◌*◌, ◌<◌, ◌≤◌, ◌^◌, List, [], ◌∷◌, ◌++◌, length, get_or, take, drop, refl, ap, sym, ◌∙◌, arith, append_assoc, length-drop}
+use Rattle.std.proofs.lemmas.List.{take-append-drop, length-take, take_at, drop-drop}
 use Rattle.netlink_bytes.specs.Numbers.{IsBytes, number_le, text_le}
-use Rattle.netlink_bytes.specs.NumberLaws.{number_le-text_le, number_le-fits, text_le-number_le}
+use Rattle.netlink_bytes.specs.NumberLaws.{number_le-text_le, IsBytes-drop, split_number, front-fits}
 use Rattle.netlink_attributes.specs.Attribute.{Attribute, FitsAttribute, attribute_text}
 use Rattle.netlink_attributes.specs.Views.{length_field, raw_kind, attribute_of}
 
@@ -54,37 +54,14 @@ attribute_of-text a more fits =
 
 -- ---- of bytes
 
-pub IsBytes-drop : (n : ℕ) (bytes : List ℕ) → IsBytes bytes → IsBytes (drop n bytes)
-IsBytes-drop n bytes each i = rw get_or-drop (each (n + i))
-
-IsBytes-take : (n : ℕ) (bytes : List ℕ) → IsBytes bytes → IsBytes (take n bytes)
-IsBytes-take zero bytes each i = omega arith
-IsBytes-take (suc n) [] each i = omega arith
-IsBytes-take (suc n) (x ∷ bytes) each zero = each zero
-IsBytes-take (suc n) (x ∷ bytes) each (suc i) = IsBytes-take n bytes (λ j. each (suc j)) i
-
--- two bytes are the text of their number
-two_bytes : (bytes : List ℕ) → IsBytes bytes → 2 ≤ length bytes → bytes ≡ text_le (number_le (take 2 bytes)) 2 ++ drop 2 bytes
-two_bytes bytes each long =
-    let size : length (take 2 bytes) ≡ 2 = length-take-le 2 bytes long in
-    let text : text_le (number_le (take 2 bytes)) 2 ≡ take 2 bytes =
-    ap (text_le (number_le (take 2 bytes))) (sym size) ∙ text_le-number_le (take 2 bytes) (IsBytes-take 2 bytes each) in
-    sym (take-append-drop 2 bytes) ∙ ap (λ (front : List ℕ). front ++ drop 2 bytes) (sym text)
-
--- the number of the two bytes in front is one of 16 bits
-front-fits : (bytes : List ℕ) → IsBytes bytes → 2 ≤ length bytes → number_le (take 2 bytes) < 2 ^ 16
-front-fits bytes each long =
-    let fits = number_le-fits (take 2 bytes) (IsBytes-take 2 bytes each) in
-    rw (length-take-le 2 bytes long) at fits
-
 after_two : (bytes : List ℕ) → 4 ≤ length bytes → 2 ≤ length (drop 2 bytes)
 after_two bytes long = omega (arith, length-drop 2 bytes)
 
 pub raw_kind-fits : (bytes : List ℕ) → IsBytes bytes → 4 ≤ length bytes → raw_kind bytes < 2 ^ 16
-raw_kind-fits bytes each long = front-fits (drop 2 bytes) (IsBytes-drop 2 bytes each) (after_two bytes long)
+raw_kind-fits bytes each long = front-fits 2 (drop 2 bytes) (IsBytes-drop 2 bytes each) (after_two bytes long)
 
 pub length_field-fits : (bytes : List ℕ) → IsBytes bytes → 4 ≤ length bytes → length_field bytes < 2 ^ 16
-length_field-fits bytes each long = front-fits bytes each (omega (arith, long))
+length_field-fits bytes each long = front-fits 2 bytes each (omega (arith, long))
 
 -- a list from one place on is a part and the rest
 pub part_and_rest : (start end : ℕ) (bytes : List ℕ) → start ≤ end → drop start bytes ≡ take (end - start) (drop start bytes) ++ drop end bytes
@@ -111,6 +88,6 @@ text-attribute_of bytes each long least most =
     let size : 4 + length (attribute_of bytes).value ≡ length_field bytes = omega (arith, length-value bytes most) in
     regrouped (text_le (4 + length (attribute_of bytes).value) 2) (text_le (raw_kind bytes) 2) (attribute_of bytes).value (drop (length_field bytes) bytes)
     bytes (drop 2 bytes) (drop 4 bytes)
-    (two_bytes bytes each (omega (arith, long)) ∙ ap (λ (n : ℕ). text_le n 2 ++ drop 2 bytes) (sym size))
-    (two_bytes (drop 2 bytes) (IsBytes-drop 2 bytes each) (after_two bytes long) ∙ ap (λ (x : List ℕ). text_le (raw_kind bytes) 2 ++ x) (drop-drop 2 2 bytes))
+    (split_number 2 bytes each (omega (arith, long)) ∙ ap (λ (n : ℕ). text_le n 2 ++ drop 2 bytes) (sym size))
+    (split_number 2 (drop 2 bytes) (IsBytes-drop 2 bytes each) (after_two bytes long) ∙ ap (λ (x : List ℕ). text_le (raw_kind bytes) 2 ++ x) (drop-drop 2 2 bytes))
     (part_and_rest 4 (length_field bytes) bytes least)

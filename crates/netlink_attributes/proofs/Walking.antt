@@ -3,6 +3,7 @@ use Rattle.std.proofs.Common.{◌≡◌, ◌≢◌, ℕ, zero, suc, ◌+◌, ◌
 use Rattle.std.proofs.lemmas.Bool.{cases_lt}
 use Rattle.std.specs.Iterator.{Drains}
 use Rattle.netlink_bytes.specs.Numbers.{IsBytes}
+use Rattle.netlink_bytes.specs.NumberLaws.{IsBytes-drop}
 use Rattle.netlink_bytes.specs.declared.error.DecodeError.{DecodeError}
 use Rattle.netlink_bytes.specs.declared.error.DecodeError.TheVariants.{NlaBufferTooSmall, NlaLengthMismatch, NlaInvalidLength}
 use Rattle.netlink_attributes.specs.Attribute.{Attribute, padded_size}
@@ -10,7 +11,6 @@ use Rattle.netlink_attributes.specs.Steps.{unread, steps, item_bound, GivesWalk}
 use Rattle.netlink_attributes.specs.Views.{length_field, attribute_of, HoldsAttribute}
 use Rattle.netlink_attributes.specs.Walk.{Walk, IsFault, Item, Gives, AreItems}
 use Rattle.netlink_attributes.specs.declared.iterator.NlasIterator.{NlasIterator}
-use Rattle.netlink_attributes.proofs.Fields.{IsBytes-drop}
 use Rattle.netlink_attributes.proofs.Starting.{starts-attribute_of, starts-length, starts-rest, starts-fault, starts_held, nothing_starts, fault_once}
 
 -- ---- one walk

@@ -1,5 +1,4 @@
 pub mod Causes
-pub mod ContextLaws
 pub mod Contexts
 pub mod Laws
 pub mod Lending

@@ -1,12 +1,12 @@
 -- Laws of numbers and their bytes, for callers to cite.
-use Rattle.std.specs.Prelude.{◌≡◌, ◌<◌, ℕ, zero, suc, ◌+◌, ◌*◌, ◌/◌, ◌%◌, ◌^◌, List, [], ◌∷◌, ◌++◌, length, reverse, take, ℤ, pos, negsuc, refl}
+use Rattle.std.specs.Prelude.{◌≡◌, ◌<◌, ◌≤◌, ℕ, zero, suc, ◌+◌, ◌*◌, ◌/◌, ◌%◌, ◌^◌, List, [], ◌∷◌, ◌++◌, length, reverse, take, drop, ℤ, pos, negsuc, refl}
 use Rattle.std.proofs.Common.{ap, arith, sym, ◌∙◌}
 use Rattle.std.proofs.Math.Arith.{mod-mul}
 use Rattle.std.proofs.Math.Nat.{pow-suc, pow-succ'}
 use Rattle.std.proofs.Math.Seq.{take-append_seam}
 use Rattle.std.proofs.lemmas.Grind.{reverse_onto}
 use Rattle.std.proofs.lemmas.Int.{ints}
-use Rattle.std.proofs.lemmas.List.{length-reverse, reverse-reverse}
+use Rattle.std.proofs.lemmas.List.{get_or-drop, length-reverse, length-take-le, reverse-reverse, take-append-drop}
 use Rattle.std.proofs.lemmas.Nat.{div_below}
 use Rattle.netlink_bytes.specs.Numbers.{IsBytes, IsSigned, number_le, number_be, text_le, text_be, signed, unsigned}
 
@@ -143,3 +143,28 @@ take-text_le n w rest = ap (λ (k : ℕ). take k (text_le n w ++ rest)) (sym (le
 
 pub take-text_be : (n w : ℕ) (rest : List ℕ) → take w (text_be n w ++ rest) ≡ text_be n w
 take-text_be n w rest = ap (λ (k : ℕ). take k (text_be n w ++ rest)) (sym (length-text_be n w)) ∙ take-append_seam (text_be n w) rest
+
+-- ---- parts of bytes
+
+pub IsBytes-drop : (n : ℕ) (bytes : List ℕ) → IsBytes bytes → IsBytes (drop n bytes)
+IsBytes-drop n bytes each i = rw get_or-drop (each (n + i))
+
+pub IsBytes-take : (n : ℕ) (bytes : List ℕ) → IsBytes bytes → IsBytes (take n bytes)
+IsBytes-take zero bytes each i = omega arith
+IsBytes-take (suc n) [] each i = omega arith
+IsBytes-take (suc n) (x ∷ bytes) each zero = each zero
+IsBytes-take (suc n) (x ∷ bytes) each (suc i) = IsBytes-take n bytes (λ j. each (suc j)) i
+
+-- bytes are the text of the number in front, and what follows it
+pub split_number : (w : ℕ) (bytes : List ℕ) → IsBytes bytes → w ≤ length bytes → bytes ≡ text_le (number_le (take w bytes)) w ++ drop w bytes
+split_number w bytes each long =
+    let size : length (take w bytes) ≡ w = length-take-le w bytes long in
+    let text : text_le (number_le (take w bytes)) w ≡ take w bytes =
+    ap (text_le (number_le (take w bytes))) (sym size) ∙ text_le-number_le (take w bytes) (IsBytes-take w bytes each) in
+    sym (take-append-drop w bytes) ∙ ap (λ (front : List ℕ). front ++ drop w bytes) (sym text)
+
+-- and that number fits its bytes
+pub front-fits : (w : ℕ) (bytes : List ℕ) → IsBytes bytes → w ≤ length bytes → number_le (take w bytes) < 256 ^ w
+front-fits w bytes each long =
+    let fits = number_le-fits (take w bytes) (IsBytes-take w bytes each) in
+    rw (length-take-le w bytes long) at fits

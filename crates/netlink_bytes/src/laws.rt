@@ -1,7 +1,14 @@
 //! Laws of numbers and their bytes, and of lines in front of an error, for callers to cite.
 
+ghost use Rattle.std.specs.Prelude.{◌≡◌, ◌↔◌, IsTrue};
 ghost use Rattle.netlink_bytes.specs.Contexts.{LinesChain};
 ghost use Rattle.netlink_bytes.specs.Laws.{BytesReadBack, NumberIsSum, SignedReadsBack, TextIsBytes, TextReadsBack, UnsignedReadsBack, WrittenIsRead, WrittenSignedIsRead};
+ghost use Rattle.netlink_bytes.specs.NonZero.{number_of};
+ghost use Rattle.netlink_bytes.specs.declared.addresses.IpAddr.{IpAddr};
+ghost use Rattle.netlink_bytes.specs.declared.nonzero.NonZeroI32.{NonZeroI32};
+
+use crate::addresses::IpAddr;
+use crate::nonzero::NonZeroI32;
 
 /// The number of bytes is the sum of each byte times 256 to the power of its place, and a text of some size is a list of as many bytes.
 pub fn numbers_are_sums()
@@ -30,4 +37,10 @@ pub fn written_is_read()
 /// Of two lines in front of an error the later one stands first: `b caused by a caused by` the text of the error, memory aside.
 pub fn contexts_chain()
     ensures chain { LinesChain }
+{}
+
+/// Two addresses are equal exactly if they are the same value, and two numbers that are not zero exactly if their numbers are.
+pub fn values_equal()
+    ensures address { (a b : IpAddr) → IsTrue (⟦<IpAddr as PartialEq>⟧.eq a b) ↔ (a ≡ b) }
+    ensures number { (a b : NonZeroI32) → IsTrue (⟦<NonZeroI32 as PartialEq>⟧.eq a b) ↔ (number_of a ≡ number_of b) }
 {}

@@ -1,6 +1,6 @@
 //! Every number, there and back, and printed names.
 
-use crate::laws::{number_kept, protocol_kept};
+use crate::laws::{number_kept, protocol_kept, protocols_equal};
 use crate::{Comparisons, EthernetProtocol, look_up};
 use std::test::Fail;
 
@@ -46,4 +46,14 @@ fn prints_names_and_hexadecimal_numbers(rt: HostRuntime) -> Result<(), Fail> {
         assert_eq!(rt; protocol.to_string(alloc)?.as_str(), text);
     }
     Ok(())
+}
+
+#[test]
+fn protocols_are_told_apart(rt: HostRuntime) {
+    protocols_equal();
+    assert!(rt; EthernetProtocol::Ip == EthernetProtocol::Ip);
+    assert!(rt; EthernetProtocol::Ip != EthernetProtocol::Ipv6);
+    assert!(rt; EthernetProtocol::Ip != EthernetProtocol::Other(0x0800));
+    assert!(rt; EthernetProtocol::Other(1) == EthernetProtocol::Other(1));
+    assert!(rt; EthernetProtocol::Other(1) != EthernetProtocol::Other(2));
 }

@@ -13,7 +13,7 @@ use Rattle.netlink_example.specs.Generic.{generic_decoding, generic_encoding, ge
 use Rattle.netlink_example.specs.declared.message.GenericMessage.{GenericMessage}
 
 -- payloads of one type, one text and one range
-pub record Alike (x y : NetlinkPayload GenericMessage) : Type 0 where
+record Alike (x y : NetlinkPayload GenericMessage) : Type 0 where
   pub kind : payload_type generic_encoding x ≡ payload_type generic_encoding y
   pub text : payload_text generic_encoding x ≡ payload_text generic_encoding y
   pub in_range : PayloadInRange y → PayloadInRange x

@@ -1,13 +1,12 @@
 -- A header's text read again, and the text of a header that was read.
-use Rattle.std.proofs.Common.{◌≡◌, ℕ, ◌+◌, ◌-◌, ◌≤◌, List, ◌++◌, length, take, drop, refl, ap, sym, ◌∙◌, append_assoc, arith, length-append, length-drop}
-use Rattle.std.proofs.lemmas.List.{take-append-drop, take-append-le, length-take, length-take-le, drop-drop, take_at}
+use Rattle.std.proofs.Common.{◌≡◌, ℕ, ◌+◌, ◌-◌, ◌<◌, ◌≤◌, ◌^◌, List, ◌++◌, length, take, drop, refl, ap, sym, ◌∙◌, append_assoc, arith, length-append, length-drop}
+use Rattle.std.proofs.lemmas.List.{take-append-drop, take-append-le, length-take, drop-drop, take_at}
 use Rattle.netlink_bytes.specs.Numbers.{IsBytes, number_le, text_le}
-use Rattle.netlink_bytes.specs.NumberLaws.{number_le-text_le}
+use Rattle.netlink_bytes.specs.NumberLaws.{number_le-text_le, IsBytes-drop, split_number, front-fits}
 use Rattle.netlink_packet_core.specs.Header.{header_text, header_of, payload_of, HeaderInRange, HoldsFrame, field}
 use Rattle.netlink_packet_core.specs.Sizes.{length-header_text, length-header_and}
 use Rattle.netlink_packet_core.specs.Frame.{Begins}
 use Rattle.netlink_packet_core.specs.declared.header.NetlinkHeader.{NetlinkHeader}
-use Rattle.netlink_packet_core.proofs.Numbers.{IsBytes-drop, IsBytes-take, split_number, number-fits}
 
 -- headers of the same fields are one
 pub same_header : (a b : NetlinkHeader) → a.length ≡ b.length → a.message_type ≡ b.message_type → a.flags ≡ b.flags → a.sequence_number ≡ b.sequence_number → a.port_number ≡ b.port_number → a ≡ b
@@ -28,11 +27,13 @@ pub drop-header_text : (h : NetlinkHeader) (more : List ℕ) → drop 16 (header
 unfolding text_le
 drop-header_text h more = refl
 
+enough : (at w : ℕ) (bytes : List ℕ) → at + w ≤ length bytes → w ≤ length (drop at bytes)
+enough at w bytes long = omega (arith, length-drop at bytes)
+
 -- a number in the middle, and what follows it
 next_number : (at w : ℕ) (bytes : List ℕ) → IsBytes bytes → at + w ≤ length bytes → drop at bytes ≡ text_le (number_le (take w (drop at bytes))) w ++ drop (at + w) bytes
 next_number at w bytes each long =
-    let enough : w ≤ length (drop at bytes) = omega (arith, length-drop at bytes) in
-    split_number w (drop at bytes) (IsBytes-drop at bytes each) enough
+    split_number w (drop at bytes) (IsBytes-drop at bytes each) (enough at w bytes long)
     ∙ ap (λ (more : List ℕ). text_le (number_le (take w (drop at bytes))) w ++ more) (drop-drop w at bytes)
 
 five : (a b c d e more : List ℕ) → (a ++ (b ++ (c ++ (d ++ e)))) ++ more ≡ a ++ (b ++ (c ++ (d ++ (e ++ more))))
@@ -50,16 +51,16 @@ header_text-header_of bytes each long =
     (split_number 4 bytes each (omega arith)) (next_number 4 2 bytes each (omega arith)) (next_number 6 2 bytes each (omega arith))
     (next_number 8 4 bytes each (omega arith)) (next_number 12 4 bytes each (omega arith))
 
-part_size : (at w : ℕ) (bytes : List ℕ) → at + w ≤ length bytes → length (take w (drop at bytes)) ≡ w
-part_size at w bytes long = length-take-le w (drop at bytes) (omega (arith, length-drop at bytes))
+next_fits : (at w : ℕ) (bytes : List ℕ) → IsBytes bytes → at + w ≤ length bytes → number_le (take w (drop at bytes)) < 256 ^ w
+next_fits at w bytes each long = front-fits w (drop at bytes) (IsBytes-drop at bytes each) (enough at w bytes long)
 
 pub header_in_range : (bytes : List ℕ) → IsBytes bytes → 16 ≤ length bytes → HeaderInRange (header_of bytes)
 header_in_range bytes each long = record {
-  length = number-fits 4 _ (IsBytes-take 4 _ each) (length-take-le 4 bytes (omega arith));
-  message_type = number-fits 2 _ (IsBytes-take 2 _ (IsBytes-drop 4 _ each)) (part_size 4 2 bytes (omega arith));
-  flags = number-fits 2 _ (IsBytes-take 2 _ (IsBytes-drop 6 _ each)) (part_size 6 2 bytes (omega arith));
-  sequence_number = number-fits 4 _ (IsBytes-take 4 _ (IsBytes-drop 8 _ each)) (part_size 8 4 bytes (omega arith));
-  port_number = number-fits 4 _ (IsBytes-take 4 _ (IsBytes-drop 12 _ each)) (part_size 12 4 bytes (omega arith));
+  length = front-fits 4 bytes each (omega arith);
+  message_type = next_fits 4 2 bytes each (omega arith);
+  flags = next_fits 6 2 bytes each (omega arith);
+  sequence_number = next_fits 8 4 bytes each (omega arith);
+  port_number = next_fits 12 4 bytes each (omega arith);
 }
 
 -- bytes that hold a whole frame begin with its header and its payload

@@ -6,8 +6,7 @@ use Rattle.netlink_packet_core.specs.Payload.{payload_text, payload_type, raw_co
 use Rattle.netlink_packet_core.specs.Protocol.{Encoding, Decoding, IsOwnType, IsLawful}
 use Rattle.netlink_packet_core.specs.Frame.{Body, Frame}
 use Rattle.netlink_packet_core.specs.Canonical.{Fits, finalized, canonical_frame, IsCanonicalFrame}
-use Rattle.netlink_packet_core.specs.Sizes.{length-code}
-use Rattle.netlink_packet_core.specs.Sizes.{length-header_text}
+use Rattle.netlink_packet_core.specs.Sizes.{length-code, length-header_text}
 use Rattle.netlink_packet_core.proofs.Headers.{header_of-header_text, drop-header_text}
 use Rattle.netlink_packet_core.specs.declared.header.NetlinkHeader.{NetlinkHeader}
 use Rattle.netlink_packet_core.specs.declared.message.NetlinkMessage.{NetlinkMessage}

@@ -9,6 +9,7 @@ pub mod Sizes
 pub use Rattle.netlink_attributes.specs.Attribute
 pub use Rattle.netlink_attributes.specs.Block
 pub use Rattle.netlink_attributes.specs.Cuts
+pub use Rattle.netlink_attributes.specs.Nla
 pub use Rattle.netlink_attributes.specs.OlderBlock
 pub use Rattle.netlink_attributes.specs.Places
 pub use Rattle.netlink_attributes.specs.Sizes as AttributeSizes
@@ -16,6 +17,12 @@ pub use Rattle.netlink_attributes.specs.Steps
 pub use Rattle.netlink_attributes.specs.Views
 pub use Rattle.netlink_attributes.specs.Walk
 pub use Rattle.netlink_bytes.specs.Causes
+pub use Rattle.netlink_bytes.specs.Contexts
+pub use Rattle.netlink_bytes.specs.NonZero
 pub use Rattle.netlink_bytes.specs.NumberLaws
 pub use Rattle.netlink_bytes.specs.Numbers
+pub use Rattle.netlink_bytes.specs.Storage
+pub use Rattle.netlink_bytes.specs.Text
+pub use Rattle.netlink_bytes.specs.Traits
 pub use Rattle.netlink_bytes.specs.declared.error.DecodeError
+pub use Rattle.netlink_ethernet.specs.Table

@@ -1,6 +1,6 @@
 //! The end of a multipart message.
 
-ghost use Rattle.std.specs.Prelude.{◌≡◌, ◌+◌, ◌<◌, ◌≤◌, [], pos, length, drop, OnOk, OnErr, IfOk, IfErr, true, IsTrue, false};
+ghost use Rattle.std.specs.Prelude.{◌≡◌, ◌<◌, ◌≤◌, [], pos, length, drop, OnOk, OnErr, IfOk, IfErr, IsTrue, false};
 ghost use Rattle.std.specs.Borrow.{Lends, Array, sem, u8 as byte};
 ghost use Rattle.netlink_packet_core.specs.contracts.done.DoneBuffer.{the_row};
 ghost use Rattle.netlink_bytes.specs.Numbers.{signed};

@@ -1,6 +1,6 @@
 //! An acknowledgement, or a refusal.
 
-ghost use Rattle.std.specs.Prelude.{◌≡◌, ◌+◌, ◌<◌, ◌≤◌, [], length, drop, unsigned_abs, OnOk, OnErr, IfOk, IfErr, true, IsTrue, MatchOption, None, Some, false, pos};
+ghost use Rattle.std.specs.Prelude.{◌≡◌, ◌<◌, ◌≤◌, [], length, drop, unsigned_abs, OnOk, OnErr, IfOk, IfErr, IsTrue, MatchOption, None, Some, false, pos};
 ghost use Rattle.std.specs.Borrow.{Lends, Array, sem, u8 as byte};
 ghost use Rattle.netlink_packet_core.specs.contracts.error.ErrorBuffer.{the_row};
 ghost use Rattle.netlink_bytes.specs.NonZero.{number_of};

@@ -4,12 +4,22 @@ ghost use Rattle.std.specs.Prelude.{◌≡◌, ◌≢◌, ◌↔◌, ◌<◌, �
 ghost use Rattle.netlink_packet_core.specs.Canonical.{Fits, IsCanonicalFrame, canonical_frame, finalized};
 ghost use Rattle.netlink_packet_core.specs.Frame.{Frame, SamePayload};
 ghost use Rattle.netlink_packet_core.specs.Header.{field};
-ghost use Rattle.netlink_packet_core.specs.Payload.{InnerInRange, PayloadInRange, payload_text, payload_type};
+ghost use Rattle.netlink_packet_core.specs.Payload.{InnerInRange, PayloadInRange, payload_text, payload_type, raw_code};
 ghost use Rattle.netlink_packet_core.specs.Refusal.{IsFrameFault, IsRefusal, SameRefusal};
 ghost use Rattle.netlink_bytes.specs.declared.error.DecodeError.{DecodeError};
+ghost use Rattle.netlink_packet_core.specs.declared.buffer.NetlinkBuffer.{NetlinkBuffer};
+ghost use Rattle.netlink_packet_core.specs.declared.done.DoneBuffer.{DoneBuffer};
+ghost use Rattle.netlink_packet_core.specs.declared.done.DoneMessage.{DoneMessage};
+ghost use Rattle.netlink_packet_core.specs.declared.error.ErrorBuffer.{ErrorBuffer};
+ghost use Rattle.netlink_packet_core.specs.declared.error.ErrorMessage.{ErrorMessage};
+ghost use Rattle.netlink_packet_core.specs.declared.header.NetlinkHeader.{NetlinkHeader};
 ghost use Rattle.netlink_packet_core.specs.declared.message.NetlinkMessage.{NetlinkMessage};
 ghost use Rattle.netlink_packet_core.specs.declared.payload.NetlinkPayload.{NetlinkPayload};
 
+use crate::buffer::NetlinkBuffer;
+use crate::done::{DoneBuffer, DoneMessage};
+use crate::error::{ErrorBuffer, ErrorMessage};
+use crate::header::NetlinkHeader;
 use crate::message::NetlinkMessage;
 use crate::payload::NetlinkPayload;
 use crate::traits::{NetlinkDeserializable, NetlinkProtocol};
@@ -18,7 +28,9 @@ pub use netlink_attributes::laws::{
     value_replaced, views_equal, walk_cut, walk_given, walk_join, walk_stops, walk_total,
     walk_unique, walks_equal, written_reads_back, written_walks,
 };
-use netlink_bytes::DecodeError;
+pub use netlink_bytes::laws::values_equal;
+use netlink_bytes::{DecodeError, Storage};
+pub use netlink_ethernet::laws::protocols_equal;
 
 /// The inner value in hand is in range.
 fn known<I: NetlinkProtocol>(payload: &NetlinkPayload<I>)
@@ -34,6 +46,26 @@ fn equal_payloads<I: NetlinkProtocol>()
     ensures { (x y : NetlinkPayload I) → PayloadInRange x → PayloadInRange y → InnerInRange I.decoding x → InnerInRange I.decoding y
         → ((payload_type I.encoding x ≡ payload_type I.encoding y) × (payload_text I.encoding x ≡ payload_text I.encoding y))
         ↔ IsTrue (⟦<NetlinkPayload<I> as PartialEq>⟧.eq x y) }
+{}
+
+/// Two views are equal exactly if their storages are, by `==`.
+pub fn message_views_equal<T: Storage + PartialEq>()
+    ensures message { (a b : NetlinkBuffer T) → ⟦<NetlinkBuffer<T> as PartialEq>⟧.eq a b ≡ T.eq a.buffer b.buffer }
+    ensures done { (a b : DoneBuffer T) → ⟦<DoneBuffer<T> as PartialEq>⟧.eq a b ≡ T.eq a.buffer b.buffer }
+    ensures error { (a b : ErrorBuffer T) → ⟦<ErrorBuffer<T> as PartialEq>⟧.eq a b ≡ T.eq a.buffer b.buffer }
+{}
+
+/// Two headers are equal exactly if they are the same value.
+pub fn headers_equal()
+    ensures equal { (a b : NetlinkHeader) → IsTrue (⟦<NetlinkHeader as PartialEq>⟧.eq a b) ↔ (a ≡ b) }
+{}
+
+/// Two done messages, and two error messages, are equal exactly if their codes and their bytes are.
+pub fn bodies_equal()
+    ensures done { (a b : DoneMessage) → IsTrue (⟦<DoneMessage as PartialEq>⟧.eq a b)
+        ↔ ((a.code ≡ b.code) × (a.extended_ack.items ≡ b.extended_ack.items)) }
+    ensures error { (a b : ErrorMessage) → IsTrue (⟦<ErrorMessage as PartialEq>⟧.eq a b)
+        ↔ ((raw_code a.code ≡ raw_code b.code) × (a.header.items ≡ b.header.items)) }
 {}
 
 /// Bytes are the frame of one message at most, by `==`, and have one canonical frame at most.

@@ -1,6 +1,6 @@
 //! What a message carries.
 
-ghost use Rattle.std.specs.Prelude.{◌≡◌, ◌++◌, ◌≤◌, ◌<◌, ◌^◌, ◌↔◌, List, ℕ, Some, IfOk, IfErr, IsTrue, length, string_bytes};
+ghost use Rattle.std.specs.Prelude.{◌≡◌, ◌≤◌, ◌<◌, ◌^◌, ◌↔◌, List, ℕ, Some, IfOk, IfErr, IsTrue, length, string_bytes};
 ghost use Rattle.netlink_packet_core.specs.Frame.{Body};
 ghost use Rattle.netlink_packet_core.specs.Payload.{PayloadInRange, payload_text, payload_type};
 ghost use Rattle.netlink_packet_core.specs.Refusal.{IsBodyFault, IsInnerFault, refusal_text};

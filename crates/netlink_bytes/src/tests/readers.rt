@@ -1,6 +1,9 @@
 //! Single bytes, addresses and texts.
 
-use crate::{IpAddr, parse_i8, parse_ip, parse_ipv6, parse_mac, parse_string, parse_u8};
+use crate::laws::values_equal;
+use crate::{
+    IpAddr, NonZeroI32, parse_i8, parse_ip, parse_ipv6, parse_mac, parse_string, parse_u8,
+};
 use std::test::Fail;
 
 #[test]
@@ -47,6 +50,17 @@ fn bytes_and_addresses(rt: HostRuntime) -> Result<(), Fail> {
         }
     }
     Ok(())
+}
+
+#[test]
+fn values_are_told_apart(rt: HostRuntime) {
+    values_equal();
+    let address = IpAddr::V4([127, 0, 0, 1]);
+    assert!(rt; address == IpAddr::V4([127, 0, 0, 1]));
+    assert!(rt; address != IpAddr::V4([127, 0, 0, 2]));
+    assert!(rt; IpAddr::V4([0; 4]) != IpAddr::V6([0; 16]));
+    assert!(rt; NonZeroI32::new(-1) == NonZeroI32::new(-1));
+    assert!(rt; NonZeroI32::new(-1) != NonZeroI32::new(1));
 }
 
 #[test]

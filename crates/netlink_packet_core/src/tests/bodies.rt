@@ -1,6 +1,7 @@
 //! The bodies of done and error messages.
 #![tactic(auto, using(crate::specs::Sizes::text_sizes))]
 
+use crate::laws::bodies_equal;
 use crate::{
     DecodeError, DoneBuffer, DoneMessage, Emitable, ErrorBuffer, ErrorMessage, NonZeroI32,
     Parseable,
@@ -13,6 +14,23 @@ fn error_of(alloc: Global, code: i32) -> ErrorMessage {
         code: NonZeroI32::new(code),
         header: Vec::new(alloc),
     }
+}
+
+/// Bodies are equal by their codes and their bytes.
+#[test]
+fn bodies_are_told_apart(rt: HostRuntime) -> Result<(), Fail> {
+    bodies_equal();
+    let refused = error_of(rt.alloc(), -95);
+    assert!(rt; refused == error_of(rt.alloc(), -95));
+    assert!(rt; refused != error_of(rt.alloc(), 95) && refused != error_of(rt.alloc(), 0));
+    let mut longer = error_of(rt.alloc(), -95);
+    longer.header.push(0)?;
+    assert!(rt; refused != longer);
+    let mut done = DoneMessage::empty(rt.alloc());
+    assert!(rt; done == DoneMessage::empty(rt.alloc()));
+    done.code = 1;
+    assert!(rt; done != DoneMessage::empty(rt.alloc()));
+    Ok(())
 }
 
 /// Each code with its number and what is printed of it.

@@ -1,6 +1,7 @@
 //! A header, read and written by the basic traits.
 #![tactic(auto, using(crate::specs::Sizes::text_sizes))]
 
+use crate::laws::headers_equal;
 use crate::tests::views::REQUEST;
 use crate::{Emitable, NetlinkBuffer, NetlinkHeader, Parseable};
 use std::test::Fail;
@@ -17,7 +18,15 @@ fn the_header_of_a_request(rt: HostRuntime) -> Result<(), Fail> {
         sequence_number: 1526271540,
         port_number: 0,
     };
+    headers_equal();
     assert!(rt; header == wanted);
+    assert!(rt;
+        header
+            != NetlinkHeader {
+                flags: 768,
+                ..wanted
+            }
+    );
     assert_eq!(rt; header.buffer_len(), 16);
     let mut buffer = [0u8; 16];
     header.emit(&mut buffer);

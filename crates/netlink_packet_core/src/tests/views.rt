@@ -1,6 +1,7 @@
 //! Views of a message's bytes.
 
-use crate::{DecodeError, NetlinkBuffer};
+use crate::laws::message_views_equal;
+use crate::{DecodeError, DoneBuffer, ErrorBuffer, NetlinkBuffer};
 use std::test::Fail;
 
 /// A request to list the links (type 18 is `RTM_GETLINK`), as a tool sent it.
@@ -21,6 +22,18 @@ fn the_fields_of_a_request(rt: HostRuntime) -> Result<(), Fail> {
     assert_eq!(rt; view.payload().len(), 24);
     assert_eq!(rt; NetlinkBuffer::new(view.payload()).length(), 0x11);
     Ok(())
+}
+
+#[test]
+fn views_are_told_apart(rt: HostRuntime) {
+    message_views_equal::<&[u8]>();
+    let (one, alike, other) = ([1u8, 2, 3, 4], [1u8, 2, 3, 4], [1u8, 2, 3, 5]);
+    assert!(rt; NetlinkBuffer::new(&one[..]) == NetlinkBuffer::new(&alike[..]));
+    assert!(rt; NetlinkBuffer::new(&one[..]) != NetlinkBuffer::new(&other[..]));
+    assert!(rt; DoneBuffer::new(&one[..]) == DoneBuffer::new(&alike[..]));
+    assert!(rt; DoneBuffer::new(&one[..]) != DoneBuffer::new(&one[..3]));
+    assert!(rt; ErrorBuffer::new(&one[..]) == ErrorBuffer::new(&alike[..]));
+    assert!(rt; ErrorBuffer::new(&one[..]) != ErrorBuffer::new(&other[..]));
 }
 
 #[test]

@@ -1,4 +1,4 @@
-use Rattle.netlink_bytes.specs.ContextLaws.{lines_chain}
+use Rattle.netlink_bytes.proofs.Lines.{lines_chain}
 use Rattle.netlink_bytes.proofs.laws.contexts_chain.Goals as goal
 
 pub returns : goal.returns

@@ -1,4 +1,4 @@
--- Laws of lines in front of an error, for callers to cite.
+-- Lines in front of an error.
 use Rattle.std.specs.Prelude.{◌≡◌, List, ℕ, refl}
 use Rattle.std.proofs.Common.{ap, ◌∙◌}
 use Rattle.netlink_bytes.specs.Causes.{HoldsText, cause_text}
