@@ -1,4 +1,4 @@
-//! Laws over the definitions alone: each has no effect, and its contract is the law. Those of `netlink_attributes` stand here too.
+//! Laws over the definitions alone: each has no effect, and its contract is the law. Those of `netlink_attributes` and of equality in the crates below stand here too.
 
 ghost use Rattle.std.specs.Prelude.{◌≡◌, ◌≢◌, ◌↔◌, ◌<◌, ◌≤◌, ◌++◌, ℕ, List, true, IsTrue, take, length};
 ghost use Rattle.netlink_packet_core.specs.Canonical.{Fits, IsCanonicalFrame, canonical_frame, finalized};

@@ -1,5 +1,6 @@
 //! Lines in front of an error, with `&str` and with `String`, on an error and on a result.
 
+use crate::laws::contexts_chain;
 use crate::{DecodeError, ErrorContext};
 use std::alloc::{AllocError, Global};
 use std::test::Fail;
@@ -91,6 +92,7 @@ fn contexts(rt: HostRuntime) -> Result<(), Fail> {
     );
     let fine: Result<u8, DecodeError> = Ok(7);
     assert_eq!(rt; fine.context(alloc, "a").ok(), Some(7));
+    contexts_chain();
     Ok(())
 }
 
