@@ -1,7 +1,7 @@
 -- Bytes are the frame of one message.
-use Rattle.std.proofs.Common.{◌≡◌, ℕ, ℤ, ◌+◌, Bool, List, ◌++◌, length, Some, inl, inr, arith, sym, ap, refl, ◌∙◌, subst, IsTrue, nat_eq, ◌&&◌}
+use Rattle.std.proofs.Common.{◌≡◌, ℕ, ◌+◌, Bool, List, length, Some, inl, inr, arith, sym, ap, refl, ◌∙◌, subst, IsTrue, nat_eq, ◌&&◌}
 use Rattle.netlink_bytes.specs.Numbers.{IsSigned}
-use Rattle.netlink_packet_core.specs.Payload.{code_text, payload_text, payload_type, PayloadInRange, InnerInRange}
+use Rattle.netlink_packet_core.specs.Payload.{payload_text, payload_type, PayloadInRange, InnerInRange}
 use Rattle.netlink_packet_core.specs.Protocol.{Encoding, Decoding}
 use Rattle.netlink_packet_core.specs.Frame.{Body, Frame, IsDone, SamePayload}
 use Rattle.netlink_packet_core.specs.Canonical.{canonical_frame, finalized}
@@ -14,46 +14,7 @@ use Rattle.netlink_packet_core.specs.declared.message.NetlinkMessage.{NetlinkMes
 use Rattle.netlink_packet_core.specs.declared.payload.NetlinkPayload.{NetlinkPayload}
 use Rattle.netlink_packet_core.specs.declared.payload.NetlinkPayload.TheVariants.{Done, Error, Noop, Overrun, InnerMessage}
 
--- a code and its bytes are written in one way
-done_once : (a b : DoneMessage) (payload : List ℕ) → IsDone payload a → IsDone payload b → code_text a.code ++ a.extended_ack.items ≡ code_text b.code ++ b.extended_ack.items
-done_once a b payload (inl p) (inl q) =
-    ap (λ (z : ℤ). code_text z ++ a.extended_ack.items) (p.1 ∙ sym q.1) ∙ ap (λ (rest : List ℕ). code_text b.code ++ rest) (p.2 ∙ sym q.2)
-done_once a b payload (inl p) (inr q) = absurd (omega (arith, ap length p.0, length-code_and_rest payload _ _ q))
-done_once a b payload (inr p) (inl q) = absurd (omega (arith, ap length q.0, length-code_and_rest payload _ _ p))
-done_once a b payload (inr p) (inr q) = sym p.whole ∙ q.whole
-
--- two payloads of one body have one type and one text
-body_once : {I : Type 0} {eq : I → I → Bool} {encoding : Encoding I} {decoding : Decoding I} → Laws eq encoding decoding → (x y : NetlinkPayload I) (h : NetlinkHeader) (payload : List ℕ) → Body decoding h payload x → Body decoding h payload y → (payload_type encoding x ≡ payload_type encoding y) × (payload_text encoding x ≡ payload_text encoding y)
-body_once laws (Done a) (Done b) h payload p q = (refl, done_once a b payload p.1 q.1)
-body_once laws (Done a) (Error b) h payload p q = absurd (omega (arith, p.0, q.0))
-body_once laws (Done a) Noop h payload p q = absurd (omega (arith, p.0, q))
-body_once laws (Done a) (Overrun b) h payload p q = absurd (omega (arith, p.0, q.0))
-body_once laws (Done a) (InnerMessage b) h payload p q = absurd (q.0.2 p.0)
-body_once laws (Error a) (Done b) h payload p q = absurd (omega (arith, p.0, q.0))
-body_once laws (Error a) (Error b) h payload p q = (refl, sym p.1.whole ∙ q.1.whole)
-body_once laws (Error a) Noop h payload p q = absurd (omega (arith, p.0, q))
-body_once laws (Error a) (Overrun b) h payload p q = absurd (omega (arith, p.0, q.0))
-body_once laws (Error a) (InnerMessage b) h payload p q = absurd (q.0.1 p.0)
-body_once laws Noop (Done b) h payload p q = absurd (omega (arith, p, q.0))
-body_once laws Noop (Error b) h payload p q = absurd (omega (arith, p, q.0))
-body_once laws Noop Noop h payload p q = (refl, refl)
-body_once laws Noop (Overrun b) h payload p q = absurd (omega (arith, p, q.0))
-body_once laws Noop (InnerMessage b) h payload p q = absurd (q.0.0 p)
-body_once laws (Overrun a) (Done b) h payload p q = absurd (omega (arith, p.0, q.0))
-body_once laws (Overrun a) (Error b) h payload p q = absurd (omega (arith, p.0, q.0))
-body_once laws (Overrun a) Noop h payload p q = absurd (omega (arith, p.0, q))
-body_once laws (Overrun a) (Overrun b) h payload p q = (refl, p.1 ∙ sym q.1)
-body_once laws (Overrun a) (InnerMessage b) h payload p q = absurd (q.0.3 p.0)
-body_once laws (InnerMessage a) (Done b) h payload p q = absurd (p.0.2 q.0)
-body_once laws (InnerMessage a) (Error b) h payload p q = absurd (p.0.1 q.0)
-body_once laws (InnerMessage a) Noop h payload p q = absurd (p.0.0 q)
-body_once laws (InnerMessage a) (Overrun b) h payload p q = absurd (p.0.3 q.0)
-body_once {encoding = encoding} {decoding = decoding} laws (InnerMessage a) (InnerMessage b) h payload p q =
-    let same : Some (decoding.stands_for a) ≡ Some (decoding.stands_for b) = sym p.2 ∙ q.2 in
-    let pairs : decoding.stands_for a ≡ decoding.stands_for b = cc in
-    let own : (encoding.type_of a, encoding.text_of a) ≡ (encoding.type_of b, encoding.text_of b) = sym (laws.own_pair a) ∙ pairs ∙ laws.own_pair b in
-    (ap (λ (s : ℕ × List ℕ). s.0) own, ap (λ (s : ℕ × List ℕ). s.1) own)
-
+-- two done messages of one payload have one code and the same bytes
 done_same : (a b : DoneMessage) (payload : List ℕ) → IsDone payload a → IsDone payload b → (a.code ≡ b.code) × (a.extended_ack.items ≡ b.extended_ack.items)
 done_same a b payload (inl p) (inl q) = (p.1 ∙ sym q.1, p.2 ∙ sym q.2)
 done_same a b payload (inl p) (inr q) = absurd (omega (arith, ap length p.0, length-code_and_rest payload _ _ q))
@@ -89,6 +50,17 @@ payload_same decoding (InnerMessage a) (Overrun b) h payload p q = p.0.3 q.0
 payload_same decoding (InnerMessage a) (InnerMessage b) h payload p q =
     let same : Some (decoding.stands_for a) ≡ Some (decoding.stands_for b) = sym p.2 ∙ q.2 in cc
 
+-- and payloads that say the same have one type and one text
+same_text : {I : Type 0} {eq : I → I → Bool} {encoding : Encoding I} {decoding : Decoding I} → Laws eq encoding decoding → (x y : NetlinkPayload I) → SamePayload decoding x y → (payload_type encoding x ≡ payload_type encoding y) × (payload_text encoding x ≡ payload_text encoding y)
+same_text laws (Done a) (Done b) same = (refl, cc)
+same_text laws (Error a) (Error b) same = (refl, cc)
+same_text laws Noop Noop same = (refl, refl)
+same_text laws (Overrun a) (Overrun b) same = (refl, same)
+same_text {encoding = encoding} laws (InnerMessage a) (InnerMessage b) same =
+    let own : (encoding.type_of a, encoding.text_of a) ≡ (encoding.type_of b, encoding.text_of b) = sym (laws.own_pair a) ∙ same ∙ laws.own_pair b in
+    (ap (λ (s : ℕ × List ℕ). s.0) own, ap (λ (s : ℕ × List ℕ). s.1) own)
+same_text laws _ _ same = absurd same
+
 pub frame_same : {I : Type 0} (decoding : Decoding I) (bytes : List ℕ) (m n : NetlinkMessage I) → Frame decoding bytes m → Frame decoding bytes n → (m.header ≡ n.header) × SamePayload decoding m.payload n.payload
 frame_same decoding bytes m n (p, begins, body) (q, begins', body') =
     let same = same_start bytes m.header n.header p q begins begins' in
@@ -102,10 +74,9 @@ pub record SameMessage {I : Type 0} (encoding : Encoding I) (m n : NetlinkMessag
 
 -- two messages of one frame have one header, one type and one text
 pub frame_once : {I : Type 0} {eq : I → I → Bool} {encoding : Encoding I} {decoding : Decoding I} → Laws eq encoding decoding → (bytes : List ℕ) (m n : NetlinkMessage I) → Frame decoding bytes m → Frame decoding bytes n → SameMessage encoding m n
-frame_once {decoding = decoding} laws bytes m n (p, begins, body) (q, begins', body') =
-    let same = same_start bytes m.header n.header p q begins begins' in
-    let moved : Body decoding m.header p n.payload = subst (λ (h : NetlinkHeader). Body decoding h p n.payload) (sym same.0) (subst (λ (r : List ℕ). Body decoding n.header r n.payload) (sym same.1) body') in
-    let both = body_once laws m.payload n.payload m.header p body moved in
+frame_once {decoding = decoding} laws bytes m n p q =
+    let same = frame_same decoding bytes m n p q in
+    let both = same_text laws m.payload n.payload same.1 in
     record { header = same.0; kind = both.0; text = both.1 }
 
 -- and one canonical frame

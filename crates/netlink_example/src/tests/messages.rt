@@ -4,9 +4,7 @@
 use crate::family::Family;
 use crate::message::GenericMessage;
 use netlink_packet_core::laws::{frame_unique, reads_back, refusal_unique};
-use netlink_packet_core::{
-    NetlinkMessage, NetlinkPayload, NetlinkSerializable, normalize,
-};
+use netlink_packet_core::{NetlinkMessage, NetlinkPayload, NetlinkSerializable, normalize};
 use std::test::Fail;
 
 pub type Message = NetlinkMessage<GenericMessage>;
