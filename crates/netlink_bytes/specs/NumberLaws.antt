@@ -114,14 +114,14 @@ IsBytes-append [] ys first later i = later i
 IsBytes-append (x ∷ xs) ys first later zero = first zero
 IsBytes-append (x ∷ xs) ys first later (suc i) = IsBytes-append xs ys (IsBytes-tail x xs first) later i
 
-IsBytes_alone : (b : ℕ) → b < 256 → IsBytes (b ∷ [])
-IsBytes_alone b small zero = small
-IsBytes_alone b small (suc i) = omega arith
+IsBytes-alone : (b : ℕ) → b < 256 → IsBytes (b ∷ [])
+IsBytes-alone b small zero = small
+IsBytes-alone b small (suc i) = omega arith
 
 pub IsBytes-reverse : (bytes : List ℕ) → IsBytes bytes → IsBytes (reverse bytes)
 IsBytes-reverse [] each = each
 IsBytes-reverse (b ∷ bytes) each =
-    rw (reverse_onto bytes b []) (IsBytes-append (reverse bytes) (b ∷ []) (IsBytes-reverse bytes (IsBytes-tail b bytes each)) (IsBytes_alone b (each 0)))
+    rw (reverse_onto bytes b []) (IsBytes-append (reverse bytes) (b ∷ []) (IsBytes-reverse bytes (IsBytes-tail b bytes each)) (IsBytes-alone b (each 0)))
 
 pub IsBytes-text_be : (n w : ℕ) → IsBytes (text_be n w)
 unfolding text_be

@@ -1,5 +1,4 @@
 //! Numbers in two's complement, by way of those without a sign.
-#![tactic(auto, using(crate::proofs::Bytes::numbers_as_bytes))]
 
 ghost use Rattle.netlink_bytes.specs.Numbers.{Reads, Writes, number_be, number_le, signed, text_be, text_le, unsigned};
 

@@ -1,5 +1,4 @@
 //! Numbers without a sign.
-#![tactic(auto, using(crate::proofs::Bytes::numbers_as_bytes))]
 
 ghost use Rattle.netlink_bytes.specs.Numbers.{Reads, Writes, number_be, number_le, text_be, text_le};
 

@@ -1,8 +1,6 @@
 //! Numbers as bytes, each function once, and the rows of refusals.
 
-use crate::laws::{
-    numbers_are_sums, numbers_read_back, signed_numbers_read_back, written_is_read,
-};
+use crate::laws::{numbers_are_sums, numbers_read_back, signed_numbers_read_back, written_is_read};
 use crate::{
     NonZeroI32, emit_i16, emit_i16_be, emit_i16_le, emit_i32, emit_i32_be, emit_i32_le, emit_i64,
     emit_i64_be, emit_i64_le, emit_i128, emit_i128_be, emit_i128_le, emit_u16, emit_u16_be,
