@@ -1,6 +1,6 @@
 //! Blocks of attributes, written.
 
-ghost use Rattle.std.specs.Prelude.{◌≡◌, ◌↔◌, ◌+◌, ◌^◌, ◌<◌, ◌≤◌, ◌++◌, ◌⊎◌, List, [], None, Some, IfErr, IfOk, IsOk, MatchResult, OnOk, length, replicate, vec_len, vec_capacity};
+ghost use Rattle.std.specs.Prelude.{◌≡◌, ◌↔◌, ◌+◌, ◌^◌, ◌<◌, ◌≤◌, ◌++◌, ◌⊎◌, List, [], None, Some, IfErr, IfOk, IsOk, MatchResult, OnOk, length, replicate};
 ghost use Rattle.netlink_bytes.specs.Numbers.{text_le};
 ghost use Rattle.netlink_bytes.specs.declared.error.DecodeError.{DecodeError};
 ghost use Rattle.netlink_attributes.specs.Attribute.{Attribute, padded, padding};
@@ -77,18 +77,9 @@ fn append_padded(block: &mut Vec<u8>, text: &[u8]) -> Result<(), AllocError>
     requires { length text.now < 2 ^ 16 }
     ensures { OnOk result (block.new.items ≡ block.old.items ++ (text.now ++ replicate (padding (length text.now)) 0)) }
 {
+    let end = block.len() + nla_align(text.len());
     block.extend_from_slice(text)?;
-    append_zeros(block, nla_align(text.len()) - text.len())
-}
-
-/// Adds fewer than 4 zeros.
-#[inline(always)]
-fn append_zeros(block: &mut Vec<u8>, count: usize) -> Result<(), AllocError>
-    requires { count < 4 }
-    ensures ok { OnOk result (block.new.items ≡ block.old.items ++ replicate count 0) }
-    ensures room { vec_len block.old + count ≤ vec_capacity block.old → IsOk result }
-{
-    block.extend_from_slice(&[0, 0, 0][..count])
+    block.resize(end, 0)
 }
 
 /// Adds an attribute to a block, its kind as it is, with its padding of zeros.
@@ -107,10 +98,11 @@ pub fn append_nla(
 {
     let size = value.len() + NLA_HEADER_SIZE;
     let whole = nla_align(size);
+    let end = block.len() + whole;
     block.reserve(whole)?;
     block.extend_from_slice(&header_text(size as u16, kind))?;
     block.extend_from_slice(value)?;
-    append_zeros(block, whole - size)?;
+    block.resize(end, 0)?;
     Ok(())
 }
 

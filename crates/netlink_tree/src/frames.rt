@@ -1,6 +1,6 @@
 //! The frames of a datagram, one after another.
 
-ghost use Rattle.std.specs.Prelude.{◌≡◌, ◌+◌, ◌%◌, ◌^◌, ◌<◌, ◌≤◌, ◌++◌, ◌⊎◌, ◌∷◌, [], List, ℕ, None, false, IfErr, IfOk, IsOk, OnErr, OnOk, length, replicate, vec_len, vec_capacity};
+ghost use Rattle.std.specs.Prelude.{◌≡◌, ◌+◌, ◌%◌, ◌^◌, ◌<◌, ◌≤◌, ◌++◌, ◌⊎◌, ◌∷◌, [], List, ℕ, None, false, IfErr, IfOk, IsOk, OnErr, OnOk, length, vec_len, vec_capacity};
 ghost use Rattle.std.specs.Iterator.{at_most};
 ghost use Rattle.netlink_packet_core.specs.Header.{field, HoldsFrame};
 ghost use Rattle.netlink_packet_core.specs.Refusal.{IsFrameFault};
@@ -8,7 +8,7 @@ ghost use Rattle.netlink_tree.specs.FrameSteps.{unread_frames, frame_steps, fram
 ghost use Rattle.netlink_tree.specs.FrameWalk.{StartsFrame, FrameWalk, frame_of, padded_frame};
 
 use netlink_packet_core::{DecodeError, NetlinkBuffer, nla_align};
-use std::alloc::{AllocError, Global};
+use std::alloc::Global;
 
 /// The frames of a datagram in order. An error (C9, C10 or C11) is the last item, and `None` comes
 /// for good behind it.
@@ -108,18 +108,9 @@ pub fn append_frame(_alloc: Global, datagram: &mut Vec<u8>, frame: &[u8]) -> Res
 {
     let text = first_frame(frame)?;
     let whole = nla_align(text.len());
+    let end = datagram.len() + whole;
     datagram.reserve(whole)?;
     datagram.extend_from_slice(text)?;
-    append_zeros(datagram, whole - text.len())?;
+    datagram.resize(end, 0)?;
     Ok(())
-}
-
-/// Adds fewer than 4 zeros.
-#[inline(always)]
-fn append_zeros(datagram: &mut Vec<u8>, count: usize) -> Result<(), AllocError>
-    requires { count < 4 }
-    ensures ok { OnOk result (datagram.new.items ≡ datagram.old.items ++ replicate count 0) }
-    ensures room { vec_len datagram.old + count ≤ vec_capacity datagram.old → IsOk result }
-{
-    datagram.extend_from_slice(&[0, 0, 0][..count])
 }
