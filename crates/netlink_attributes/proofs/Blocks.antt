@@ -71,7 +71,8 @@ pub block_push : (done : List Attribute) (a : Attribute) → canonical_block (do
 block_push [] a = append-nil (padded a)
 block_push (first ∷ done) a = ap (λ x. padded first ++ x) (block_push done a) ∙ sym (append_assoc (padded first) (canonical_block done) (padded a))
 
-block_joined : (bytes : List ℕ) (block more : List Attribute) (after : List ℕ) (fault : Option DecodeError) → IsBlockOf bytes block → Walk after more fault → Walk (bytes ++ after) (block ++ more) fault
+pub block_joined : (bytes : List ℕ) (block more : List Attribute) (after : List ℕ) (fault : Option DecodeError)
+    → IsBlockOf bytes block → Walk after more fault → Walk (bytes ++ after) (block ++ more) fault
 block_joined bytes [] more after fault none later = subst (λ (x : List ℕ). Walk (x ++ after) more fault) (sym none) later
 block_joined bytes (a ∷ block) more after fault (rest, fits, whole, is) later =
     let zeros : List ℕ = replicate (padding (length a.value)) 0 in
@@ -80,9 +81,22 @@ block_joined bytes (a ∷ block) more after fault (rest, fits, whole, is) later 
     (rest ++ after, starts_padded (bytes ++ after) a (rest ++ after) fits joined, block_joined rest block more after fault is later)
 
 -- behind a block of attributes any bytes walk as they do alone
-pub walk_joined : (bytes : List ℕ) (block all more : List Attribute) (after : List ℕ) (fault : Option DecodeError) → IsBlockOf bytes block → Walk bytes all None → Walk after more fault → Walk (bytes ++ after) (all ++ more) fault
-walk_joined bytes block all more after fault is walk later =
-    subst (λ (x : List Attribute). Walk (bytes ++ after) (x ++ more) fault) (walk_once bytes block all None None (block_walks bytes block is) walk).0 (block_joined bytes block more after fault is later)
+pub walk_joined : (bytes : List ℕ) (block all more : List Attribute) (after : List ℕ) (end fault : Option DecodeError)
+    → IsBlockOf bytes block → Walk bytes all end → Walk after more fault → Walk (bytes ++ after) (all ++ more) fault
+walk_joined bytes block all more after end fault is walk later =
+    let same = (walk_once bytes block all None end (block_walks bytes block is) walk).0 in
+    subst (λ (x : List Attribute). Walk (bytes ++ after) (x ++ more) fault) same (block_joined bytes block more after fault is later)
+
+-- a canonical block walks without fault, and what is written of its walk is the block
+pub canonical_walk : (bytes : List ℕ) → IsCanonicalBlock bytes
+    → (all : List Attribute) × Walk bytes all None × (canonical_block all ≡ bytes)
+canonical_walk bytes (all, block) = (all, block_walks bytes all block, sym (block_text bytes all block))
+
+pub canonical_walked : (bytes : List ℕ) (all : List Attribute) (fault : Option DecodeError) → IsCanonicalBlock bytes
+    → Walk bytes all fault → (fault ≡ None) × (canonical_block all ≡ bytes)
+canonical_walked bytes all fault (block, is) walk =
+    let same = walk_once bytes all block fault None walk (block_walks bytes block is) in
+    (same.1, ap canonical_block same.0 ∙ sym (block_text bytes block is))
 
 -- blocks are written alike exactly of the same attributes
 pub written_alike : (a b : List ℕ) (x y : List Attribute) → Walk a x None → Walk b y None → (canonical_block x ≡ canonical_block y) ↔ (x ≡ y)

@@ -9,7 +9,7 @@ use Rattle.netlink_attributes.specs.Sizes.{length-attribute_text}
 use Rattle.netlink_attributes.specs.Block.{canonical_block, IsCanonicalBlock}
 use Rattle.netlink_attributes.specs.Views.{length_field, attribute_of}
 use Rattle.netlink_attributes.specs.Walk.{Walk, Starts}
-use Rattle.netlink_attributes.proofs.Blocks.{walked_canonical, unchanged, block_push}
+use Rattle.netlink_attributes.proofs.Blocks.{walked_canonical, unchanged, block_push, canonical_walked}
 use Rattle.netlink_attributes.proofs.Starting.{starts-length_field}
 use Rattle.netlink_attributes.proofs.Walking.{walk_once}
 
@@ -19,6 +19,11 @@ no_fault bytes x y fault sound damaged = let same = (walk_once bytes x y None (S
 
 pub same_fault : (bytes : List ℕ) (x y : List Attribute) (f g : DecodeError) → Walk bytes x (Some f) → Walk bytes y (Some g) → f ≡ g
 same_fault bytes x y f g p q = let same = (walk_once bytes x y (Some f) (Some g) p q).1 in cc
+
+-- a canonical block has no walk with a fault
+pub no_canonical_fault : (bytes : List ℕ) (all : List Attribute) (fault : DecodeError)
+    → Walk bytes all (Some fault) → IsCanonicalBlock bytes → ⊥
+no_canonical_fault bytes all fault walk canonical = let none = (canonical_walked bytes all (Some fault) canonical walk).0 in cc
 
 -- a block was written of a walk, or memory was refused, or there is a fault
 abbrev pub IsAnswer : List ℕ → Result (Vec ℕ Global) DecodeError → Type 0
@@ -31,6 +36,13 @@ pub answer_writes : (bytes : List ℕ) (result : Result (Vec ℕ Global) DecodeE
 answer_writes bytes (Ok v) (x, walk, items) all other = items ∙ ap canonical_block (walk_once bytes x all None None walk other).0
 answer_writes bytes (Err e) (inl memory) all other = memory
 answer_writes bytes (Err e) (inr (x, walk)) all other = absurd (no_fault bytes all x e other walk)
+
+-- a canonical block is answered by itself
+pub answer_fixed : (bytes : List ℕ) (result : Result (Vec ℕ Global) DecodeError) → IsAnswer bytes result → IsCanonicalBlock bytes
+    → MatchResult result (λ v. v.items ≡ bytes) (λ e. e ≡ OutOfMemory)
+answer_fixed bytes (Ok v) (x, walk, items) canonical = items ∙ (canonical_walked bytes x None canonical walk).1
+answer_fixed bytes (Err e) (inl memory) canonical = memory
+answer_fixed bytes (Err e) (inr (x, walk)) canonical = absurd (no_canonical_fault bytes x e walk canonical)
 
 pub answer_canonical : (bytes : List ℕ) (result : Result (Vec ℕ Global) DecodeError) → IsAnswer bytes result → IfOk result (λ v. IsCanonicalBlock v.items)
 answer_canonical bytes (Ok v) (x, walk, items) = rw items (walked_canonical bytes x walk)

@@ -1,6 +1,6 @@
 //! Blocks of attributes, written.
 
-ghost use Rattle.std.specs.Prelude.{◌≡◌, ◌↔◌, ◌+◌, ◌^◌, ◌<◌, ◌≤◌, ◌++◌, ◌⊎◌, List, [], None, Some, IfErr, IfOk, IsOk, MatchResult, OnOk, length, replicate};
+ghost use Rattle.std.specs.Prelude.{◌≡◌, ◌↔◌, ◌+◌, ◌^◌, ◌<◌, ◌≤◌, ◌++◌, ◌⊎◌, List, [], None, Some, IfErr, IfOk, IsOk, MatchResult, OnOk, length, replicate, vec_len, vec_capacity};
 ghost use Rattle.netlink_bytes.specs.Numbers.{text_le};
 ghost use Rattle.netlink_bytes.specs.declared.error.DecodeError.{DecodeError};
 ghost use Rattle.netlink_attributes.specs.Attribute.{Attribute, padded, padding};
@@ -29,6 +29,8 @@ pub fn normalize_nlas(alloc: Global, bytes: &[u8]) -> Result<Vec<u8>, DecodeErro
     ensures empty { bytes.now ≡ [] → IsOk result }
 
     // what is canonical stays as it is, and nothing else does
+    ensures fixed { IsCanonicalBlock bytes.now
+        → MatchResult result (λ v. v.items ≡ bytes.now) (λ e. e ≡ DecodeError.OutOfMemory) }
     ensures canonical { IfOk result (λ v. IsCanonicalBlock v.items) }
     ensures unchanged { IfOk result (λ v. (v.items ≡ bytes.now) ↔ IsCanonicalBlock bytes.now) }
 {
@@ -84,8 +86,10 @@ fn append_padded(block: &mut Vec<u8>, text: &[u8]) -> Result<(), AllocError>
 
 /// Adds an attribute to a block, its kind as it is, with its padding of zeros.
 ///
-/// The value has at most 65531 bytes. Where the block has no room its own allocator is asked;
-/// where that refuses the answer is C16, and the block is as it was.
+/// The value has at most 65531 bytes. Where the block has room for the attribute with its padding
+/// the answer is Ok; otherwise its own allocator is asked, and where that refuses the answer is
+/// C16, and the block is as it was.
+#[tactic(auto, using(crate::specs::Sizes::written_sizes))]
 pub fn append_nla(
     _alloc: Global,
     block: &mut Vec<u8>,
@@ -95,6 +99,8 @@ pub fn append_nla(
     requires fits { length value.now ≤ 65531 }
     ensures ok { OnOk result (block.new.items ≡ block.old.items ++ padded (attribute_with kind value.now)) }
     ensures err { IfErr result (λ e. (e ≡ DecodeError.OutOfMemory) × (block.new.items ≡ block.old.items)) }
+    ensures room { vec_len block.old + length (padded (attribute_with kind value.now))
+        ≤ vec_capacity block.old → IsOk result }
 {
     let size = value.len() + NLA_HEADER_SIZE;
     let whole = nla_align(size);

@@ -75,7 +75,9 @@ pub fn written_walks()
     ensures canonical { (all : List Attribute) → All FitsAttribute all → IsCanonicalBlock (canonical_block all) }
 {}
 
-/// The first `cut` bytes walk as the attributes that end by the cut. One error follows exactly if the cut falls inside an attribute or past the start of a fault.
+/// The first `cut` bytes, which are no more than there are, walk as the attributes that end by the
+/// cut. One error follows exactly if the cut falls inside an attribute or past the start of a
+/// fault.
 pub fn walk_cut(bytes: &[u8], cut: usize)
     requires inside { cut ≤ length bytes.now }
     ensures attributes { (all : List Attribute) (fault : Option DecodeError) → Walk bytes.now all fault → (end : Option DecodeError) × Walk (take cut bytes.now) (kept_by cut all) end }
@@ -85,9 +87,24 @@ pub fn walk_cut(bytes: &[u8], cut: usize)
         → ((start : ℕ) → IsCutAt all fault cut start → ⊥) → end ≡ None }
 {}
 
+/// A canonical block walks without fault, and what is written of that walk is the block.
+pub fn canonical_walks(bytes: &[u8])
+    ensures exists { IsCanonicalBlock bytes.now
+        → (all : List Attribute) × Walk bytes.now all None × (canonical_block all ≡ bytes.now) }
+    ensures every { (all : List Attribute) (fault : Option DecodeError) → IsCanonicalBlock bytes.now
+        → Walk bytes.now all fault → (fault ≡ None) × (canonical_block all ≡ bytes.now) }
+{}
+
 /// Behind a canonical block any bytes walk as they do alone. It need not be so where the block lacks its last padding.
 pub fn walk_join(block: &[u8], bytes: &[u8])
-    ensures joined { (all more : List Attribute) (fault : Option DecodeError) → IsCanonicalBlock block.now → Walk block.now all None → Walk bytes.now more fault
+    ensures joined { (more : List Attribute) (fault : Option DecodeError)
+        → IsCanonicalBlock block.now → Walk bytes.now more fault
+        → (all : List Attribute) × Walk block.now all None
+        × Walk (block.now ++ bytes.now) (all ++ more) fault }
+
+    // the same with a walk of the block that the caller has
+    ensures behind { (all more : List Attribute) (end fault : Option DecodeError)
+        → IsCanonicalBlock block.now → Walk block.now all end → Walk bytes.now more fault
         → Walk (block.now ++ bytes.now) (all ++ more) fault }
 {}
 
