@@ -1,10 +1,10 @@
 //! Where an attribute lies in its block, and its value written in place.
 
-ghost use Rattle.std.specs.Prelude.{◌≡◌, ◌≤◌, ◌↔◌, List, Option, IfSome, OnSome, IsNone, length};
+ghost use Rattle.std.specs.Prelude.{◌≡◌, ◌≤◌, ◌↔◌, List, Option, IfSome, IsTrue, OnSome, IsNone, false, length};
 ghost use Rattle.std.specs.Borrow.{LendsSo, Array, sem, u8 as byte};
 ghost use Rattle.netlink_bytes.specs.declared.error.DecodeError.{DecodeError};
 ghost use Rattle.netlink_attributes.specs.Attribute.{Attribute};
-ghost use Rattle.netlink_attributes.specs.Places.{IsPlace, IsRange, IsValue, IsWritten};
+ghost use Rattle.netlink_attributes.specs.Places.{HasValueOf, IsPlace, IsRange, IsValue, IsWritten};
 ghost use Rattle.netlink_attributes.specs.Walk.{Walk};
 
 use crate::constants::NLA_HEADER_SIZE;
@@ -35,10 +35,35 @@ pub fn nla_place(block: &[u8], index: usize) -> Option<(usize, usize)>
     None
 }
 
+/// Writes a value over that of the attribute with this index, which counts from 0, also in front of
+/// a fault.
+///
+/// True exactly where there is such an attribute and its value has the same size in bytes;
+/// otherwise the block stays as it was. Asks for no memory.
+pub fn write_nla_value(block: &mut [u8], index: usize, value: &[u8]) -> bool
+    ensures answer { (all : List Attribute) (fault : Option DecodeError) → Walk block.old all fault
+        → IsTrue result ↔ HasValueOf all index (length value.now) }
+    ensures written { IsTrue result → IsWritten block.old index value.now block.new }
+    ensures unchanged { result ≡ false → block.new ≡ block.old }
+{
+    match nla_place(&block[..], index) {
+        Some((start, end)) if end - start == value.len() => {
+            block[start..end].copy_from_slice(value);
+            true
+        }
+        _ => false,
+    }
+}
+
 /// The value of the attribute with this index, lent for writing: its bytes become what is written, and no others change.
 ///
 /// The index counts from 0, and an attribute in front of a fault has one too. `None` is answered
 /// exactly where there is no such attribute, and the block is then as it was. Asks for no memory.
+///
+/// A caller without a proof by hand learns whether there is such an attribute, what the reference
+/// held, and that the block keeps its length; not which bytes the block then holds. These teach
+/// that too: `write_nla_value`; `nla_place` and then an index, as `block[start..end]`; and
+/// `NlaBuffer::value_mut` for the bytes of one attribute.
 pub fn nlas_value_mut(block: &mut [u8], index: usize) -> Option<&mut [u8]>
     ensures* writes_back { sem 𝓛 (LendsSo (Array byte 0) (Array byte 0) block.entry result (λ new value. OnSome result (IsWritten block.old index value new)) (λ new. new ≡ block.old)) }
     ensures none { (all : List Attribute) (fault : Option DecodeError) → Walk block.old all fault → IsNone result ↔ (length all ≤ index) }

@@ -6,7 +6,7 @@ ghost use Rattle.netlink_packet_core.specs.DecodeError.{DecodeError};
 ghost use Rattle.netlink_packet_core.specs.Places.{HasValueOf, IsWritten};
 ghost use Rattle.netlink_packet_core.specs.Walk.{Walk};
 
-use netlink_packet_core::nla_place;
+use netlink_packet_core::write_nla_value;
 
 /// Writes a value over that of the attribute with this index, which counts from 0, also in front of
 /// a fault. True exactly where there is such an attribute and its value has the same size in bytes;
@@ -16,11 +16,5 @@ pub fn overwrite(block: &mut [u8], index: usize, value: &[u8]) -> bool
     ensures written { IsTrue result → IsWritten block.old index value.now block.new }
     ensures unchanged { result ≡ false → block.new ≡ block.old }
 {
-    match nla_place(&block[..], index) {
-        Some((start, end)) if end - start == value.len() => {
-            block[start..end].copy_from_slice(value);
-            true
-        }
-        _ => false,
-    }
+    write_nla_value(block, index, value)
 }
