@@ -22,7 +22,7 @@ pub struct NlaBuffer<T: Storage> {
 }
 
 impl<T: Storage> NlaBuffer<T> {
-    /// A view of any bytes.
+    /// A view of any bytes: nothing is checked.
     #[inline]
     pub fn new(buffer: T) -> Self
         ensures keeps { storage_of result ≡ buffer }
@@ -80,6 +80,7 @@ impl<T: Storage> NlaBuffer<T> {
     }
 
     /// The length field (`nla_len`): the size of header and value in bytes, without padding.
+    /// The storage has at least 2 bytes.
     #[inline]
     pub fn length(&self) -> u16
         requires field { 2 ≤ length (T.held (storage_of self.now)) }
@@ -88,7 +89,8 @@ impl<T: Storage> NlaBuffer<T> {
         length_at(self.buffer.bytes())
     }
 
-    /// The kind with its two flag bits, as it stands in the field (`nla_type`).
+    /// The kind with its two flag bits, as it stands in the field (`nla_type`). The storage has at
+    /// least 4 bytes.
     #[inline]
     pub fn raw_kind(&self) -> u16
         requires field { 4 ≤ length (T.held (storage_of self.now)) }
@@ -97,7 +99,7 @@ impl<T: Storage> NlaBuffer<T> {
         kind_at(self.buffer.bytes())
     }
 
-    /// The kind without its two flag bits.
+    /// The kind without its two flag bits. The storage has at least 4 bytes.
     #[inline]
     pub fn kind(&self) -> u16
         requires field { 4 ≤ length (T.held (storage_of self.now)) }
@@ -106,7 +108,7 @@ impl<T: Storage> NlaBuffer<T> {
         self.raw_kind() & NLA_TYPE_MASK
     }
 
-    /// Whether the bit `NLA_F_NESTED` of the kind is set.
+    /// Whether the bit `NLA_F_NESTED` of the kind is set. The storage has at least 4 bytes.
     #[inline]
     pub fn nested_flag(&self) -> bool
         requires field { 4 ≤ length (T.held (storage_of self.now)) }
@@ -115,7 +117,7 @@ impl<T: Storage> NlaBuffer<T> {
         is_nested_kind(self.raw_kind())
     }
 
-    /// Whether the bit `NLA_F_NET_BYTEORDER` of the kind is set.
+    /// Whether the bit `NLA_F_NET_BYTEORDER` of the kind is set. The storage has at least 4 bytes.
     #[inline]
     pub fn network_byte_order_flag(&self) -> bool
         requires field { 4 ≤ length (T.held (storage_of self.now)) }
@@ -124,7 +126,8 @@ impl<T: Storage> NlaBuffer<T> {
         is_network_kind(self.raw_kind())
     }
 
-    /// The size of the value in bytes: the length field less the header's size.
+    /// The size of the value in bytes: the length field less the header's size. The storage has at
+    /// least 2 bytes, and the length field is at least 4.
     #[inline]
     pub fn value_length(&self) -> usize
         requires field { 2 ≤ length (T.held (storage_of self.now)) }
@@ -136,7 +139,7 @@ impl<T: Storage> NlaBuffer<T> {
 }
 
 impl<T: StorageMut> NlaBuffer<T> {
-    /// Sets the length field (`nla_len`), and no other byte.
+    /// Sets the length field (`nla_len`), and no other byte. The storage has at least 2 bytes.
     #[tactic(auto, unfolding(netlink_bytes::specs::Numbers::text_le))]
     #[inline]
     pub fn set_length(&mut self, value: u16)
@@ -150,7 +153,8 @@ impl<T: StorageMut> NlaBuffer<T> {
         bytes[1] = high;
     }
 
-    /// Sets the kind without its flag bits, so that both are cleared, and no byte outside the kind field.
+    /// Sets the kind without its flag bits, so that both are cleared, and no byte outside the kind
+    /// field. The storage has at least 4 bytes.
     #[inline]
     pub fn set_kind(&mut self, kind: u16)
         requires field { 4 ≤ length (T.held (storage_of self.old)) }
@@ -160,7 +164,8 @@ impl<T: StorageMut> NlaBuffer<T> {
         self.set_raw_kind(kind & NLA_TYPE_MASK)
     }
 
-    /// Sets the bit `NLA_F_NESTED` of the kind and clears `NLA_F_NET_BYTEORDER`; no byte outside the kind field changes.
+    /// Sets the bit `NLA_F_NESTED` of the kind and clears `NLA_F_NET_BYTEORDER`; no byte outside
+    /// the kind field changes. The storage has at least 4 bytes.
     #[inline]
     pub fn set_nested_flag(&mut self)
         requires field { 4 ≤ length (T.held (storage_of self.old)) }
@@ -171,7 +176,8 @@ impl<T: StorageMut> NlaBuffer<T> {
         self.set_raw_kind(kind)
     }
 
-    /// Sets the bit `NLA_F_NET_BYTEORDER` of the kind and clears `NLA_F_NESTED`; no byte outside the kind field changes.
+    /// Sets the bit `NLA_F_NET_BYTEORDER` of the kind and clears `NLA_F_NESTED`; no byte outside
+    /// the kind field changes. The storage has at least 4 bytes.
     #[inline]
     pub fn set_network_byte_order_flag(&mut self)
         requires field { 4 ≤ length (T.held (storage_of self.old)) }
@@ -196,7 +202,8 @@ impl<T: StorageMut> NlaBuffer<T> {
         bytes[3] = high;
     }
 
-    /// The value, lent for writing: the bytes from 4 up to the length.
+    /// The value, lent for writing: the bytes from 4 up to the length. The storage holds a whole
+    /// attribute, as `check_buffer_length` tells.
     #[inline]
     pub fn value_mut(&mut self) -> &mut [u8]
         requires whole { HoldsAttribute (T.held (storage_of self.old)) }
@@ -209,7 +216,8 @@ impl<T: StorageMut> NlaBuffer<T> {
 }
 
 impl<'a> NlaBuffer<&'a [u8]> {
-    /// The value: the bytes from 4 up to the length. What follows is not looked at.
+    /// The value: the bytes from 4 up to the length. What follows is not looked at. The bytes hold
+    /// a whole attribute, as `check_buffer_length` tells.
     #[inline]
     pub fn value(&self) -> &'a [u8]
         requires whole { HoldsAttribute (shown self.now) }

@@ -96,7 +96,9 @@ impl<'a> Parseable<NlaBuffer<&'a [u8]>> for DefaultNla {
 
     ghost needs_no_memory = { λ view. (attribute_of (shown view)).value ≡ [] };
 
-    /// The kind with both flag bits, and a copy of the value. C16 where there is no memory for it; an empty value asks for none.
+    /// The kind with both flag bits, and a copy of the value. C16 where there is no memory for it;
+    /// an empty value asks for none. The view shows a whole attribute, as `check_buffer_length`
+    /// tells.
     fn parse(alloc: Global, buf: &NlaBuffer<&'a [u8]>) -> Result<Self, DecodeError> {
         Ok(DefaultNla {
             kind: buf.raw_kind(),

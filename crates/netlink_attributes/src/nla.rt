@@ -46,7 +46,8 @@ pub trait Nla {
     }
 }
 
-/// The size in bytes of what `emit_nla` writes: header, value and padding.
+/// The size in bytes of what `emit_nla` writes: header, value and padding. The value has at most
+/// `usize::MAX - 7` bytes.
 #[tactic(auto, using(crate::specs::Sizes::written_sizes))]
 #[inline]
 pub fn nla_buffer_len<T: Nla>(nla: &T) -> usize
@@ -67,6 +68,9 @@ pub fn nla_fits<T: Nla>(nla: &T) -> bool
 
 /// Writes the attribute at the start of the buffer, its padding with zeros, and leaves the rest.
 /// The kind is written as it is. Asks for no memory.
+///
+/// The value has at most 65531 bytes, as `nla_fits` tells, and the buffer at least the
+/// `nla_buffer_len` bytes that are written.
 #[tactic(auto, using(crate::specs::Sizes::written_sizes))]
 #[inline]
 pub fn emit_nla<T: Nla>(nla: &T, buffer: &mut [u8])

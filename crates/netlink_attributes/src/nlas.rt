@@ -28,7 +28,8 @@ impl<'a, T: Nla> Emitable for Nlas<'a, T> {
         size
     }
 
-    /// Writes the attributes at the start of the buffer, and leaves the rest. What is written walks as the list.
+    /// Writes the attributes at the start of the buffer, and leaves the rest. What is written walks
+    /// as the list. Each value has at most 65531 bytes, and the buffer at least `buffer_len` bytes.
     fn emit(&self, buffer: &mut [u8])
         requires can { AllFit T.value_of self.now.0.now }
         requires room { length (canonical_block (attributes_of T.kind_of T.value_of self.now.0.now)) ≤ length buffer.old }
