@@ -1,7 +1,7 @@
 -- What a block written from a walk says of any walk of the same bytes.
-use Rattle.std.proofs.Common.{◌≡◌, ◌↔◌, ◌⊎◌, ◌+◌, ℕ, List, [], ◌∷◌, ◌++◌, length, take, refl, ap, sym, ◌∙◌, inl, inr, Some, None, Result, Ok, Err, Vec, Global, MatchResult, IfOk, arith}
+use Rattle.std.proofs.Common.{◌≡◌, ◌↔◌, ◌⊎◌, ◌+◌, ℕ, List, [], ◌∷◌, ◌++◌, length, take, refl, ap, sym, ◌∙◌, inl, inr, Some, None, Result, Ok, Err, Vec, Global, MatchResult, IfOk, IfErr, arith}
 use Rattle.std.proofs.lemmas.List.{take_at}
-use Rattle.std.specs.Prelude.{replicate, true, ◌==◌}
+use Rattle.std.specs.Prelude.{replicate}
 use Rattle.netlink_bytes.specs.declared.error.DecodeError.{DecodeError}
 use Rattle.netlink_bytes.specs.declared.error.DecodeError.TheVariants.{OutOfMemory}
 use Rattle.netlink_attributes.specs.Attribute.{Attribute, attribute_text, padded, padding}
@@ -9,7 +9,7 @@ use Rattle.netlink_attributes.specs.Sizes.{length-attribute_text}
 use Rattle.netlink_attributes.specs.Block.{canonical_block, IsCanonicalBlock}
 use Rattle.netlink_attributes.specs.Views.{length_field, attribute_of}
 use Rattle.netlink_attributes.specs.Walk.{Walk, Starts}
-use Rattle.netlink_attributes.proofs.Blocks.{walked_canonical, unchanged, block_push, canonical_walked}
+use Rattle.netlink_attributes.proofs.Blocks.{walked_canonical, unchanged, block_push, canonical_walk, canonical_walked}
 use Rattle.netlink_attributes.proofs.Starting.{starts-length_field}
 use Rattle.netlink_attributes.proofs.Walking.{walk_once}
 
@@ -31,11 +31,31 @@ IsAnswer bytes result = MatchResult result
     (λ v. (all : List Attribute) × Walk bytes all None × (v.items ≡ canonical_block all))
     (λ e. (e ≡ OutOfMemory) ⊎ ((all : List Attribute) × Walk bytes all (Some e)))
 
+pub answer_ok : (bytes : List ℕ) (result : Result (Vec ℕ Global) DecodeError) → IsAnswer bytes result
+    → IfOk result (λ v. (all : List Attribute) × Walk bytes all None × (v.items ≡ canonical_block all))
+answer_ok bytes (Ok v) answer = answer
+answer_ok bytes (Err e) answer = tt
+
+pub answer_err : (bytes : List ℕ) (result : Result (Vec ℕ Global) DecodeError) → IsAnswer bytes result
+    → IfErr result (λ e. (e ≡ OutOfMemory) ⊎ ((all : List Attribute) × Walk bytes all (Some e)))
+answer_err bytes (Ok v) answer = tt
+answer_err bytes (Err e) answer = answer
+
 pub answer_writes : (bytes : List ℕ) (result : Result (Vec ℕ Global) DecodeError) → IsAnswer bytes result → (all : List Attribute) → Walk bytes all None
     → MatchResult result (λ v. v.items ≡ canonical_block all) (λ e. e ≡ OutOfMemory)
 answer_writes bytes (Ok v) (x, walk, items) all other = items ∙ ap canonical_block (walk_once bytes x all None None walk other).0
 answer_writes bytes (Err e) (inl memory) all other = memory
 answer_writes bytes (Err e) (inr (x, walk)) all other = absurd (no_fault bytes all x e other walk)
+
+-- a copy of a canonical block is such an answer
+pub answer_copied : (bytes : List ℕ) (result : Result (Vec ℕ Global) DecodeError) → IsCanonicalBlock bytes
+    → IfOk result (λ v. v.items ≡ bytes) → IfErr result (λ e. e ≡ OutOfMemory) → IsAnswer bytes result
+answer_copied bytes (Ok v) canonical same memory = let walk = canonical_walk bytes canonical in (walk.0, walk.1, same ∙ sym walk.2)
+answer_copied bytes (Err e) canonical same memory = inl memory
+
+-- no bytes are a canonical block
+pub empty_canonical : (bytes : List ℕ) → bytes ≡ [] → IsCanonicalBlock bytes
+empty_canonical bytes none = ([], none)
 
 -- a canonical block is answered by itself
 pub answer_fixed : (bytes : List ℕ) (result : Result (Vec ℕ Global) DecodeError) → IsAnswer bytes result → IsCanonicalBlock bytes
@@ -51,11 +71,6 @@ answer_canonical bytes (Err e) answer = tt
 pub answer_unchanged : (bytes : List ℕ) (result : Result (Vec ℕ Global) DecodeError) → IsAnswer bytes result → IfOk result (λ v. (v.items ≡ bytes) ↔ IsCanonicalBlock bytes)
 answer_unchanged bytes (Ok v) (x, walk, items) = rw items (unchanged bytes x walk)
 answer_unchanged bytes (Err e) answer = tt
-
--- no bytes are written as nothing
-pub empty_writes : (bytes : List ℕ) (items : List ℕ) (all : List Attribute) → true ≡ (length bytes == 0) → items ≡ [] → Walk bytes all None → items ≡ canonical_block all
-empty_writes [] items all none nothing walk = nothing ∙ ap canonical_block (walk_once [] [] all None None refl walk).0
-empty_writes (x ∷ bytes) items all none nothing walk = absurd (grind arith)
 
 -- the text of the attribute that bytes start with
 pub starts-text : (bytes : List ℕ) (a : Attribute) (rest : List ℕ) → Starts bytes a rest → take (length_field bytes) bytes ≡ attribute_text a

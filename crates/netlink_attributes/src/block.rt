@@ -9,16 +9,18 @@ ghost use Rattle.netlink_attributes.specs.Nla.{attribute_with};
 ghost use Rattle.netlink_attributes.specs.Walk.{Walk};
 
 use crate::align::nla_align;
+use crate::canonical::is_canonical_nlas;
 use crate::constants::NLA_HEADER_SIZE;
+use crate::default::copied;
 use crate::iterator::NlasIterator;
 use netlink_bytes::DecodeError;
 use std::alloc::{AllocError, Global};
 
 /// The canonical block of bytes: the attributes that they walk as, each with its kind as it is and with its padding of zeros.
 ///
-/// The walk is checked first, so damaged bytes are answered by the walk's fault (C5, C6 or C7)
-/// without a request for memory. Otherwise there is one request, of the block's size, and none
-/// for no bytes; C16 says that it was refused.
+/// A canonical block is copied whole. The walk of any other bytes is checked first, so damaged
+/// bytes are answered by the walk's fault (C5, C6 or C7) without a request for memory. Otherwise
+/// there is one request, of the block's size, and none for no bytes; C16 says that it was refused.
 pub fn normalize_nlas(alloc: Global, bytes: &[u8]) -> Result<Vec<u8>, DecodeError>
     ensures ok { IfOk result (λ v. (all : List Attribute) × Walk bytes.now all None × (v.items ≡ canonical_block all)) }
     ensures err { IfErr result (λ e. (e ≡ DecodeError.OutOfMemory) ⊎ ((all : List Attribute) × Walk bytes.now all (Some e))) }
@@ -34,10 +36,10 @@ pub fn normalize_nlas(alloc: Global, bytes: &[u8]) -> Result<Vec<u8>, DecodeErro
     ensures canonical { IfOk result (λ v. IsCanonicalBlock v.items) }
     ensures unchanged { IfOk result (λ v. (v.items ≡ bytes.now) ↔ IsCanonicalBlock bytes.now) }
 {
-    check_walk(bytes)?;
-    if bytes.is_empty() {
-        return Ok(Vec::new(alloc));
+    if is_canonical_nlas(bytes) {
+        return copied(alloc, bytes);
     }
+    check_walk(bytes)?;
     rewritten(alloc, bytes)
 }
 
@@ -79,9 +81,23 @@ fn append_padded(block: &mut Vec<u8>, text: &[u8]) -> Result<(), AllocError>
     requires { length text.now < 2 ^ 16 }
     ensures { OnOk result (block.new.items ≡ block.old.items ++ (text.now ++ replicate (padding (length text.now)) 0)) }
 {
-    let end = block.len() + nla_align(text.len());
     block.extend_from_slice(text)?;
-    block.resize(end, 0)
+    append_zeros(block, nla_align(text.len()) - text.len())
+}
+
+/// Adds fewer than 4 zeros, each number of them by a copy of a fixed size.
+#[inline(always)]
+fn append_zeros(block: &mut Vec<u8>, count: usize) -> Result<(), AllocError>
+    requires { count < 4 }
+    ensures ok { OnOk result (block.new.items ≡ block.old.items ++ replicate count 0) }
+    ensures room { vec_len block.old + count ≤ vec_capacity block.old → IsOk result }
+{
+    match count {
+        0 => Ok(()),
+        1 => block.extend_from_slice(&[0]),
+        2 => block.extend_from_slice(&[0, 0]),
+        _ => block.extend_from_slice(&[0, 0, 0]),
+    }
 }
 
 /// Adds an attribute to a block, its kind as it is, with its padding of zeros.
@@ -104,11 +120,10 @@ pub fn append_nla(
 {
     let size = value.len() + NLA_HEADER_SIZE;
     let whole = nla_align(size);
-    let end = block.len() + whole;
     block.reserve(whole)?;
     block.extend_from_slice(&header_text(size as u16, kind))?;
     block.extend_from_slice(value)?;
-    block.resize(end, 0)?;
+    append_zeros(block, whole - size)?;
     Ok(())
 }
 

@@ -42,7 +42,7 @@ impl DefaultNla {
 }
 
 /// A copy of the bytes, of their exact size. An empty input asks for no memory.
-fn copied(alloc: Global, bytes: &[u8]) -> Result<Vec<u8>, DecodeError>
+pub(crate) fn copied(alloc: Global, bytes: &[u8]) -> Result<Vec<u8>, DecodeError>
     ensures ok { IfOk result (λ copy. copy.items ≡ bytes.now) }
     ensures memory { IfErr result (λ e. e ≡ DecodeError.OutOfMemory) }
     ensures empty { bytes.now ≡ [] → IsOk result }

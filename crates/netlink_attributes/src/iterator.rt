@@ -1,9 +1,9 @@
 //! The attributes of a block, one after another.
 
-ghost use Rattle.std.specs.Prelude.{◌≡◌, ◌+◌, ◌≤◌, length, IfErr, IfOk, OnOk};
+ghost use Rattle.std.specs.Prelude.{◌≡◌, ◌+◌, ◌≤◌, ◌<◌, ◌^◌, length};
 ghost use Rattle.std.specs.Iterator.{at_most};
-ghost use Rattle.netlink_attributes.specs.Views.{attribute_of, HoldsAttribute};
-ghost use Rattle.netlink_attributes.specs.Walk.{Starts, IsFault};
+ghost use Rattle.netlink_attributes.specs.Views.{attribute_of, length_field, HoldsAttribute};
+ghost use Rattle.netlink_attributes.specs.Walk.{Starts};
 ghost use Rattle.netlink_attributes.specs.Steps.{unread, steps, item_bound, GivesWalk};
 
 use crate::align::nla_align;
@@ -43,9 +43,9 @@ impl<'a> Iterator for NlasIterator<&'a [u8]> {
         if bytes.is_empty() {
             return None;
         }
-        match behind_first(bytes) {
-            Ok(rest) => {
-                self.rest = rest;
+        match checked_length(bytes) {
+            Ok(size) => {
+                self.rest = behind(bytes, size as usize);
                 Some(Ok(NlaBuffer::new(bytes)))
             }
             Err(fault) => {
@@ -56,17 +56,19 @@ impl<'a> Iterator for NlasIterator<&'a [u8]> {
     }
 }
 
-/// What stands behind the attribute that the bytes start with and its padding, or their fault.
+/// What stands behind the attribute that the bytes start with and its padding.
 #[inline(always)]
-fn behind_first(bytes: &[u8]) -> Result<&[u8], DecodeError>
-    ensures starts { IfOk result (λ rest. Starts bytes.now (attribute_of bytes.now) rest.now) }
-    ensures whole { OnOk result (HoldsAttribute bytes.now) }
-    ensures shorter { IfOk result (λ rest. length rest.now + 4 ≤ length bytes.now) }
-    ensures refuses { IfErr result (IsFault bytes.now) }
+fn behind(bytes: &[u8], size: usize) -> &[u8]
+    requires whole { HoldsAttribute bytes.now }
+    requires size { size ≡ length_field bytes.now }
+    requires fits { size < 2 ^ 16 }
+    ensures starts { Starts bytes.now (attribute_of bytes.now) result.now }
+    ensures shorter { length result.now + 4 ≤ length bytes.now }
 {
-    let end = nla_align(checked_length(bytes)? as usize);
-    if end >= bytes.len() {
-        return Ok(&[]);
+    let end = nla_align(size);
+    if end < bytes.len() {
+        &bytes[end..]
+    } else {
+        &[]
     }
-    Ok(&bytes[end..])
 }

@@ -1,7 +1,21 @@
-use Rattle.std.proofs.Common.{[]}
 use Rattle.std.proofs.lemmas.Result.{err_from_is_err_and}
-use Rattle.netlink_attributes.proofs.Normalizing.{empty_writes, no_fault, same_fault, no_canonical_fault, answer_writes, answer_fixed, answer_canonical, answer_unchanged}
+use Rattle.netlink_attributes.proofs.Normalizing.{no_fault, same_fault, no_canonical_fault, empty_canonical, answer_copied, answer_ok, answer_err, answer_writes, answer_fixed, answer_canonical, answer_unchanged}
 use Rattle.netlink_attributes.proofs.block.normalize_nlas.Goals as goal
+
+pub returns-then-is_canonical_nlas : goal.returns-then-is_canonical_nlas
+returns-then-is_canonical_nlas c =
+    let canonical = c.is_canonical_nlas.ensures.canonical.0 c.if-is_canonical_nlas.true in
+    let answer = answer_copied _ _ canonical c.copied.ensures.ok c.copied.ensures.memory in
+    record {
+      ok = answer_ok _ _ answer;
+      err = answer_err _ _ answer;
+      writes = answer_writes _ _ answer;
+      fault = λ all fault walk. absurd (no_canonical_fault _ all fault walk canonical);
+      empty = c.copied.ensures.empty;
+      fixed = answer_fixed _ _ answer;
+      canonical = answer_canonical _ _ answer;
+      unchanged = answer_unchanged _ _ answer;
+    }
 
 pub returns-in_err-check_walk-clause-writes : goal.returns-in_err-check_walk-clause-writes
 returns-in_err-check_walk-clause-writes c = λ all walk.
@@ -18,34 +32,24 @@ returns-in_err-check_walk-clause-fault c = λ all fault walk.
 pub returns-in_err-check_walk-clause-empty : goal.returns-in_err-check_walk-clause-empty
 returns-in_err-check_walk-clause-empty c = λ none.
     let known = c.in_err-check_walk.ensures in
-    absurd (no_fault c.args.bytes.now [] _ _ none known.1)
+    absurd (no_canonical_fault _ _ _ known.1 (empty_canonical _ none))
 
 pub returns-in_err-check_walk-clause-fixed : goal.returns-in_err-check_walk-clause-fixed
 returns-in_err-check_walk-clause-fixed c = λ canonical.
     let known = c.in_err-check_walk.ensures in
     absurd (no_canonical_fault _ _ _ known.1 canonical)
 
-pub returns-then-is_empty-clause-writes : goal.returns-then-is_empty-clause-writes
-returns-then-is_empty-clause-writes c = λ all walk. empty_writes c.args.bytes.now _ all c.if-is_empty.ensures c.new.ensures.items walk
-
-pub returns-then-is_empty-clause-fault : goal.returns-then-is_empty-clause-fault
-returns-then-is_empty-clause-fault c = λ all fault walk.
+pub returns : goal.returns
+returns c =
+    let answer = c.rewritten.ensures in
     let known = c.in_ok-check_walk.ensures in
-    absurd (no_fault _ _ _ _ known.1 walk)
-
-pub returns-clause-writes : goal.returns-clause-writes
-returns-clause-writes c = answer_writes _ _ c.rewritten.ensures
-
-pub returns-clause-fault : goal.returns-clause-fault
-returns-clause-fault c = λ all fault walk.
-    let known = c.in_ok-check_walk.ensures in
-    absurd (no_fault _ _ _ _ known.1 walk)
-
-pub returns-clause-fixed : goal.returns-clause-fixed
-returns-clause-fixed c = answer_fixed _ _ c.rewritten.ensures
-
-pub returns-clause-canonical : goal.returns-clause-canonical
-returns-clause-canonical c = answer_canonical _ _ c.rewritten.ensures
-
-pub returns-clause-unchanged : goal.returns-clause-unchanged
-returns-clause-unchanged c = answer_unchanged _ _ c.rewritten.ensures
+    record {
+      ok = answer_ok _ _ answer;
+      err = answer_err _ _ answer;
+      writes = answer_writes _ _ answer;
+      fault = λ all fault walk. absurd (no_fault _ _ _ _ known.1 walk);
+      empty = λ none. absurd (let yes = c.is_canonical_nlas.ensures.canonical.1 (empty_canonical _ none) in let no = c.if-is_canonical_nlas.false in cc);
+      fixed = answer_fixed _ _ answer;
+      canonical = answer_canonical _ _ answer;
+      unchanged = answer_unchanged _ _ answer;
+    }
