@@ -25,7 +25,8 @@ pub fn parse_u8(payload: &[u8]) -> Result<u8, DecodeError>
     Ok(byte)
 }
 
-/// The single byte as a signed number, two's complement; any other size is refused with C4. Asks for no memory.
+/// The single byte as a signed number, two's complement; any other size is refused with C4.
+/// Asks for no memory.
 pub fn parse_i8(payload: &[u8]) -> Result<i8, DecodeError>
     ensures reads { Reads (λ bytes. signed 1 (number_le bytes)) 1 payload.now result }
 {

@@ -18,70 +18,96 @@ use std::string::FromUtf8Error;
 pub enum DecodeError {
     /// C1: a buffer is too short, by a name that the caller gives.
     InvalidBuffer {
+        /// What the caller calls the buffer.
         name: String,
+        /// The size of the buffer, in bytes.
         received: usize,
+        /// The least size that was wanted, in bytes.
         minimum_length: usize,
     },
     /// C2: a MAC address is not of 6 bytes.
     InvalidMacAddress {
+        /// The size that was received, in bytes.
         received: usize,
     },
     /// C3: an IP address is not of 4 or 16 bytes.
     InvalidIpAddress {
+        /// The size that was received, in bytes.
         received: usize,
     },
     /// C4: a number does not have its exact size.
     InvalidNumber {
+        /// The size of the number's type, in bytes.
         expected: usize,
+        /// The size that was received, in bytes.
         received: usize,
     },
     /// C5: there are fewer bytes than an attribute's header has.
     NlaBufferTooSmall {
+        /// How many bytes there are.
         buffer_len: usize,
+        /// How many bytes a header has, which is 4.
         nla_len: usize,
     },
     /// C6: an attribute's length field is above the number of bytes that there are.
     NlaLengthMismatch {
+        /// How many bytes there are.
         buffer_len: usize,
+        /// The length field: the bytes of the attribute, its header included and its padding not.
         nla_len: usize,
     },
     /// C7: an attribute's length field is below the size of its header.
     NlaInvalidLength {
+        /// The least length in bytes, which is 4.
         buffer_len: usize,
+        /// The length field, in bytes.
         nla_len: usize,
     },
     /// C8: a number does not fit its buffer.
     BufferTooSmall {
+        /// The size of the buffer, in bytes.
         buffer_len: usize,
+        /// The size of the number's type, in bytes.
         value_len: usize,
     },
-    /// C9: there are fewer bytes than a message's header has.
+    /// C9: there are fewer bytes than a message's header has, which is 16.
     FrameShort {
+        /// How many bytes there are.
         size: usize,
+        /// Whether the text begins with the line of a whole message.
         inside: bool,
     },
     /// C10: a message's length field is above the number of bytes that there are.
     FrameCut {
+        /// The length field: the bytes of the message, its header included.
         length: u32,
+        /// How many bytes there are.
         size: usize,
+        /// Whether the text begins with the line of a whole message.
         inside: bool,
     },
-    /// C11: a message's length field is below the size of its header.
+    /// C11: a message's length field is below the size of its header, which is 16 bytes.
     FrameLength {
+        /// The length field, in bytes.
         length: u32,
+        /// Whether the text begins with the line of a whole message.
         inside: bool,
     },
     /// C12: the body of a done message has fewer than 4 bytes. In a whole message no bytes at all stand for code 0.
     DoneShort {
+        /// The size of the body, in bytes.
         size: usize,
+        /// Whether the text begins with the line of a whole message.
         inside: bool,
     },
     /// C13: the body of an error message has fewer than 4 bytes.
     ErrorShort {
+        /// The size of the body, in bytes.
         size: usize,
+        /// Whether the text begins with the line of a whole message.
         inside: bool,
     },
-    /// C14: free text, as of a protocol's refusal.
+    /// C14: free text, as of a protocol's refusal. The text is the whole of what is printed.
     Message(String),
     /// C15: a message does not fit a length of 32 bits.
     TooLong,

@@ -24,8 +24,8 @@ pub trait Emitable {
         requires in_size { length (text self.now) < 2 ^ 64 }
         ensures size { result ≡ length (text self.now) };
 
-    /// Writes the text at the start of the buffer and leaves the rest. The buffer has the text's
-    /// size, or more where a longer one is taken. Asks for no memory.
+    /// Writes the text at the start of the buffer and leaves the rest. The value can be written, and
+    /// the buffer has the text's size, or more where a longer one is taken. Asks for no memory.
     fn emit(&self, buffer: &mut [u8])
         requires can { can_emit self.now }
         requires room { HasRoom takes_longer (length (text self.now)) (length buffer.old) }
@@ -47,6 +47,7 @@ pub trait Parseable<T> {
     ghost needs_no_memory: { T → Type 0 };
 
     /// The value that is read; its refusal where there is none; C16 only where memory may be asked for.
+    /// It is called only on what `can_parse` holds of, as a view with the bytes that it looks at.
     fn parse(alloc: Global, buf: &T) -> Result<Self, DecodeError>
         requires can { can_parse buf.now }
         ensures accepts { IfOk result (reads buf.now) }
@@ -70,6 +71,7 @@ pub trait ParseableParametrized<T, P> {
     ghost needs_no_memory: { T → P → Type 0 };
 
     /// The value that is read; its refusal where there is none; C16 only where memory may be asked for.
+    /// It is called only on what `can_parse` holds of, with the parameter.
     fn parse_with_param(alloc: Global, buf: &T, params: P) -> Result<Self, DecodeError>
         requires can { can_parse buf.now params }
         ensures accepts { IfOk result (reads buf.now params) }

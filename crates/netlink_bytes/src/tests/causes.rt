@@ -131,11 +131,9 @@ fn causes(rt: HostRuntime) -> Result<(), Fail> {
     }
     let refused = not_utf8(&rt)?;
     assert_eq!(rt; refused.number(), 14);
-    assert!(rt;
-        refused
-            .to_string(alloc)?
-            .as_str()
-            .starts_with("Invalid UTF-8 sequence: ")
+    assert_eq!(rt;
+        refused.to_string(alloc)?.as_str(),
+        "Invalid UTF-8 sequence: invalid utf-8 sequence of 1 bytes from index 0"
     );
     Ok(())
 }

@@ -23,12 +23,26 @@ fn numbers_that_are_not_zero(rt: HostRuntime) {
     }
 }
 
+/// Calls of the laws, and a row of each.
 #[test]
-fn the_laws_hold() {
+fn the_laws_at_one_number(rt: HostRuntime) {
     numbers_are_sums();
+    let bytes = [0x78, 0x56, 0x34, 0x92];
+    let sum = 0x78 + 0x56 * 256 + 0x34 * 256 * 256 + 0x92 * 256 * 256 * 256;
+    assert_eq!(rt; parse_u32_le(&bytes).ok(), Some(sum));
     numbers_read_back();
+    let mut text = [0; 4];
+    assert!(rt; emit_u32_le(&mut text, sum).is_ok());
+    assert_eq!(rt; text, bytes);
     signed_numbers_read_back();
+    assert_eq!(rt; parse_i32_le(&bytes).ok(), Some(-1842063752));
+    assert!(rt; emit_i32_le(&mut text, -1842063752).is_ok());
+    assert_eq!(rt; text, bytes);
     written_is_read();
+    let mut longer = [0x55; 6];
+    assert!(rt; emit_u32_le(&mut longer, sum).is_ok());
+    assert_eq!(rt; parse_u32_le(&longer[..4]).ok(), Some(sum));
+    assert_eq!(rt; longer, [0x78, 0x56, 0x34, 0x92, 0x55, 0x55]);
 }
 
 #[test]
