@@ -1,0 +1,179 @@
+#!/usr/bin/env python3
+"""Runs the built program to each of its ends: status, standard output and standard error, exactly.
+
+Each cause that a command can give, each wrong list of arguments, and inputs and outputs that fail.
+The expected texts are those of docs/FORMAT.md, and the lines are made by hand.
+"""
+
+import os
+
+from built import built, run, side_by_side, tally
+
+COMMANDS = ["normalize", "show", "nlas", "canon", "frames"]
+
+USAGE = "usage: netlink_frame normalize|show|nlas|canon|frames"
+
+PING = bytes.fromhex("1400000012000000000000000000000000010203")
+PONG = bytes.fromhex("1400000014000000000000000000000000010203")
+BLOCK = bytes.fromhex("05000100aa000000")
+LINES = b"length 20\ntype 18\nflags 0\nsequence 0\nport 0\npayload ping 00010203\n"
+
+# What each command makes of an input that it takes whole.
+GOOD = {
+    "normalize": (PING, PING),
+    "show": (PING, LINES),
+    "nlas": (BLOCK, b"0001 1 aa\n"),
+    "canon": (BLOCK, BLOCK),
+    "frames": (PING, b"20 18\n"),
+}
+
+
+def header(length, kind):
+    return length.to_bytes(4, "little") + kind.to_bytes(2, "little") + bytes(10)
+
+
+LEAST = "netlink packets are at least 16 bytes"
+FRAME = "invalid netlink buffer length caused by invalid netlink buffer: "
+INSIDE = "failed deserializing NetlinkMessage caused by "
+DONE = "failed to parse NLMSG_DONE caused by invalid DoneBuffer length caused by invalid DoneBuffer: "
+ERROR = "failed parsing NLMSG_ERROR caused by invalid ErrorBuffer length caused by invalid ErrorBuffer: "
+
+# Bytes that are no frame, and why.
+NO_FRAMES = [
+    (b"\0", f"{FRAME}length is 1 but {LEAST}"),
+    (PING[:4], f"{FRAME}length is 4 but {LEAST}"),
+    (PING[:15], f"{FRAME}length is 15 but {LEAST}"),
+    (PING[:16], f"{FRAME}length field says 20 the buffer is 16 bytes long"),
+    (PING[:19], f"{FRAME}length field says 20 the buffer is 19 bytes long"),
+    (header(0xFFFFFFFF, 18), f"{FRAME}length field says 4294967295 the buffer is 16 bytes long"),
+    (header(0, 18), f"{FRAME}length field says 0 but {LEAST}"),
+    (header(15, 18) + bytes(8), f"{FRAME}length field says 15 but {LEAST}"),
+]
+
+# Frames that are no message, and why.
+NO_MESSAGES = [
+    *[(header(16 + n, 3) + bytes(n), f"{DONE}length is {n} but DoneBuffer are at least 4 bytes") for n in (1, 2, 3)],
+    *[(header(16 + n, 2) + bytes(n), f"{ERROR}length is {n} but ErrorBuffer are at least 4 bytes") for n in range(4)],
+    *[
+        (header(16, kind), f"Failed to parse message with type {kind}: invalid ping-pong message: invalid message type")
+        for kind in (0, 5, 17, 19, 21, 65535)
+    ],
+]
+
+# Bytes that hold no attribute, and why.
+NO_ATTRIBUTES = [
+    (b"\5", "buffer has length 1, but an NLA header is 4 bytes"),
+    (b"\5\0", "buffer has length 2, but an NLA header is 4 bytes"),
+    (b"\5\0\1", "buffer has length 3, but an NLA header is 4 bytes"),
+    (b"\5\0\1\0", "buffer has length: 4, but the NLA is 5 bytes"),
+    (b"\x08\0\1\0\xaa\0\0", "buffer has length: 7, but the NLA is 8 bytes"),
+    (b"\xff\xff\1\0\xaa", "buffer has length: 5, but the NLA is 65535 bytes"),
+    *[(bytes([n, 0, 1, 0, 0xAA]), f"NLA has invalid length: {n} (should be at least 4 bytes)") for n in range(4)],
+]
+
+# No word, two, extra and unknown ones, words in capitals, cut, longer, empty and not UTF-8.
+WRONG_ARGUMENTS = [
+    [],
+    ["normalize", "show"],
+    ["normalize", ""],
+    ["", "normalize"],
+    ["frames", "frames", "frames"],
+    ["normalize", b"\xff"],
+    *[[word] for word in ("", " ", "help", "--help", "-h", "-", "normalise", "payload", "read")],
+    *[[word] for command in COMMANDS for word in (command.upper(), command.title(), command[:-1], command + "s")],
+    *[[word] for command in COMMANDS for word in (command + " ", " " + command, command + "\n", "--" + command)],
+    *[[command, "extra"] for command in COMMANDS],
+    [b"\xff"],
+    [b"normalize\xff"],
+    [b"sh\xc3w"],
+    ["x" * 100000],
+]
+
+
+def row(name, words, wanted, given=b"", **how):
+    """A run: its name, its arguments, its status, output and error, its input, and how it is run."""
+    status, output, said = wanted
+    return name, words, (status, output, said.encode() + b"\n" if said else b""), given, how
+
+
+def good_rows():
+    for command, (given, output) in GOOD.items():
+        yield row(f"{command} of what it takes", [command], (0, output, ""), given)
+    for command in ("nlas", "canon", "frames"):
+        yield row(f"{command} of nothing", [command], (0, b"", ""))
+
+
+def refused_rows():
+    for command in ("normalize", "show"):
+        for given, fault in NO_FRAMES:
+            yield row(f"{command} of {given.hex()}", [command], (1, b"", INSIDE + fault), given)
+        for given, fault in NO_MESSAGES:
+            yield row(f"{command} of {given.hex()}", [command], (1, b"", fault), given)
+        fault = f"{INSIDE}{FRAME}length is 0 but {LEAST}"
+        yield row(f"{command} of nothing", [command], (1, b"", fault))
+    for given, fault in NO_FRAMES:
+        yield row(f"frames of {given.hex()}", ["frames"], (1, b"", fault), given)
+        behind = PING + PONG + given
+        yield row(f"frames of {behind.hex()}", ["frames"], (1, b"20 18\n20 20\n", fault), behind)
+    for given, fault in NO_ATTRIBUTES:
+        behind = BLOCK + given
+        yield row(f"nlas of {given.hex()}", ["nlas"], (1, b"", fault), given)
+        yield row(f"nlas of {behind.hex()}", ["nlas"], (1, b"0001 1 aa\n", fault), behind)
+        yield row(f"canon of {given.hex()}", ["canon"], (1, b"", fault), given)
+        yield row(f"canon of {behind.hex()}", ["canon"], (1, b"", fault), behind)
+
+
+def usage_rows():
+    for words in WRONG_ARGUMENTS:
+        yield row(f"arguments {str(words)[:80]}", words, (2, b"", USAGE), PING)
+
+
+def failing_rows(folder, full, broken):
+    """Inputs that cannot be read, and outputs that cannot be written."""
+    for command, (given, output) in GOOD.items():
+        yield row(f"{command} of a directory", [command], (1, b"", "read failed"), stdin=folder)
+        yield row(f"{command} of a closed input", [command], (1, b"", "read failed"), closed="0<&-")
+        wanted = (1, b"", "write failed")
+        yield row(f"{command} to a full output", [command], wanted, given, stdout=full)
+        yield row(f"{command} to a closed output", [command], wanted, given, closed="1>&-")
+        yield row(f"{command} to a pipe that nobody reads", [command], wanted, given, stdout=broken)
+    for command, given in (("nlas", BLOCK + b"\5"), ("frames", PING + b"\0")):
+        wanted = (1, b"", "write failed")
+        yield row(f"{command} to a full output, in front of a fault", [command], wanted, given, stdout=full)
+        yield row(f"{command} to a closed output, in front of a fault", [command], wanted, given, closed="1>&-")
+    for command in ("nlas", "canon", "frames"):
+        yield row(f"{command} of nothing to a full output", [command], (0, b"", ""), stdout=full)
+        yield row(f"{command} of nothing to a closed output", [command], (0, b"", ""), closed="1>&-")
+    fault = f"{INSIDE}{FRAME}length is 4 but {LEAST}"
+    yield row("normalize of a cut frame to a full output", ["normalize"], (1, b"", fault), PING[:4], stdout=full)
+    yield row("normalize of a cut frame, no standard error", ["normalize"], (1, b"", ""), PING[:4], closed="2>&-")
+    yield row("nlas of a fault behind a line, no standard error", ["nlas"], (1, b"0001 1 aa\n", ""), BLOCK + b"\5", closed="2>&-")
+    yield row("a wrong word, no standard error", ["help"], (2, b"", ""), PING, closed="2>&-")
+    yield row("a wrong word and a closed input", ["help"], (2, b"", USAGE), closed="0<&-")
+    yield row("a wrong word and a closed output", ["help"], (2, b"", USAGE), PING, closed="1>&-")
+    yield row("normalize, no standard error", ["normalize"], (0, PING, ""), PING, closed="2>&-")
+
+
+def main():
+    program = built("netlink_frame")
+
+    def fault_of(row):
+        name, words, wanted, given, how = row
+        closed = how.pop("closed", None)
+        words = [program, *words]
+        if closed:
+            words = ["sh", "-c", f'exec "$@" {closed}', "sh", *words]
+        answer = run(words, given, **how)
+        return None if answer == wanted else f"{name}: answered {answer} and not {wanted}"
+
+    here, broken = os.pipe()
+    os.close(here)
+    full = os.open("/dev/full", os.O_WRONLY)
+    folder = os.open("/", os.O_RDONLY)
+    rows = [*good_rows(), *refused_rows(), *usage_rows(), *failing_rows(folder, full, broken)]
+    faults = [it for it in side_by_side(fault_of, rows) if it]
+    print(f"{len(rows)} ends of the program were looked at")
+    tally("statuses", faults, len(rows) - len(faults))
+
+
+main()
