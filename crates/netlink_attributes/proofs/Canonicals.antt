@@ -8,8 +8,8 @@ use Rattle.netlink_attributes.specs.Block.{IsBlockOf, IsCanonicalBlock}
 use Rattle.netlink_attributes.specs.Sizes.{length-attribute_text}
 use Rattle.netlink_attributes.specs.Views.{length_field}
 use Rattle.netlink_attributes.specs.Walk.{Starts, IsFault}
-use Rattle.netlink_attributes.proofs.Blocks.{block_walks}
-use Rattle.netlink_attributes.proofs.Starting.{starts-attribute_of, starts-fault, starts-length_field, starts-rest, nothing_starts}
+use Rattle.netlink_attributes.specs.BlockLaws.{block_walks}
+use Rattle.netlink_attributes.specs.StartLaws.{starts-attribute_of, starts-fault, starts-length_field, starts-rest, nothing_starts}
 
 -- zeros follow the first `size` bytes up to a multiple of 4
 abbrev pub IsZeroPadded : List ℕ → ℕ → Type 0

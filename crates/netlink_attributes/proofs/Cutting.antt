@@ -13,8 +13,8 @@ use Rattle.netlink_attributes.specs.Places.{ends_from}
 use Rattle.netlink_attributes.specs.Sizes.{length-attribute_text}
 use Rattle.netlink_attributes.specs.Views.{length_field}
 use Rattle.netlink_attributes.specs.Walk.{Walk, Starts, IsFault}
-use Rattle.netlink_attributes.proofs.Starting.{starts-length_field, starts-length, starts-rest}
-use Rattle.netlink_attributes.proofs.Walking.{walk_once}
+use Rattle.netlink_attributes.specs.StartLaws.{starts-length_field, starts-length, starts-rest}
+use Rattle.netlink_attributes.specs.WalkLaws.{walk_once}
 
 -- ---- lists
 

@@ -1,13 +1,10 @@
-pub mod Blocks
 pub mod Canonicals
 pub mod Cutting
-pub mod Fields
+pub mod Finding
 pub mod Older
-pub mod Passing
 pub mod Normalizing
 pub mod Placing
 pub mod Replacing
-pub mod Starting
 pub mod Values
 pub mod Walking
 pub mod Writing

@@ -9,9 +9,9 @@ use Rattle.netlink_attributes.specs.Sizes.{length-attribute_text}
 use Rattle.netlink_attributes.specs.Block.{canonical_block, IsCanonicalBlock}
 use Rattle.netlink_attributes.specs.Views.{length_field, attribute_of}
 use Rattle.netlink_attributes.specs.Walk.{Walk, Starts}
-use Rattle.netlink_attributes.proofs.Blocks.{walked_canonical, unchanged, block_push, canonical_walk, canonical_walked}
-use Rattle.netlink_attributes.proofs.Starting.{starts-length_field}
-use Rattle.netlink_attributes.proofs.Walking.{walk_once}
+use Rattle.netlink_attributes.specs.BlockLaws.{walked_canonical, written_fixed, block_push, canonical_walk, canonical_walked}
+use Rattle.netlink_attributes.specs.StartLaws.{starts-length_field}
+use Rattle.netlink_attributes.specs.WalkLaws.{walk_once}
 
 -- bytes with a walk without fault have none with one
 pub no_fault : (bytes : List ℕ) (x y : List Attribute) (fault : DecodeError) → Walk bytes x None → Walk bytes y (Some fault) → ⊥
@@ -69,7 +69,7 @@ answer_canonical bytes (Ok v) (x, walk, items) = rw items (walked_canonical byte
 answer_canonical bytes (Err e) answer = tt
 
 pub answer_unchanged : (bytes : List ℕ) (result : Result (Vec ℕ Global) DecodeError) → IsAnswer bytes result → IfOk result (λ v. (v.items ≡ bytes) ↔ IsCanonicalBlock bytes)
-answer_unchanged bytes (Ok v) (x, walk, items) = rw items (unchanged bytes x walk)
+answer_unchanged bytes (Ok v) (x, walk, items) = rw items (written_fixed bytes x walk)
 answer_unchanged bytes (Err e) answer = tt
 
 -- the text of the attribute that bytes start with

@@ -7,8 +7,8 @@ use Rattle.netlink_attributes.specs.Block.{canonical_block, IsBlockOf, IsCanonic
 use Rattle.netlink_attributes.specs.Nla.{attribute_with}
 use Rattle.netlink_attributes.specs.OlderBlock.{both_flags, older_written_kind, older_canonical_block, IsOlderBlockOf, IsOlderCanonicalBlock}
 use Rattle.netlink_attributes.specs.Walk.{Walk}
-use Rattle.netlink_attributes.proofs.Blocks.{block_walks, block_text}
-use Rattle.netlink_attributes.proofs.Walking.{walk_once}
+use Rattle.netlink_attributes.specs.BlockLaws.{block_walks, block_text}
+use Rattle.netlink_attributes.specs.WalkLaws.{walk_once}
 
 older_block : (bytes : List ℕ) (all : List Attribute) → IsOlderBlockOf bytes all → IsBlockOf bytes all
 older_block bytes [] none = none

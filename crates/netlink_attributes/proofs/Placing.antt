@@ -6,7 +6,7 @@ use Rattle.netlink_attributes.specs.Attribute.{Attribute, padded_size}
 use Rattle.netlink_attributes.specs.Places.{ends_from}
 use Rattle.netlink_attributes.specs.Views.{length_field}
 use Rattle.netlink_attributes.specs.Walk.{Starts, Walk}
-use Rattle.netlink_attributes.proofs.Starting.{nothing_starts, starts-length_field, starts-rest, starts-length, starts-fault, starts-attribute_of}
+use Rattle.netlink_attributes.specs.StartLaws.{nothing_starts, starts-length_field, starts-rest, starts-length, starts-fault, starts-attribute_of}
 
 -- where no attribute starts, none is left
 pub none_left : (rest : List ℕ) (more : List Attribute) (fault : Option DecodeError) (at left : ℕ) → Walk rest more fault → ((a : Attribute) (r : List ℕ) → Starts rest a r → ⊥) → slice_get (ends_from at more) left ≡ None

@@ -12,7 +12,7 @@ use Rattle.netlink_attributes.specs.Attribute.{Attribute, attribute_text, paddin
 use Rattle.netlink_attributes.specs.Sizes.{length-attribute_text}
 use Rattle.netlink_attributes.specs.Places.{ends_from, ends_of, value_part, value_place, replaced, HasValueOf, IsWritten}
 use Rattle.netlink_attributes.specs.Walk.{Starts, Walk}
-use Rattle.netlink_attributes.proofs.Starting.{nothing_starts}
+use Rattle.netlink_attributes.specs.StartLaws.{nothing_starts}
 
 -- what is put behind a front
 put_behind : (front rest text : List ℕ) (at n : ℕ) → at ≡ length front + n → put_at (front ++ rest) at text ≡ front ++ put_at rest n text

@@ -9,7 +9,7 @@ use Rattle.netlink_attributes.specs.Attribute.{FitsAttribute, padded, padding}
 use Rattle.netlink_attributes.specs.Block.{canonical_block}
 use Rattle.netlink_attributes.specs.Nla.{attribute_with, attributes_of, AllFit}
 use Rattle.netlink_attributes.specs.Walk.{Walk}
-use Rattle.netlink_attributes.proofs.Blocks.{written_walks}
+use Rattle.netlink_attributes.specs.BlockLaws.{written_walks}
 use Rattle.netlink_attributes.specs.Sizes.{length-written}
 
 -- the pieces of an attribute, and the rest of the buffer

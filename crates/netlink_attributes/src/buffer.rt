@@ -245,7 +245,7 @@ pub(crate) fn is_network_kind(kind: u16) -> bool
 }
 
 /// The length field of an attribute's bytes.
-#[tactic(auto, using(crate::proofs::Fields::by_item))]
+#[tactic(auto, using(crate::specs::FieldLaws::by_item))]
 #[inline(always)]
 fn length_at(bytes: &[u8]) -> u16
     requires { 2 ≤ length bytes.now }
@@ -255,7 +255,7 @@ fn length_at(bytes: &[u8]) -> u16
 }
 
 /// The kind field of an attribute's bytes.
-#[tactic(auto, using(crate::proofs::Fields::by_item))]
+#[tactic(auto, using(crate::specs::FieldLaws::by_item))]
 #[inline(always)]
 fn kind_at(bytes: &[u8]) -> u16
     requires { 4 ≤ length bytes.now }

@@ -12,6 +12,7 @@ ghost use Rattle.netlink_attributes.specs.Steps.{unread, GivesWalk};
 ghost use Rattle.netlink_attributes.specs.Nla.{kept_attribute};
 ghost use Rattle.netlink_attributes.specs.OlderBlock.{older_canonical_block, IsOlderCanonicalBlock};
 ghost use Rattle.netlink_attributes.specs.Places.{value_place, replaced, HasValueOf, IsWritten};
+ghost use Rattle.netlink_attributes.specs.Reading.{attributes_in};
 ghost use Rattle.netlink_attributes.specs.Views.{attribute_of, shown, storage_of, HoldsAttribute};
 ghost use Rattle.netlink_attributes.specs.Walk.{Walk, Item, Gives};
 ghost use Rattle.netlink_attributes.specs.declared.buffer.NlaBuffer.{NlaBuffer};
@@ -117,6 +118,17 @@ pub fn block_unique(a: &[u8], b: &[u8])
 pub fn fixed_points(bytes: &[u8])
     ensures fixed { (all : List Attribute) → Walk bytes.now all None → (canonical_block all ≡ bytes.now) ↔ IsCanonicalBlock bytes.now }
     ensures canonical { (all : List Attribute) → Walk bytes.now all None → IsCanonicalBlock (canonical_block all) }
+{}
+
+/// The function that reads a block gives the attributes of its walk, exactly where that has no
+/// fault; what is written of them is the bytes exactly if these are canonical.
+pub fn attributes_read()
+    ensures walk { (bytes : List ℕ) (all : List Attribute) → IsBytes bytes
+        → (attributes_in bytes ≡ Some all) ↔ Walk bytes all None }
+    ensures canonical { (bytes : List ℕ) (all : List Attribute) → attributes_in bytes ≡ Some all
+        → (canonical_block all ≡ bytes) ↔ IsCanonicalBlock bytes }
+    ensures written { (all : List Attribute) → All FitsAttribute all
+        → attributes_in (canonical_block all) ≡ Some all }
 {}
 
 /// A block that was canonical while an attribute with both flag bits lost the one for byte order is so still; what was written of its walk then, and what is written of it now, is the block itself.

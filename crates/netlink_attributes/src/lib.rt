@@ -7,6 +7,7 @@ mod buffer;
 mod canonical;
 mod constants;
 mod default;
+mod find;
 mod iterator;
 pub mod laws;
 mod nla;
@@ -23,6 +24,7 @@ pub use crate::constants::{
     NLA_ALIGNTO, NLA_F_NESTED, NLA_F_NET_BYTEORDER, NLA_HEADER_SIZE, NLA_TYPE_MASK,
 };
 pub use crate::default::DefaultNla;
+pub use crate::find::{nla_find, nla_find_raw};
 pub use crate::iterator::NlasIterator;
 pub use crate::nla::{Nla, emit_nla, nla_buffer_len, nla_fits};
 pub use crate::nlas::Nlas;

@@ -8,14 +8,22 @@ pub mod Sizes
 -- the words of the crates below, for those who use this one alone
 pub use Rattle.netlink_attributes.specs.Attribute
 pub use Rattle.netlink_attributes.specs.Block
+pub use Rattle.netlink_attributes.specs.BlockLaws
 pub use Rattle.netlink_attributes.specs.Cuts
+pub use Rattle.netlink_attributes.specs.FieldLaws
+pub use Rattle.netlink_attributes.specs.Kinds
 pub use Rattle.netlink_attributes.specs.Nla
 pub use Rattle.netlink_attributes.specs.OlderBlock
+pub use Rattle.netlink_attributes.specs.Passing
 pub use Rattle.netlink_attributes.specs.Places
+pub use Rattle.netlink_attributes.specs.Reading
+pub use Rattle.netlink_attributes.specs.ReadingLaws
 pub use Rattle.netlink_attributes.specs.Sizes as AttributeSizes
+pub use Rattle.netlink_attributes.specs.StartLaws
 pub use Rattle.netlink_attributes.specs.Steps
 pub use Rattle.netlink_attributes.specs.Views
 pub use Rattle.netlink_attributes.specs.Walk
+pub use Rattle.netlink_attributes.specs.WalkLaws
 pub use Rattle.netlink_bytes.specs.Causes
 pub use Rattle.netlink_bytes.specs.Contexts
 pub use Rattle.netlink_bytes.specs.NonZero

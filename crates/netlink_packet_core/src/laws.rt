@@ -24,9 +24,9 @@ use crate::message::NetlinkMessage;
 use crate::payload::NetlinkPayload;
 use crate::traits::{NetlinkDeserializable, NetlinkProtocol};
 pub use netlink_attributes::laws::{
-    attributes_equal, block_unique, canonical_walks, fixed_points, older_block_kept,
-    slice_views_equal, value_replaced, views_equal, walk_cut, walk_given, walk_join, walk_stops,
-    walk_total, walk_unique, walks_equal, written_reads_back, written_walks,
+    attributes_equal, attributes_read, block_unique, canonical_walks, fixed_points,
+    older_block_kept, slice_views_equal, value_replaced, views_equal, walk_cut, walk_given,
+    walk_join, walk_stops, walk_total, walk_unique, walks_equal, written_reads_back, written_walks,
 };
 pub use netlink_bytes::laws::values_equal;
 use netlink_bytes::{DecodeError, Storage};

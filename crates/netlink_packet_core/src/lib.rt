@@ -66,6 +66,8 @@ pub use netlink_attributes::emit_nla;
 pub use netlink_attributes::is_canonical_nlas;
 pub use netlink_attributes::nla_align;
 pub use netlink_attributes::nla_buffer_len;
+pub use netlink_attributes::nla_find;
+pub use netlink_attributes::nla_find_raw;
 pub use netlink_attributes::nla_fits;
 pub use netlink_attributes::nla_place;
 pub use netlink_attributes::nlas_value_mut;

@@ -1,4 +1,4 @@
-use Rattle.netlink_attributes.proofs.Blocks.{written_alike}
+use Rattle.netlink_attributes.specs.BlockLaws.{written_alike}
 use Rattle.netlink_attributes.proofs.laws.block_unique.Goals as goal
 
 pub returns : goal.returns

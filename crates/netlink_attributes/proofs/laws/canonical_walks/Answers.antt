@@ -1,4 +1,4 @@
-use Rattle.netlink_attributes.proofs.Blocks.{canonical_walk, canonical_walked}
+use Rattle.netlink_attributes.specs.BlockLaws.{canonical_walk, canonical_walked}
 use Rattle.netlink_attributes.proofs.laws.canonical_walks.Goals as goal
 
 pub returns-clause-exists : goal.returns-clause-exists

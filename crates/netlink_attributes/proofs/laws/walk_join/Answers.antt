@@ -1,4 +1,4 @@
-use Rattle.netlink_attributes.proofs.Blocks.{block_walks, block_joined, walk_joined}
+use Rattle.netlink_attributes.specs.BlockLaws.{block_walks, block_joined, walk_joined}
 use Rattle.netlink_attributes.proofs.laws.walk_join.Goals as goal
 
 pub returns-clause-joined : goal.returns-clause-joined

@@ -1,4 +1,4 @@
-use Rattle.netlink_attributes.proofs.Walking.{has_walk}
+use Rattle.netlink_attributes.specs.WalkLaws.{has_walk}
 use Rattle.netlink_attributes.proofs.laws.walk_total.Goals as goal
 
 pub returns : goal.returns

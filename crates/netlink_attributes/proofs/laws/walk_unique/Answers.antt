@@ -1,4 +1,4 @@
-use Rattle.netlink_attributes.proofs.Walking.{walk_once}
+use Rattle.netlink_attributes.specs.WalkLaws.{walk_once}
 use Rattle.netlink_attributes.proofs.laws.walk_unique.Goals as goal
 
 pub returns : goal.returns

@@ -1,4 +1,4 @@
-use Rattle.netlink_attributes.proofs.Blocks.{attribute_of-padded, holds_padded}
+use Rattle.netlink_attributes.specs.BlockLaws.{attribute_of-padded, holds_padded}
 use Rattle.netlink_attributes.proofs.laws.written_reads_back.Goals as goal
 
 pub returns-clause-holds : goal.returns-clause-holds

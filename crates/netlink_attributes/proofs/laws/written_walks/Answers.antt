@@ -1,4 +1,4 @@
-use Rattle.netlink_attributes.proofs.Blocks as blocks
+use Rattle.netlink_attributes.specs.BlockLaws as blocks
 use Rattle.netlink_attributes.proofs.laws.written_walks.Goals as goal
 
 pub returns-clause-walk : goal.returns-clause-walk

@@ -3,7 +3,7 @@ use Rattle.std.specs.Option.{option_map}
 use Rattle.netlink_attributes.specs.Places.{value_part}
 use Rattle.netlink_attributes.specs.Views.{length_field}
 use Rattle.netlink_attributes.proofs.Placing.{none_left, place_next, place_here, same_place}
-use Rattle.netlink_attributes.proofs.Starting.{nothing_starts, starts-fault, starts-length}
+use Rattle.netlink_attributes.specs.StartLaws.{nothing_starts, starts-fault, starts-length}
 use Rattle.netlink_attributes.proofs.place.nla_place.Goals as goal
 
 pub returns-then-left-eq0-clause-place : goal.returns-then-left-eq0-clause-place

@@ -9,15 +9,19 @@ use Rattle.netlink_attributes.specs.Attribute.{Attribute, attribute_text, paddin
 use Rattle.netlink_attributes.specs.Sizes.{length-attribute_text}
 use Rattle.netlink_attributes.specs.Views.{length_field, attribute_of, HoldsAttribute}
 use Rattle.netlink_attributes.specs.Walk.{Starts, IsFault}
-use Rattle.netlink_attributes.proofs.Fields.{length_field-text, attribute_of-text, raw_kind-fits, length_field-fits, length-value, part_and_rest, text-attribute_of}
+use Rattle.netlink_attributes.specs.FieldLaws.{length_field-text, attribute_of-text, raw_kind-fits, length_field-fits, length-value, part_and_rest, text-attribute_of}
 
-pub starts-length_field : (bytes : List ℕ) (a : Attribute) (rest : List ℕ) → Starts bytes a rest → length_field bytes ≡ 4 + length a.value
+pub starts-length_field : (bytes : List ℕ) (a : Attribute) (rest : List ℕ) → Starts bytes a rest
+    → length_field bytes ≡ 4 + length a.value
 starts-length_field bytes a rest starts = ap length_field starts.whole ∙ length_field-text a (starts.gap ++ rest) starts.fits
 
-pub starts-attribute_of : (bytes : List ℕ) (a : Attribute) (rest : List ℕ) → Starts bytes a rest → attribute_of bytes ≡ a
+pub starts-attribute_of : (bytes : List ℕ) (a : Attribute) (rest : List ℕ) → Starts bytes a rest
+    → attribute_of bytes ≡ a
 starts-attribute_of bytes a rest starts = ap attribute_of starts.whole ∙ attribute_of-text a (starts.gap ++ rest) starts.fits
 
-pub starts-length : (bytes : List ℕ) (a : Attribute) (rest : List ℕ) → (starts : Starts bytes a rest) → length bytes ≡ 4 + length a.value + (length starts.gap + length rest)
+pub starts-length : (bytes : List ℕ) (a : Attribute) (rest : List ℕ)
+    → (starts : Starts bytes a rest)
+    → length bytes ≡ 4 + length a.value + (length starts.gap + length rest)
 starts-length bytes a rest starts =
     let text = length-attribute_text a in
     let whole = length-append (attribute_text a) (starts.gap ++ rest) in
@@ -25,7 +29,8 @@ starts-length bytes a rest starts =
     ap length starts.whole ∙ omega arith
 
 -- the rest stands behind the attribute and the whole of its padding
-pub starts-rest : (bytes : List ℕ) (a : Attribute) (rest : List ℕ) → Starts bytes a rest → rest ≡ drop (padded_size a) bytes
+pub starts-rest : (bytes : List ℕ) (a : Attribute) (rest : List ℕ) → Starts bytes a rest
+    → rest ≡ drop (padded_size a) bytes
 starts-rest bytes a rest starts =
     let text = length-attribute_text a in
     let front = length-append (attribute_text a) starts.gap in
@@ -35,11 +40,13 @@ starts-rest bytes a rest starts =
       | inr short ↦ (let none : length rest ≡ 0 = ap length short.1 in short.1 ∙ sym (drop_all (padded_size a) bytes (omega arith)))
     ]
 
-pub nothing_starts : (bytes : List ℕ) (a : Attribute) (rest : List ℕ) → bytes ≡ [] → Starts bytes a rest → ⊥
+pub nothing_starts : (bytes : List ℕ) (a : Attribute) (rest : List ℕ) → bytes ≡ []
+    → Starts bytes a rest → ⊥
 nothing_starts bytes a rest none starts = omega (arith, starts-length bytes a rest starts, ap length none)
 
 -- bytes that start with an attribute have no fault
-pub starts-fault : (bytes : List ℕ) (a : Attribute) (rest : List ℕ) (fault : DecodeError) → Starts bytes a rest → IsFault bytes fault → ⊥
+pub starts-fault : (bytes : List ℕ) (a : Attribute) (rest : List ℕ) (fault : DecodeError)
+    → Starts bytes a rest → IsFault bytes fault → ⊥
 starts-fault bytes a rest (NlaBufferTooSmall size least) starts is = omega (arith, is.0, starts-length bytes a rest starts)
 starts-fault bytes a rest (NlaLengthMismatch size said) starts is = omega (arith, is.1, starts-length bytes a rest starts, starts-length_field bytes a rest starts)
 starts-fault bytes a rest (NlaInvalidLength least said) starts is = omega (arith, is.1, starts-length_field bytes a rest starts)
@@ -62,13 +69,15 @@ fault_once bytes (NlaInvalidLength m n) _ p q = absurd q
 fault_once bytes _ g p q = absurd p
 
 -- the gap before the next multiple of 4, or to the end of the bytes
-gap_sizes : (field end size value : ℕ) → field ≤ size → field ≤ end → end < field + 4 → end % 4 ≡ 0 → field ≡ 4 + value
+gap_sizes : (field end size value : ℕ) → field ≤ size → field ≤ end → end < field + 4 → end % 4 ≡ 0
+    → field ≡ 4 + value
     → (min (end - field) (size - field) ≡ padding value) ⊎ ((min (end - field) (size - field) < padding value) × (size ≤ end))
 gap_sizes field end size value most low high multiple is =
     elim (cases_lt size end) [ inl short ↦ inr (omega arith, omega arith) | inr full ↦ inl (omega arith) ]
 
 -- bytes that hold an attribute start with it, and the rest stands at the next multiple of 4
-pub starts_held : (bytes : List ℕ) (end : ℕ) → IsBytes bytes → HoldsAttribute bytes → length_field bytes ≤ end → end < length_field bytes + 4 → end % 4 ≡ 0
+pub starts_held : (bytes : List ℕ) (end : ℕ) → IsBytes bytes → HoldsAttribute bytes
+    → length_field bytes ≤ end → end < length_field bytes + 4 → end % 4 ≡ 0
     → Starts bytes (attribute_of bytes) (drop end bytes)
 starts_held bytes end each holds low high multiple =
     let field : ℕ = length_field bytes in

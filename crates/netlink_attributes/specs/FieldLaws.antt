@@ -8,13 +8,15 @@ use Rattle.netlink_attributes.specs.Views.{length_field, raw_kind, attribute_of}
 
 -- ---- by item
 
-pub length_field-items : (bytes : List ℕ) → 2 ≤ length bytes → length_field bytes ≡ get_or bytes 0 0 + 256 * get_or bytes 1 0
+pub length_field-items : (bytes : List ℕ) → 2 ≤ length bytes
+    → length_field bytes ≡ get_or bytes 0 0 + 256 * get_or bytes 1 0
 unfolding number_le
 length_field-items [] long = absurd (omega arith)
 length_field-items (a ∷ []) long = absurd (omega arith)
 length_field-items (a ∷ b ∷ more) long = omega arith
 
-pub raw_kind-items : (bytes : List ℕ) → 4 ≤ length bytes → raw_kind bytes ≡ get_or bytes 2 0 + 256 * get_or bytes 3 0
+pub raw_kind-items : (bytes : List ℕ) → 4 ≤ length bytes
+    → raw_kind bytes ≡ get_or bytes 2 0 + 256 * get_or bytes 3 0
 unfolding number_le
 raw_kind-items [] long = absurd (omega arith)
 raw_kind-items (a ∷ []) long = absurd (omega arith)
@@ -27,15 +29,18 @@ pub ruleset by_item = (length_field-items, raw_kind-items)
 
 -- ---- in a text
 
-pub length_field-text : (a : Attribute) (more : List ℕ) → FitsAttribute a → length_field (attribute_text a ++ more) ≡ 4 + length a.value
+pub length_field-text : (a : Attribute) (more : List ℕ) → FitsAttribute a
+    → length_field (attribute_text a ++ more) ≡ 4 + length a.value
 unfolding text_le
 length_field-text a more fits = number_le-text_le (4 + length a.value) 2 (omega (arith, fits.value))
 
-pub raw_kind-text : (a : Attribute) (more : List ℕ) → FitsAttribute a → raw_kind (attribute_text a ++ more) ≡ a.kind
+pub raw_kind-text : (a : Attribute) (more : List ℕ) → FitsAttribute a
+    → raw_kind (attribute_text a ++ more) ≡ a.kind
 unfolding text_le
 raw_kind-text a more fits = number_le-text_le a.kind 2 fits.kind
 
-pub drop-text : (a : Attribute) (more : List ℕ) → drop 4 (attribute_text a ++ more) ≡ a.value ++ more
+pub drop-text : (a : Attribute) (more : List ℕ)
+    → drop 4 (attribute_text a ++ more) ≡ a.value ++ more
 unfolding text_le
 drop-text a more = refl
 
@@ -43,7 +48,8 @@ pub same_attribute : (a b : Attribute) → a.kind ≡ b.kind → a.value ≡ b.v
 same_attribute a b p q = λ i. record { kind = p i; value = q i }
 
 -- an attribute reads back from its text, whatever follows
-pub attribute_of-text : (a : Attribute) (more : List ℕ) → FitsAttribute a → attribute_of (attribute_text a ++ more) ≡ a
+pub attribute_of-text : (a : Attribute) (more : List ℕ) → FitsAttribute a
+    → attribute_of (attribute_text a ++ more) ≡ a
 attribute_of-text a more fits =
     let size = length_field-text a more fits in
     let short : length_field (attribute_text a ++ more) - 4 ≡ length a.value = omega (arith, size) in
@@ -60,30 +66,36 @@ after_two bytes long = omega (arith, length-drop 2 bytes)
 pub raw_kind-fits : (bytes : List ℕ) → IsBytes bytes → 4 ≤ length bytes → raw_kind bytes < 2 ^ 16
 raw_kind-fits bytes each long = front-fits 2 (drop 2 bytes) (IsBytes-drop 2 bytes each) (after_two bytes long)
 
-pub length_field-fits : (bytes : List ℕ) → IsBytes bytes → 4 ≤ length bytes → length_field bytes < 2 ^ 16
+pub length_field-fits : (bytes : List ℕ) → IsBytes bytes → 4 ≤ length bytes
+    → length_field bytes < 2 ^ 16
 length_field-fits bytes each long = front-fits 2 bytes each (omega (arith, long))
 
 -- a list from one place on is a part and the rest
-pub part_and_rest : (start end : ℕ) (bytes : List ℕ) → start ≤ end → drop start bytes ≡ take (end - start) (drop start bytes) ++ drop end bytes
+pub part_and_rest : (start end : ℕ) (bytes : List ℕ) → start ≤ end
+    → drop start bytes ≡ take (end - start) (drop start bytes) ++ drop end bytes
 part_and_rest start end bytes order =
     let whole : start + (end - start) ≡ end = omega arith in
     sym (take-append-drop (end - start) (drop start bytes))
     ∙ ap (λ (rest : List ℕ). take (end - start) (drop start bytes) ++ rest) (drop-drop (end - start) start bytes ∙ ap (λ (k : ℕ). drop k bytes) whole)
 
-regrouped : (a b c d x₀ x₁ x₂ : List ℕ) → x₀ ≡ a ++ x₁ → x₁ ≡ b ++ x₂ → x₂ ≡ c ++ d → x₀ ≡ (a ++ (b ++ c)) ++ d
+regrouped : (a b c d x₀ x₁ x₂ : List ℕ) → x₀ ≡ a ++ x₁ → x₁ ≡ b ++ x₂ → x₂ ≡ c ++ d
+    → x₀ ≡ (a ++ (b ++ c)) ++ d
 regrouped a b c d x₀ x₁ x₂ p q r =
     let right : (a ++ (b ++ c)) ++ d ≡ a ++ (b ++ (c ++ d)) = simp append_assoc in
     p ∙ ap (λ (x : List ℕ). a ++ x) (q ∙ ap (λ (x : List ℕ). b ++ x) r) ∙ sym right
 
 -- the size of the value that the bytes begin with
-pub length-value : (bytes : List ℕ) → length_field bytes ≤ length bytes → length (attribute_of bytes).value ≡ length_field bytes - 4
+pub length-value : (bytes : List ℕ) → length_field bytes ≤ length bytes
+    → length (attribute_of bytes).value ≡ length_field bytes - 4
 length-value bytes most =
     let taken = length-take (length_field bytes - 4) (drop 4 bytes) in
     let left = length-drop 4 bytes in
     omega arith
 
 -- bytes that hold an attribute are its text, and what follows
-pub text-attribute_of : (bytes : List ℕ) → IsBytes bytes → 4 ≤ length bytes → 4 ≤ length_field bytes → length_field bytes ≤ length bytes → bytes ≡ attribute_text (attribute_of bytes) ++ drop (length_field bytes) bytes
+pub text-attribute_of : (bytes : List ℕ) → IsBytes bytes → 4 ≤ length bytes → 4 ≤ length_field bytes
+    → length_field bytes ≤ length bytes
+    → bytes ≡ attribute_text (attribute_of bytes) ++ drop (length_field bytes) bytes
 text-attribute_of bytes each long least most =
     let size : 4 + length (attribute_of bytes).value ≡ length_field bytes = omega (arith, length-value bytes most) in
     regrouped (text_le (4 + length (attribute_of bytes).value) 2) (text_le (raw_kind bytes) 2) (attribute_of bytes).value (drop (length_field bytes) bytes)
