@@ -1,6 +1,7 @@
 //! Worked rows of each public call, and the two tests of the Rust crate.
 
 mod canonical;
+mod cuts;
 mod laws;
 mod places;
 mod views;

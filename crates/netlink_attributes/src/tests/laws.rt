@@ -1,15 +1,15 @@
-//! Each law is called once. What it says stands in its clauses.
+//! Calls of the laws: what a law says stands in its clauses, and a call does nothing when it runs.
 
 use super::TWO;
 use crate::laws::{
-    attributes_equal, block_unique, fixed_points, older_block_kept, slice_views_equal,
-    value_replaced, views_equal, walk_cut, walk_given, walk_join, walk_stops, walk_total,
-    walk_unique, walks_equal, written_reads_back, written_walks,
+    attributes_equal, attributes_read, block_unique, canonical_walks, fixed_points,
+    older_block_kept, slice_views_equal, value_replaced, views_equal, walk_cut, walk_given,
+    walk_join, walk_stops, walk_total, walk_unique, walks_equal, written_reads_back, written_walks,
 };
 use crate::nla_place;
 
 #[test]
-fn the_laws_hold() {
+fn each_law_can_be_called() {
     walk_total();
     walk_unique();
     walk_given();
@@ -21,6 +21,8 @@ fn the_laws_hold() {
     written_reads_back();
     written_walks();
     walk_cut(&TWO, 15);
+    canonical_walks(&TWO);
+    attributes_read();
     walk_join(&TWO, &TWO);
     block_unique(&TWO, &TWO);
     fixed_points(&TWO);

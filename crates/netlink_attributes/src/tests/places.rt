@@ -1,7 +1,7 @@
 //! Values lent for writing: what is found, what is written, and what the block then walks as.
 
 use super::TWO;
-use crate::{NlasIterator, nlas_value_mut};
+use crate::{NlasIterator, nla_find, nla_find_raw, nlas_value_mut, write_nla_value};
 use netlink_bytes::DecodeError;
 
 #[test]
@@ -24,6 +24,33 @@ fn a_value_is_written_in_place(rt: HostRuntime) {
         None => assert!(rt; false),
     }
     assert!(rt; walks_as(&block, &[(1, &[0xaa]), (2, &[8, 0, 2, 0])], None));
+}
+
+#[test]
+fn a_value_is_written_over(rt: HostRuntime) {
+    let damaged: [u8; 9] = [4, 0, 1, 0, 3, 0, 7, 0, 0xff];
+    let mut block = TWO;
+    assert!(rt; write_nla_value(&mut block, 1, &[8, 0, 2, 0]));
+    assert!(rt; block == [5, 0, 1, 0, 0xaa, 0, 0, 0, 8, 0, 2, 0, 8, 0, 2, 0]);
+    assert!(rt; walks_as(&block, &[(1, &[0xaa]), (2, &[8, 0, 2, 0])], None));
+    assert!(rt; write_nla_value(&mut block, 0, &[0xbb]));
+    assert!(rt; walks_as(&block, &[(1, &[0xbb]), (2, &[8, 0, 2, 0])], None));
+    let refused: [(usize, &[u8]); 5] = [
+        (1, &[1, 2, 3]),
+        (1, &[1, 2, 3, 4, 5]),
+        (2, &[1, 2, 3, 4]),
+        (2, &[]),
+        (usize::MAX, &[]),
+    ];
+    for (index, value) in refused {
+        let mut block = TWO;
+        assert!(rt; !write_nla_value(&mut block, index, value));
+        assert!(rt; block == TWO);
+    }
+    let mut block = damaged;
+    assert!(rt; write_nla_value(&mut block, 0, &[]));
+    assert!(rt; !write_nla_value(&mut block, 1, &[]));
+    assert!(rt; block == damaged);
 }
 
 #[test]
@@ -56,6 +83,37 @@ fn values_in_front_of_a_fault(rt: HostRuntime) {
     }
     assert!(rt; block == [5, 0, 1, 0, 0xbb, 1, 2, 3, 3, 0, 7, 0]);
     assert!(rt; walks_as(&block, &[(1, &[0xbb])], Some(3)));
+}
+
+#[test]
+fn the_first_of_a_kind_is_found(rt: HostRuntime) {
+    let flagged: &[u8] = &[4, 0, 2, 0x80, 4, 0, 2, 0, 4, 0, 2, 0x40, 3, 0, 7, 0];
+    let rows: [(&[u8], u16, Option<usize>, Option<usize>); 9] = [
+        (&TWO, 1, Some(0), Some(0)),
+        (&TWO, 2, Some(1), Some(1)),
+        (&TWO, 3, None, None),
+        (flagged, 2, Some(0), Some(1)),
+        (flagged, 0x8002, None, Some(0)),
+        (flagged, 0x4002, None, Some(2)),
+        (flagged, 0xc002, None, None),
+        (flagged, 7, None, None),
+        (&[], 0, None, None),
+    ];
+    for (block, kind, index, raw_index) in rows {
+        assert_eq!(rt; nla_find(block, kind), index);
+        assert_eq!(rt; nla_find_raw(block, kind), raw_index);
+    }
+}
+
+/// A value is set by its kind: in the second attribute, whichever stand in front.
+#[test]
+fn a_value_is_set_by_its_kind(rt: HostRuntime) {
+    let mut block = TWO;
+    match nla_find(&block, 2) {
+        Some(index) => assert!(rt; write_nla_value(&mut block, index, &[9, 9, 9, 9])),
+        None => assert!(rt; false),
+    }
+    assert!(rt; walks_as(&block, &[(1, &[0xaa]), (2, &[9, 9, 9, 9])], None));
 }
 
 /// Whether the block walks as these kinds and values, and then ends or has C7 of 4 and this length.

@@ -54,6 +54,15 @@ fn fields_are_read(rt: HostRuntime) {
 }
 
 #[test]
+fn a_view_is_copied(rt: HostRuntime) {
+    let bytes: &[u8] = &[5, 0, 1, 0x80, 0xaa];
+    let view = NlaBuffer::new(bytes);
+    let copy = view;
+    assert!(rt; copy == view);
+    assert!(rt; copy.into_inner() == view.into_inner());
+}
+
+#[test]
 fn damaged_bytes_are_refused(rt: HostRuntime) -> Result<(), Fail> {
     let rows: [(&[u8], u8, &str); 4] = [
         (&[], 5, "buffer has length 0, but an NLA header is 4 bytes"),

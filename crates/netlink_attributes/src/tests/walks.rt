@@ -84,6 +84,19 @@ fn a_walk_ends_for_good(rt: HostRuntime) {
 }
 
 #[test]
+fn a_walk_is_copied(rt: HostRuntime) {
+    let mut walk = NlasIterator::new(&TWO);
+    assert!(rt; walk.next().is_some());
+    let mut copy = walk;
+    assert!(rt; copy == walk);
+    match (copy.next(), walk.next()) {
+        (Some(Ok(a)), Some(Ok(b))) => assert!(rt; a == b && a.raw_kind() == 2),
+        _ => assert!(rt; false),
+    }
+    assert!(rt; copy.next().is_none() && walk.next().is_none());
+}
+
+#[test]
 fn blocks_are_normalised(rt: HostRuntime) -> Result<(), Fail> {
     let rows: [(&[u8], &[u8]); 4] = [
         (&[], &[]),

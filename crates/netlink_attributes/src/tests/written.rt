@@ -88,6 +88,33 @@ fn what_is_parsed_is_written_again(rt: HostRuntime) -> Result<(), Fail> {
 }
 
 #[test]
+fn an_attribute_is_copied(rt: HostRuntime) -> Result<(), Fail> {
+    let nla = DefaultNla::new(6, vec![in rt.alloc(); 1]?);
+    match nla.try_clone(rt.alloc()) {
+        Ok(copy) => {
+            assert!(rt; copy == nla);
+            assert_eq!(rt; copy.kind(), 6);
+            assert_eq!(rt; copy.value_len(), 1);
+            let mut value = [0xff];
+            copy.emit_value(&mut value);
+            assert!(rt; value == [1]);
+        }
+        Err(_) => assert!(rt; false),
+    }
+    Ok(())
+}
+
+#[test]
+fn a_list_is_copied(rt: HostRuntime) {
+    let list = [Flag(9), Flag(8)];
+    let nlas = Nlas(&list);
+    let copy = nlas;
+    assert_eq!(rt; copy.0.len(), 2);
+    assert_eq!(rt; nlas.0.len(), 2);
+    assert!(rt; copy.0[1].0 == 8);
+}
+
+#[test]
 fn a_list_leaves_the_rest(rt: HostRuntime) -> Result<(), Fail> {
     let list = [
         DefaultNla::new(1, vec![in rt.alloc(); 0xaa]?),
