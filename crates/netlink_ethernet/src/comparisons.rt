@@ -61,8 +61,8 @@ impl Comparisons {
     /// Compares the sought number, in host order, with the number of the row at the index, and
     /// adds one to the count.
     ///
-    /// The rows are those of the 102 numbers that have names, by rising number, from index 0.
-    /// No more can be compared once the count is `u32::MAX`.
+    /// The rows are those of the 102 numbers that have names, by rising number, from index 0; so the
+    /// index has to be below 102. The count has to be below `u32::MAX`.
     pub fn compare(&mut self, sought: u16, index: usize) -> Ordering
         requires row { index < 102 }
         requires room { self.old < u32.MAX }

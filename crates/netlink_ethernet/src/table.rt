@@ -117,7 +117,8 @@ fn protocol_at(index: usize) -> EthernetProtocol
     requires { index < 102 }
     ensures { slice_get named index ≡ Some result }
 {
-    PROTOCOLS[index]
+    // By reference the table is part of the program; by value it would be built at each call.
+    *&PROTOCOLS[index]
 }
 
 /// The row in the middle of those from `low` up to `high`, so that at most half of them are left on

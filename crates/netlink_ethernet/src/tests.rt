@@ -49,8 +49,13 @@ fn prints_names_and_hexadecimal_numbers(rt: HostRuntime) -> Result<(), Fail> {
 }
 
 #[test]
-fn protocols_are_told_apart(rt: HostRuntime) {
+fn protocols_are_copied_and_told_apart(rt: HostRuntime) {
     protocols_equal();
+    for protocol in [EthernetProtocol::Ip, EthernetProtocol::Other(7)] {
+        let copy = protocol;
+        assert!(rt; copy == protocol);
+        assert_eq!(rt; copy.value(), protocol.value());
+    }
     assert!(rt; EthernetProtocol::Ip == EthernetProtocol::Ip);
     assert!(rt; EthernetProtocol::Ip != EthernetProtocol::Ipv6);
     assert!(rt; EthernetProtocol::Ip != EthernetProtocol::Other(0x0800));
