@@ -10,19 +10,13 @@ use Rattle.netlink_packet_core.specs.Frame.{Begins, Body, Frame}
 use Rattle.netlink_packet_core.specs.Canonical.{finalized, canonical_frame, IsCanonicalFrame}
 use Rattle.netlink_packet_core.specs.Refusal.{IsFrameFault}
 use Rattle.netlink_packet_core.proofs.Headers.{same_header, header-begins, length-begins, behind-begins, size-begins}
-use Rattle.netlink_packet_core.proofs.Written.{Laws}
+use Rattle.netlink_packet_core.proofs.Written.{Laws, IsCanonicalBody}
 use Rattle.netlink_packet_core.specs.declared.header.NetlinkHeader.{NetlinkHeader}
 use Rattle.netlink_packet_core.specs.declared.message.NetlinkMessage.{NetlinkMessage}
 use Rattle.netlink_packet_core.specs.declared.payload.NetlinkPayload.{NetlinkPayload}
 use Rattle.netlink_packet_core.specs.declared.payload.NetlinkPayload.TheVariants.{Done, Error, Noop, Overrun, InnerMessage}
 
--- what the grammar says of a header and a payload
-pub record IsCanonicalBody {I : Type 0} (decoding : Decoding I) (h : NetlinkHeader) (payload : List ℕ) : Type 0 where
-  pub noop : h.message_type ≡ 1 → length payload ≡ 0
-  pub error : h.message_type ≡ 2 → 4 ≤ length payload
-  pub done : h.message_type ≡ 3 → 4 ≤ length payload
-  pub own : IsOwnType h.message_type → decoding.reading h payload ≡ Some (h.message_type, payload)
-
+-- what canonical bytes are, by a header and a payload
 pub record CanonicalParts {I : Type 0} (decoding : Decoding I) (bytes : List ℕ) (h : NetlinkHeader) (payload : List ℕ) : Type 0 where
   pub whole : bytes ≡ header_text h ++ payload
   pub body : IsCanonicalBody decoding h payload

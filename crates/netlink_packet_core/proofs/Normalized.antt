@@ -8,8 +8,8 @@ use Rattle.netlink_packet_core.specs.Frame.{Frame}
 use Rattle.netlink_packet_core.specs.Canonical.{Fits, IsTooLong, IsCanonicalFrame, canonical_frame}
 use Rattle.netlink_packet_core.specs.Refusal.{IsBodyFault, IsRefusal}
 use Rattle.netlink_packet_core.proofs.Refusals.{no_frame_fault}
-use Rattle.netlink_packet_core.proofs.Written.{Laws, written_is_canonical}
-use Rattle.netlink_packet_core.proofs.Canonicals.{IsCanonicalBody, canonical_parts, canonical_holds, body_back, canonical_is_written}
+use Rattle.netlink_packet_core.proofs.Written.{Laws, IsCanonicalBody, written_is_canonical}
+use Rattle.netlink_packet_core.proofs.Canonicals.{canonical_parts, canonical_holds, body_back, canonical_is_written}
 use Rattle.netlink_packet_core.proofs.Once.{frame_once, written_same, body_in_range}
 use Rattle.netlink_packet_core.specs.declared.header.NetlinkHeader.{NetlinkHeader}
 use Rattle.netlink_packet_core.specs.declared.message.NetlinkMessage.{NetlinkMessage}

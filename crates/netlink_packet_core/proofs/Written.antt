@@ -1,12 +1,12 @@
 -- What is written of a message is canonical, and reads back.
-use Rattle.std.proofs.Common.{◌≡◌, ◌↔◌, ℕ, ◌+◌, ◌<◌, ◌≤◌, ◌^◌, Bool, true, List, ◌++◌, drop, length, Some, inr, arith, sym, ap, refl, ◌∙◌, subst, append_assoc, length-append, IsTrue}
+use Rattle.std.proofs.Common.{◌≡◌, ◌↔◌, ℕ, ◌+◌, ◌<◌, ◌≤◌, ◌^◌, Bool, true, List, ◌++◌, drop, length, Some, inr, arith, sym, ap, refl, ◌∙◌, subst, append_assoc, IsTrue}
 use Rattle.netlink_bytes.specs.Numbers.{unsigned}
-use Rattle.netlink_packet_core.specs.Header.{header_text, header_of, HeaderInRange}
+use Rattle.netlink_packet_core.specs.Header.{header_text, header_of, field, HeaderInRange}
 use Rattle.netlink_packet_core.specs.Payload.{payload_text, payload_type, raw_code, PayloadInRange, InnerInRange}
 use Rattle.netlink_packet_core.specs.Protocol.{Encoding, Decoding, IsOwnType, IsLawful}
 use Rattle.netlink_packet_core.specs.Frame.{Body, Frame}
 use Rattle.netlink_packet_core.specs.Canonical.{Fits, finalized, canonical_frame, IsCanonicalFrame}
-use Rattle.netlink_packet_core.specs.Sizes.{length-code, length-header_text}
+use Rattle.netlink_packet_core.specs.Sizes.{length-code, length-header_and}
 use Rattle.netlink_packet_core.proofs.Headers.{header_of-header_text, drop-header_text}
 use Rattle.netlink_packet_core.specs.declared.header.NetlinkHeader.{NetlinkHeader}
 use Rattle.netlink_packet_core.specs.declared.message.NetlinkMessage.{NetlinkMessage}
@@ -81,28 +81,50 @@ own_reads laws Noop i h kind size own = absurd (own.0 kind)
 own_reads laws (Overrun bytes) i h kind size own = absurd (own.3 kind)
 own_reads laws (InnerMessage v) i h kind size own = (own_is_lawful laws v i).again h kind size
 
+-- what the grammar says of a header and a payload
+pub record IsCanonicalBody {I : Type 0} (decoding : Decoding I) (h : NetlinkHeader) (payload : List ℕ) : Type 0 where
+  pub noop : h.message_type ≡ 1 → length payload ≡ 0
+  pub error : h.message_type ≡ 2 → 4 ≤ length payload
+  pub done : h.message_type ≡ 3 → 4 ≤ length payload
+  pub own : IsOwnType h.message_type → decoding.reading h payload ≡ Some (h.message_type, payload)
+
+-- a header, and a payload of its length of which the grammar says so, are a canonical frame
+canonical_from : {I : Type 0} (decoding : Decoding I) (h : NetlinkHeader) (payload : List ℕ) → HeaderInRange h → h.length ≡ 16 + length payload → IsCanonicalBody decoding h payload → IsCanonicalFrame decoding (header_text h ++ payload)
+canonical_from decoding h payload in_range says body =
+    let bytes : List ℕ = header_text h ++ payload in
+    let head : header_of bytes ≡ h = header_of-header_text h payload in_range in
+    let size : length bytes ≡ 16 + length payload = length-header_and h payload in
+    let whole : field 0 4 bytes ≡ 16 + length payload = ap (λ (j : NetlinkHeader). j.length) head ∙ says in
+    let kind : field 4 2 bytes ≡ h.message_type = ap (λ (j : NetlinkHeader). j.message_type) head in
+    let rest : drop 16 bytes ≡ payload = drop-header_text h payload in
+    record {
+      header = omega arith;
+      whole = whole ∙ sym size;
+      noop = λ e. size ∙ ap (λ (n : ℕ). 16 + n) (body.noop (sym kind ∙ e));
+      error = λ e. let four = body.error (sym kind ∙ e) in omega arith;
+      done = λ e. let four = body.done (sym kind ∙ e) in omega arith;
+      own = subst (λ (j : NetlinkHeader). IsOwnType j.message_type → decoding.reading j (drop 16 bytes) ≡ Some (j.message_type, drop 16 bytes)) (sym head)
+          (subst (λ (q : List ℕ). IsOwnType h.message_type → decoding.reading h q ≡ Some (h.message_type, q)) (sym rest) body.own);
+    }
+
 -- what is written is canonical
 pub written_is_canonical : {I : Type 0} {eq : I → I → Bool} {encoding : Encoding I} {decoding : Decoding I} → Laws eq encoding decoding → (m : NetlinkMessage I) → Fits encoding m → InnerInRange decoding m.payload → IsCanonicalFrame decoding (canonical_frame encoding m)
 written_is_canonical {encoding = encoding} {decoding = decoding} laws m fits i =
     let h : NetlinkHeader = (finalized encoding m).header in
-    let text : List ℕ = payload_text encoding m.payload in
-    let bytes : List ℕ = header_text h ++ text in
-    let head : header_of bytes ≡ h = header_of-header_text h text (finalized_in_range laws m fits i) in
-    let size : length bytes ≡ 16 + length text = length-append (header_text h) text ∙ ap (λ (n : ℕ). n + length text) (length-header_text h) in
-    let whole : (header_of bytes).length ≡ 16 + length text = ap (λ (j : NetlinkHeader). j.length) head in
-    let kind : (header_of bytes).message_type ≡ payload_type encoding m.payload = ap (λ (j : NetlinkHeader). j.message_type) head in
-    let rest : drop 16 bytes ≡ text = drop-header_text h text in
     let of_type = sizes laws m.payload i in
-    let reads : IsOwnType h.message_type → decoding.reading h text ≡ Some (h.message_type, text) = own_reads laws m.payload i h refl refl in
-    record {
-      header = omega arith;
-      whole = whole ∙ sym size;
-      noop = λ e. size ∙ ap (λ (n : ℕ). 16 + n) (of_type.0 (sym kind ∙ e));
-      error = λ e. let four = of_type.1 (sym kind ∙ e) in omega arith;
-      done = λ e. let four = of_type.2 (sym kind ∙ e) in omega arith;
-      own = subst (λ (j : NetlinkHeader). IsOwnType j.message_type → decoding.reading j (drop 16 bytes) ≡ Some (j.message_type, drop 16 bytes)) (sym head)
-          (subst (λ (q : List ℕ). IsOwnType h.message_type → decoding.reading h q ≡ Some (h.message_type, q)) (sym rest) reads);
-    }
+    canonical_from decoding h (payload_text encoding m.payload) (finalized_in_range laws m fits i) refl
+    (record { noop = of_type.0; error = of_type.1; done = of_type.2; own = own_reads laws m.payload i h refl refl })
+
+-- and so are a lawful type and text, in any header of theirs
+pub lawful_is_canonical : {I : Type 0} (decoding : Decoding I) (pair : ℕ × List ℕ) → IsLawful decoding pair → (h : NetlinkHeader) → HeaderInRange h → h.message_type ≡ pair.0 → h.length ≡ 16 + length pair.1 → IsCanonicalFrame decoding (header_text h ++ pair.1)
+lawful_is_canonical decoding pair lawful h in_range kind size =
+    canonical_from decoding h pair.1 in_range size
+    (record {
+      noop = λ e. absurd (lawful.own_type.0 (sym kind ∙ e));
+      error = λ e. absurd (lawful.own_type.1 (sym kind ∙ e));
+      done = λ e. absurd (lawful.own_type.2 (sym kind ∙ e));
+      own = λ _. lawful.again h kind size ∙ ap (λ (t : ℕ). Some (t, pair.1)) (sym kind);
+    })
 
 -- one canonical frame is of one header and one payload text
 pub written_once : {I : Type 0} (encoding : Encoding I) (m n : NetlinkMessage I) → HeaderInRange (finalized encoding m).header → HeaderInRange (finalized encoding n).header → canonical_frame encoding m ≡ canonical_frame encoding n → ((finalized encoding m).header ≡ (finalized encoding n).header) × (payload_text encoding m.payload ≡ payload_text encoding n.payload)

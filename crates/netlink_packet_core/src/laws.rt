@@ -1,10 +1,11 @@
 //! Laws over the definitions alone: each has no effect, and its contract is the law. Those of `netlink_attributes` and of equality in the crates below stand here too.
 
-ghost use Rattle.std.specs.Prelude.{◌≡◌, ◌≢◌, ◌↔◌, ◌<◌, ◌≤◌, ◌++◌, ℕ, List, true, IsTrue, take, length};
+ghost use Rattle.std.specs.Prelude.{◌≡◌, ◌≢◌, ◌↔◌, ◌+◌, ◌<◌, ◌≤◌, ◌^◌, ◌++◌, ℕ, List, Some, true, IsTrue, take, length};
 ghost use Rattle.netlink_packet_core.specs.Canonical.{Fits, IsCanonicalFrame, canonical_frame, finalized};
 ghost use Rattle.netlink_packet_core.specs.Frame.{Frame, SamePayload};
-ghost use Rattle.netlink_packet_core.specs.Header.{field};
+ghost use Rattle.netlink_packet_core.specs.Header.{HeaderInRange, field, header_text};
 ghost use Rattle.netlink_packet_core.specs.Payload.{InnerInRange, PayloadInRange, payload_text, payload_type, raw_code};
+ghost use Rattle.netlink_packet_core.specs.Protocol.{IsOwnType};
 ghost use Rattle.netlink_packet_core.specs.Refusal.{IsFrameFault, IsRefusal, SameRefusal};
 ghost use Rattle.netlink_bytes.specs.declared.error.DecodeError.{DecodeError};
 ghost use Rattle.netlink_packet_core.specs.declared.buffer.NetlinkBuffer.{NetlinkBuffer};
@@ -68,6 +69,19 @@ pub fn bodies_equal()
         ↔ ((raw_code a.code ≡ raw_code b.code) × (a.header.items ≡ b.header.items)) }
 {}
 
+/// Two messages are equal exactly if their headers are the same value and their payloads are equal,
+/// and two payloads exactly if they say the same: codes and bytes, and of an inner message what it
+/// stands for. Inner messages have to be in range, as each in hand is by `in_widths`.
+pub fn messages_equal<I: NetlinkProtocol>()
+    ensures message { (a b : NetlinkMessage I)
+        → InnerInRange I.decoding a.payload → InnerInRange I.decoding b.payload
+        → IsTrue (⟦<NetlinkMessage<I> as PartialEq>⟧.eq a b)
+        ↔ ((a.header ≡ b.header) × SamePayload I.decoding a.payload b.payload) }
+    ensures payload { (a b : NetlinkPayload I)
+        → InnerInRange I.decoding a → InnerInRange I.decoding b
+        → IsTrue (⟦<NetlinkPayload<I> as PartialEq>⟧.eq a b) ↔ SamePayload I.decoding a b }
+{}
+
 /// Bytes are the frame of one message at most, by `==`, and have one canonical frame at most.
 pub fn frame_unique<I: NetlinkProtocol>()
     ensures unique { (bytes : List ℕ) (m n : NetlinkMessage I) → Frame I.decoding bytes m → Frame I.decoding bytes n
@@ -93,7 +107,7 @@ pub fn refusal_unique<I: NetlinkDeserializable>()
 
 /// What is written of a message is its one canonical frame: it reads back as the finalized message,
 /// whatever follows, and is no frame at any proper cut. The canonical frames of two messages are
-/// equal exactly if their finalized messages are, by `==`.
+/// equal exactly if their finalized messages are, by `==`. Both messages have to fit.
 pub fn reads_back<I: NetlinkProtocol>(m: &NetlinkMessage<I>, n: &NetlinkMessage<I>, c: &[u8])
     requires first { Fits I.encoding m.now }
     requires second { Fits I.encoding n.now }
@@ -111,6 +125,19 @@ pub fn reads_back<I: NetlinkProtocol>(m: &NetlinkMessage<I>, n: &NetlinkMessage<
     known(&n.payload);
     equal_payloads::<I>();
 }
+
+/// What a protocol reads, of any header and payload, is written as a canonical frame: the type is
+/// one of the protocol's own and fits its field, and a header of that type and of the text's length,
+/// whatever its other fields, and the text behind it are a canonical frame.
+pub fn reading_is_canonical<I: NetlinkProtocol>()
+    ensures own_type { (h : NetlinkHeader) (payload : List ℕ) (pair : ℕ × List ℕ)
+        → I.decoding.reading h payload ≡ Some pair → IsOwnType pair.0 × (pair.0 < 2 ^ 16) }
+    ensures canonical { (h : NetlinkHeader) (payload : List ℕ) (pair : ℕ × List ℕ)
+        → I.decoding.reading h payload ≡ Some pair
+        → (front : NetlinkHeader) → HeaderInRange front
+        → front.message_type ≡ pair.0 → front.length ≡ 16 + length pair.1
+        → IsCanonicalFrame I.decoding (header_text front ++ pair.1) }
+{}
 
 /// A canonical frame cut short is the frame of no message (C9 below 16 bytes, C10 from there on),
 /// and is not canonical: no canonical frame is a proper beginning of another.
