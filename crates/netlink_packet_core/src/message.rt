@@ -1,6 +1,6 @@
 //! A message: a header and what it carries.
 
-ghost use Rattle.std.specs.Prelude.{◌≡◌, ◌≢◌, ◌+◌, ◌++◌, ◌<◌, ◌≤◌, ◌^◌, ◌↔◌, drop, length, true, IsTrue, IfOk, IfErr, IsOkUnless};
+ghost use Rattle.std.specs.Prelude.{◌≡◌, ◌≢◌, ◌+◌, ◌++◌, ◌<◌, ◌≤◌, ◌^◌, ◌⊎◌, ◌↔◌, drop, length, true, IsTrue, IfOk, IfErr, IsOkUnless};
 ghost use Rattle.netlink_packet_core.specs.Canonical.{Fits, finalized};
 ghost use Rattle.netlink_packet_core.specs.Frame.{Frame};
 ghost use Rattle.netlink_packet_core.specs.Header.{HoldsFrame, default_header, header_text};
@@ -98,7 +98,18 @@ impl<'a, I: NetlinkDeserializable> Parseable<NetlinkBuffer<&'a [u8]>> for Netlin
     ghost needs_no_memory = { λ view. AsksNoMemory view.buffer.now };
 
     /// What `deserialize` answers of the view's bytes, which have to hold a whole frame.
-    fn parse(alloc: Global, buf: &NetlinkBuffer<&'a [u8]>) -> Result<Self, DecodeError> {
+    fn parse(alloc: Global, buf: &NetlinkBuffer<&'a [u8]>) -> Result<Self, DecodeError>
+        requires whole { HoldsFrame buf.now.buffer.now }
+        ensures accepts { IfOk result (Frame I.decoding buf.now.buffer.now) }
+        ensures complete { (m : NetlinkMessage I) → Frame I.decoding buf.now.buffer.now m
+            → IsOkUnless result DecodeError.OutOfMemory }
+        ensures refuses { IfErr result (λ e. (e ≡ DecodeError.OutOfMemory)
+            ⊎ IsPayloadFault I.decoding I.wants_memory buf.now.buffer.now e) }
+        ensures no_memory { AsksNoMemory buf.now.buffer.now
+            → IfErr result (λ e. e ≢ DecodeError.OutOfMemory) }
+        // Each refusal, want of memory too, has its cause in the payload.
+        ensures fault { IfErr result (IsPayloadFault I.decoding I.wants_memory buf.now.buffer.now) }
+    {
         read_frame(alloc, buf.buffer)
     }
 }
@@ -114,7 +125,8 @@ impl<I: NetlinkSerializable> NetlinkMessage<I> {
             .is_at_most(u32::MAX as usize - NETLINK_HEADER_LEN)
     }
 
-    /// The size of the written message in bytes.
+    /// The size of the written message in bytes: 16 plus the size of the payload's text, which has to
+    /// be below 2^64.
     pub fn buffer_len(&self) -> usize
         requires size { 16 + length (payload_text I.encoding self.now.payload) < 2 ^ 64 }
         ensures size { result ≡ 16 + length (payload_text I.encoding self.now.payload) }
@@ -156,12 +168,12 @@ impl<I: NetlinkSerializable> Emitable for NetlinkMessage<I> {
 
     ghost takes_longer = { true };
 
-    /// The size of the written message in bytes.
+    /// The size of the written message in bytes, which has to be below 2^64.
     fn buffer_len(&self) -> usize {
         NetlinkMessage::buffer_len(self)
     }
 
-    /// Writes as `serialize` does.
+    /// Writes as `serialize` does, on the same conditions.
     fn emit(&self, buffer: &mut [u8]) {
         self.serialize(buffer);
     }
