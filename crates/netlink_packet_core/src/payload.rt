@@ -14,6 +14,7 @@ use crate::traits::{NetlinkDeserializable, NetlinkSerializable};
 use netlink_bytes::DecodeError;
 use std::alloc::{AllocError, Global};
 use std::error::Error;
+use std::fmt::Write;
 
 /// The payload of a message: one of the four kinds that every protocol shares, or the protocol's own.
 #[derive(Debug, Drop, PartialEq, Eq)]
@@ -148,12 +149,21 @@ fn read_inner<I: NetlinkDeserializable>(
     }
 }
 
-/// The text of a protocol's refusal.
+/// The text of a protocol's refusal. Both strings have room at once: 64 bytes for the protocol's own
+/// words, and 41 for what stands in front of them.
 fn refusal<E: Error>(alloc: Global, message_type: u16, error: &E) -> Result<String, AllocError>
     ensures { IfOk result (λ text. (rest : List ℕ) × (string_bytes text ≡ refusal_text message_type rest)) }
 {
-    let rest = format!(in alloc; "{error}")?;
-    let mut text = format!(in alloc; "Failed to parse message with type {message_type}: ")?;
+    let mut rest = String::with_capacity(alloc, 64)?;
+    match write!(rest, "{error}") {
+        Ok(()) => {}
+        Err(_) => return Err(AllocError),
+    }
+    let mut text = String::with_capacity(alloc, rest.len().saturating_add(41))?;
+    match write!(text, "Failed to parse message with type {message_type}: ") {
+        Ok(()) => {}
+        Err(_) => return Err(AllocError),
+    }
     text.push_str(rest.as_str())?;
     Ok(text)
 }
