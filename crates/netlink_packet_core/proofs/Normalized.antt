@@ -46,8 +46,11 @@ fits_alike {encoding = encoding} {decoding = decoding} laws bytes m n f k fits =
     let size : length (payload_text encoding m.payload) ≡ length (payload_text encoding n.payload) = ap length same.text in
     fits_read encoding decoding bytes m f (omega (arith, fits.size))
 
-pub not_both : {I : Type 0} {eq : I → I → Bool} {encoding : Encoding I} {decoding : Decoding I} → Laws eq encoding decoding → (bytes : List ℕ) (m n : NetlinkMessage I) → Frame decoding bytes m → Frame decoding bytes n → Fits encoding m → IsTooLong encoding n → ⊥
-not_both laws bytes m n f k fits long = let other = fits_alike laws bytes n m k f fits in omega (arith, other.size)
+pub long_alike : {I : Type 0} {eq : I → I → Bool} {encoding : Encoding I} {decoding : Decoding I} → Laws eq encoding decoding → (bytes : List ℕ) (m n : NetlinkMessage I) → Frame decoding bytes m → Frame decoding bytes n → IsTooLong encoding n → IsTooLong encoding m
+long_alike {encoding = encoding} laws bytes m n f k long =
+    let same = frame_once laws bytes m n f k in
+    let size : length (payload_text encoding m.payload) ≡ length (payload_text encoding n.payload) = ap length same.text in
+    omega (arith, long)
 
 -- and are written alike
 pub written_alike : {I : Type 0} {eq : I → I → Bool} {encoding : Encoding I} {decoding : Decoding I} → Laws eq encoding decoding → (bytes : List ℕ) (m n : NetlinkMessage I) → Frame decoding bytes m → Frame decoding bytes n → canonical_frame encoding m ≡ canonical_frame encoding n

@@ -36,25 +36,7 @@ pub fn normalize<I: NetlinkProtocol>(alloc: Global, bytes: &[u8]) -> Result<Vec<
     ensures only_fixed { IfOk result (λ v. v.items ≡ bytes.now → IsCanonicalFrame I.decoding bytes.now) }
 {
     let message = NetlinkMessage::<I>::deserialize(alloc, bytes)?;
-    if !message.fits() {
-        return Err(DecodeError::TooLong);
-    }
-    Ok(written(alloc, message)?)
-}
-
-/// The canonical frame of a message, in a buffer of its exact size.
-fn written<I: NetlinkSerializable + Drop>(
-    alloc: Global,
-    mut message: NetlinkMessage<I>,
-) -> Result<Vec<u8>, AllocError>
-    requires { Fits I.encoding message }
-    ensures { IfOk result (λ v. v.items ≡ canonical_frame I.encoding message) }
-{
-    message.finalize();
-    let size = message.buffer_len();
-    let mut frame = vec![in alloc; 0u8; size]?;
-    message.serialize(&mut frame);
-    Ok(frame)
+    message.into_frame(alloc)
 }
 
 /// Whether the bytes are a canonical frame: what `normalize` leaves as it is. Writes no frame.

@@ -1,7 +1,7 @@
 //! A message: a header and what it carries.
 
-ghost use Rattle.std.specs.Prelude.{◌≡◌, ◌≢◌, ◌+◌, ◌++◌, ◌<◌, ◌≤◌, ◌^◌, ◌⊎◌, ◌↔◌, drop, length, true, IsTrue, IfOk, IfErr, IsOkUnless};
-ghost use Rattle.netlink_packet_core.specs.Canonical.{Fits, finalized};
+ghost use Rattle.std.specs.Prelude.{◌≡◌, ◌≢◌, ◌+◌, ◌++◌, ◌<◌, ◌≤◌, ◌^◌, ◌⊎◌, ◌↔◌, drop, length, true, IsTrue, IfOk, IfErr, IsErrAnd, IsOkUnless, MatchResult};
+ghost use Rattle.netlink_packet_core.specs.Canonical.{Fits, IsTooLong, canonical_frame, finalized};
 ghost use Rattle.netlink_packet_core.specs.Frame.{Frame};
 ghost use Rattle.netlink_packet_core.specs.Header.{HoldsFrame, default_header, header_text};
 ghost use Rattle.netlink_packet_core.specs.Payload.{payload_text};
@@ -158,6 +158,33 @@ impl<I: NetlinkSerializable> NetlinkMessage<I> {
         self.header.write(head);
         let (body, _) = rest.split_at_mut(length - NETLINK_HEADER_LEN);
         self.payload.emit(body);
+    }
+}
+
+impl<I: NetlinkSerializable + Drop> NetlinkMessage<I> {
+    /// The message's one canonical frame, in a vector of its exact size: what `finalize` and
+    /// `serialize` write.
+    ///
+    /// C15 exactly where the message does not fit (`fits`), with no memory asked; otherwise C16 where
+    /// memory was refused for the frame.
+    pub fn into_frame(mut self, alloc: Global) -> Result<Vec<u8>, DecodeError>
+        ensures writes { IfOk result (λ frame. Fits I.encoding self
+            × (frame.items ≡ canonical_frame I.encoding self)) }
+        ensures fits { Fits I.encoding self → MatchResult result
+            (λ frame. frame.items ≡ canonical_frame I.encoding self)
+            (λ e. e ≡ DecodeError.OutOfMemory) }
+        ensures too_long { IsTooLong I.encoding self
+            → IsErrAnd result (λ e. e ≡ DecodeError.TooLong) }
+        ensures refuses { IfErr result (λ e. ((e ≡ DecodeError.TooLong) × IsTooLong I.encoding self)
+            ⊎ ((e ≡ DecodeError.OutOfMemory) × Fits I.encoding self)) }
+    {
+        if !self.fits() {
+            return Err(DecodeError::TooLong);
+        }
+        self.finalize();
+        let mut frame = vec![in alloc; 0u8; self.buffer_len()]?;
+        self.serialize(&mut frame);
+        Ok(frame)
     }
 }
 
