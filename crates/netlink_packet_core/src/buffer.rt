@@ -23,7 +23,7 @@ pub struct NetlinkBuffer<T: Storage> {
 }
 
 impl<T: Storage> NetlinkBuffer<T> {
-    /// A view of any bytes.
+    /// A view of any bytes. Nothing is checked: each other call says what the bytes have to hold.
     #[inline]
     pub fn new(buffer: T) -> Self
         ensures keeps { result.buffer ≡ buffer }
@@ -42,7 +42,8 @@ impl<T: Storage> NetlinkBuffer<T> {
         Ok(NetlinkBuffer { buffer })
     }
 
-    /// The length field: the size of the message in bytes, its header included.
+    /// The length field: the size of the message in bytes, its header included. The storage has to
+    /// hold 4 bytes at least.
     #[inline]
     pub fn length(&self) -> u32
         requires field { 4 ≤ length (T.held self.now.buffer) }
@@ -51,7 +52,7 @@ impl<T: Storage> NetlinkBuffer<T> {
         u32_at(self.buffer.bytes(), 0)
     }
 
-    /// The message type.
+    /// The message type. The storage has to hold 6 bytes at least.
     #[inline]
     pub fn message_type(&self) -> u16
         requires field { 6 ≤ length (T.held self.now.buffer) }
@@ -60,7 +61,7 @@ impl<T: Storage> NetlinkBuffer<T> {
         u16_at(self.buffer.bytes(), 4)
     }
 
-    /// The flags.
+    /// The flags. The storage has to hold 8 bytes at least.
     #[inline]
     pub fn flags(&self) -> u16
         requires field { 8 ≤ length (T.held self.now.buffer) }
@@ -69,7 +70,7 @@ impl<T: Storage> NetlinkBuffer<T> {
         u16_at(self.buffer.bytes(), 6)
     }
 
-    /// The sequence number.
+    /// The sequence number. The storage has to hold 12 bytes at least.
     #[inline]
     pub fn sequence_number(&self) -> u32
         requires field { 12 ≤ length (T.held self.now.buffer) }
@@ -78,7 +79,7 @@ impl<T: Storage> NetlinkBuffer<T> {
         u32_at(self.buffer.bytes(), 8)
     }
 
-    /// The port number.
+    /// The port number. The storage has to hold 16 bytes at least.
     #[inline]
     pub fn port_number(&self) -> u32
         requires field { 16 ≤ length (T.held self.now.buffer) }
@@ -87,7 +88,8 @@ impl<T: Storage> NetlinkBuffer<T> {
         u32_at(self.buffer.bytes(), 12)
     }
 
-    /// The size of the payload in bytes, by the length field, also where that exceeds the storage.
+    /// The size of the payload in bytes, by the length field, also where that exceeds the storage. The
+    /// storage has to hold 4 bytes at least, and the length field has to be 16 at least.
     #[inline]
     pub fn payload_length(&self) -> usize
         requires field { 4 ≤ length (T.held self.now.buffer) }
@@ -95,6 +97,14 @@ impl<T: Storage> NetlinkBuffer<T> {
         ensures size { 16 + result ≡ field 0 4 (T.held self.now.buffer) }
     {
         self.length() as usize - NETLINK_HEADER_LEN
+    }
+
+    /// A view of the same bytes, lent: what a slice is read by, of any storage.
+    #[inline]
+    pub fn borrowed(&self) -> NetlinkBuffer<&[u8]>
+        ensures bytes { result.buffer.now ≡ T.held self.now.buffer }
+    {
+        NetlinkBuffer::new(self.buffer.bytes())
     }
 
     /// What holds the bytes.
@@ -107,7 +117,7 @@ impl<T: Storage> NetlinkBuffer<T> {
 }
 
 impl<T: StorageMut> NetlinkBuffer<T> {
-    /// Sets the length field, and changes nothing else.
+    /// Sets the length field, and changes nothing else. The storage has to hold 4 bytes at least.
     #[inline]
     pub fn set_length(&mut self, value: u32)
         requires field { 4 ≤ length (T.held self.old.buffer) }
@@ -117,7 +127,7 @@ impl<T: StorageMut> NetlinkBuffer<T> {
         put_u32(self.buffer.part_mut(0, 4), value);
     }
 
-    /// Sets the message type, and changes nothing else.
+    /// Sets the message type, and changes nothing else. The storage has to hold 6 bytes at least.
     #[inline]
     pub fn set_message_type(&mut self, value: u16)
         requires field { 6 ≤ length (T.held self.old.buffer) }
@@ -127,7 +137,7 @@ impl<T: StorageMut> NetlinkBuffer<T> {
         put_u16(self.buffer.part_mut(4, 6), value);
     }
 
-    /// Sets the flags, and changes nothing else.
+    /// Sets the flags, and changes nothing else. The storage has to hold 8 bytes at least.
     #[inline]
     pub fn set_flags(&mut self, value: u16)
         requires field { 8 ≤ length (T.held self.old.buffer) }
@@ -137,7 +147,7 @@ impl<T: StorageMut> NetlinkBuffer<T> {
         put_u16(self.buffer.part_mut(6, 8), value);
     }
 
-    /// Sets the sequence number, and changes nothing else.
+    /// Sets the sequence number, and changes nothing else. The storage has to hold 12 bytes at least.
     #[inline]
     pub fn set_sequence_number(&mut self, value: u32)
         requires field { 12 ≤ length (T.held self.old.buffer) }
@@ -147,7 +157,7 @@ impl<T: StorageMut> NetlinkBuffer<T> {
         put_u32(self.buffer.part_mut(8, 12), value);
     }
 
-    /// Sets the port number, and changes nothing else.
+    /// Sets the port number, and changes nothing else. The storage has to hold 16 bytes at least.
     #[inline]
     pub fn set_port_number(&mut self, value: u32)
         requires field { 16 ≤ length (T.held self.old.buffer) }
@@ -157,7 +167,8 @@ impl<T: StorageMut> NetlinkBuffer<T> {
         put_u32(self.buffer.part_mut(12, 16), value);
     }
 
-    /// The payload, lent for writing: the bytes from 16 up to the length become what is written, and no others.
+    /// The payload, lent for writing: the bytes from 16 up to the length become what is written, and
+    /// no others. The storage has to hold a whole frame, as `new_checked` tests.
     pub fn payload_mut(&mut self) -> &mut [u8]
         requires whole { HoldsFrame (T.held self.old.buffer) }
         ensures* writes_back { sem 𝓛 (Lends (the_row T.row) (Array byte 0) self.entry result (λ part. record { buffer = T.holding self.old.buffer (put_at (T.held self.old.buffer) 16 part) })) }
@@ -169,7 +180,9 @@ impl<T: StorageMut> NetlinkBuffer<T> {
 }
 
 impl<'a> NetlinkBuffer<&'a [u8]> {
-    /// The payload: the bytes from 16 up to the length. What follows the length is not looked at.
+    /// The payload: the bytes from 16 up to the length. What follows the length is not looked at. The
+    /// bytes have to hold a whole frame, as `new_checked` tests. Of another storage than a slice,
+    /// `borrowed` gives the view that this is called on.
     #[inline]
     pub fn payload(&self) -> &'a [u8]
         requires whole { HoldsFrame self.now.buffer.now }

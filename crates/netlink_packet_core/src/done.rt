@@ -21,7 +21,7 @@ pub struct DoneBuffer<T: Storage> {
 }
 
 impl<T: Storage> DoneBuffer<T> {
-    /// A view of any bytes.
+    /// A view of any bytes. Nothing is checked: each other call says what the bytes have to hold.
     #[inline]
     pub fn new(buffer: T) -> Self
         ensures keeps { result.buffer ≡ buffer }
@@ -45,6 +45,14 @@ impl<T: Storage> DoneBuffer<T> {
         Ok(DoneBuffer { buffer })
     }
 
+    /// A view of the same bytes, lent: what a slice is read by, of any storage.
+    #[inline]
+    pub fn borrowed(&self) -> DoneBuffer<&[u8]>
+        ensures bytes { result.buffer.now ≡ T.held self.now.buffer }
+    {
+        DoneBuffer::new(self.buffer.bytes())
+    }
+
     /// What holds the bytes.
     #[inline]
     pub fn into_inner(self) -> T
@@ -53,7 +61,8 @@ impl<T: Storage> DoneBuffer<T> {
         self.buffer
     }
 
-    /// The code: 0, or the negated number of an error.
+    /// The code: 0, or the negated number of an error. The storage has to hold 4 bytes at least, as
+    /// `new_checked` tests.
     #[inline]
     pub fn code(&self) -> i32
         requires field { 4 ≤ length (T.held self.now.buffer) }
@@ -64,7 +73,8 @@ impl<T: Storage> DoneBuffer<T> {
 }
 
 impl<'a> DoneBuffer<&'a [u8]> {
-    /// The bytes behind the code.
+    /// The bytes behind the code, of at least 4 bytes in all, as `new_checked` tests. Of another
+    /// storage than a slice, `borrowed` gives the view that this is called on.
     #[inline]
     pub fn extended_ack(&self) -> &'a [u8]
         requires field { 4 ≤ length self.now.buffer.now }
@@ -75,7 +85,7 @@ impl<'a> DoneBuffer<&'a [u8]> {
 }
 
 impl<T: StorageMut> DoneBuffer<T> {
-    /// Sets the code, and changes nothing else.
+    /// Sets the code, and changes nothing else. The storage has to hold 4 bytes at least.
     #[inline]
     pub fn set_code(&mut self, code: i32)
         requires field { 4 ≤ length (T.held self.old.buffer) }
@@ -85,7 +95,8 @@ impl<T: StorageMut> DoneBuffer<T> {
         put_i32(self.buffer.part_mut(0, 4), code);
     }
 
-    /// The bytes behind the code, lent for writing; no others change.
+    /// The bytes behind the code, lent for writing; no others change. The storage has to hold 4 bytes
+    /// at least.
     pub fn extended_ack_mut(&mut self) -> &mut [u8]
         requires field { 4 ≤ length (T.held self.old.buffer) }
         ensures* writes_back { sem 𝓛 (Lends (the_row T.row) (Array byte 0) self.entry result (λ part. record { buffer = T.holding self.old.buffer (put_at (T.held self.old.buffer) 4 part) })) }

@@ -23,7 +23,7 @@ pub struct ErrorBuffer<T: Storage> {
 }
 
 impl<T: Storage> ErrorBuffer<T> {
-    /// A view of any bytes.
+    /// A view of any bytes. Nothing is checked: each other call says what the bytes have to hold.
     #[inline]
     pub fn new(buffer: T) -> Self
         ensures keeps { result.buffer ≡ buffer }
@@ -47,6 +47,14 @@ impl<T: Storage> ErrorBuffer<T> {
         Ok(ErrorBuffer { buffer })
     }
 
+    /// A view of the same bytes, lent: what a slice is read by, of any storage.
+    #[inline]
+    pub fn borrowed(&self) -> ErrorBuffer<&[u8]>
+        ensures bytes { result.buffer.now ≡ T.held self.now.buffer }
+    {
+        ErrorBuffer::new(self.buffer.bytes())
+    }
+
     /// What holds the bytes.
     #[inline]
     pub fn into_inner(self) -> T
@@ -55,7 +63,8 @@ impl<T: Storage> ErrorBuffer<T> {
         self.buffer
     }
 
-    /// The code, `None` exactly where it is 0.
+    /// The code, `None` exactly where it is 0. The storage has to hold 4 bytes at least, as
+    /// `new_checked` tests.
     #[inline]
     pub fn code(&self) -> Option<NonZeroI32>
         requires field { 4 ≤ length (T.held self.now.buffer) }
@@ -66,7 +75,9 @@ impl<T: Storage> ErrorBuffer<T> {
 }
 
 impl<'a> ErrorBuffer<&'a [u8]> {
-    /// The bytes behind the code: the header of the message that is answered, and what follows it.
+    /// The bytes behind the code: the header of the message that is answered, and what follows it. The
+    /// bytes have to be 4 at least, as `new_checked` tests. Of another storage than a slice, `borrowed`
+    /// gives the view that this is called on.
     #[inline]
     pub fn payload(&self) -> &'a [u8]
         requires field { 4 ≤ length self.now.buffer.now }
@@ -77,7 +88,7 @@ impl<'a> ErrorBuffer<&'a [u8]> {
 }
 
 impl<T: StorageMut> ErrorBuffer<T> {
-    /// Sets the code, and changes nothing else.
+    /// Sets the code, and changes nothing else. The storage has to hold 4 bytes at least.
     #[inline]
     pub fn set_code(&mut self, code: i32)
         requires field { 4 ≤ length (T.held self.old.buffer) }
@@ -87,7 +98,8 @@ impl<T: StorageMut> ErrorBuffer<T> {
         put_i32(self.buffer.part_mut(0, 4), code);
     }
 
-    /// The bytes behind the code: the header of the message that is answered, and what follows it, lent for writing; no others change.
+    /// The bytes behind the code: the header of the message that is answered, and what follows it, lent
+    /// for writing; no others change. The storage has to hold 4 bytes at least.
     pub fn payload_mut(&mut self) -> &mut [u8]
         requires field { 4 ≤ length (T.held self.old.buffer) }
         ensures* writes_back { sem 𝓛 (Lends (the_row T.row) (Array byte 0) self.entry result (λ part. record { buffer = T.holding self.old.buffer (put_at (T.held self.old.buffer) 4 part) })) }
