@@ -55,9 +55,9 @@ fits_alike command m r answer same is fits =
     } in
     subst (Fits generic_encoding) (sym is) answered
 
-pub not_both : (command : ℕ) (m r answer : Message) → SameRequest m r → answer ≡ answer_to command m → Fits generic_encoding answer → IsTooLong generic_encoding (answer_to command r) → ⊥
-not_both command m r answer same is fits long =
+pub long_alike : (command : ℕ) (m r answer : Message) → SameRequest m r → answer ≡ answer_to command m → IsTooLong generic_encoding (answer_to command r) → IsTooLong generic_encoding answer
+long_alike command m r answer same is long =
     let payload = alike command m.payload r.payload same.payload in
     let size : length (payload_text generic_encoding (with_command command m.payload)) ≡ length (payload_text generic_encoding (with_command command r.payload)) = ap length payload.text in
-    let answered = subst (Fits generic_encoding) is fits in
-    omega (arith, size, answered.size, long)
+    let answered : IsTooLong generic_encoding (answer_to command m) = omega (arith, size, long) in
+    subst (IsTooLong generic_encoding) (sym is) answered

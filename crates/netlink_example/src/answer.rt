@@ -10,7 +10,7 @@ ghost use Rattle.netlink_example.specs.Generic.{generic_decoding, generic_encodi
 use crate::message::GenericMessage;
 use netlink_packet_core::laws::frame_unique;
 use netlink_packet_core::{DecodeError, NetlinkMessage, NetlinkPayload};
-use std::alloc::{AllocError, Global};
+use std::alloc::Global;
 
 /// Reads the request that a datagram begins with, and writes its answer: the request with this
 /// command and no flags, as one frame. A done, an error, a no-op or an overrun keeps its payload.
@@ -38,11 +38,7 @@ pub fn answered(alloc: Global, datagram: &[u8], command: u8) -> Result<Vec<u8>, 
 {
     frame_unique::<GenericMessage>();
     let request = NetlinkMessage::<GenericMessage>::deserialize(alloc, datagram)?;
-    let answer = changed(request, command);
-    if !answer.fits() {
-        return Err(DecodeError::TooLong);
-    }
-    Ok(written(alloc, answer)?)
+    changed(request, command).into_frame(alloc)
 }
 
 /// The answer to a request.
@@ -57,19 +53,4 @@ fn changed(
         message.command = command;
     }
     request
-}
-
-/// The canonical frame of a message, in a buffer of its exact size.
-fn written(
-    alloc: Global,
-    mut message: NetlinkMessage<GenericMessage>,
-) -> Result<Vec<u8>, AllocError>
-    requires { Fits generic_encoding message }
-    ensures { IfOk result (λ frame. frame.items ≡ canonical_frame generic_encoding message) }
-{
-    message.finalize();
-    let size = message.buffer_len();
-    let mut frame = vec![in alloc; 0u8; size]?;
-    message.serialize(&mut frame);
-    Ok(frame)
 }

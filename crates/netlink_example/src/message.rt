@@ -33,14 +33,17 @@ pub struct GenericMessage {
 impl NetlinkSerializable for GenericMessage {
     ghost encoding = { generic_encoding };
 
+    /// The family's number.
     fn message_type(&self) -> u16 {
         self.family.number
     }
 
+    /// 4 plus the size of the payload.
     fn buffer_len(&self) -> usize {
         GENL_HDRLEN + self.payload.len()
     }
 
+    /// Fills the buffer, which has to have exactly `buffer_len` bytes.
     fn serialize(&self, buffer: &mut [u8]) {
         let (header, payload) = buffer.split_at_mut(GENL_HDRLEN);
         header.copy_from_slice(&[self.command, self.version, 0, 0]);
