@@ -32,11 +32,20 @@ def header(length, kind):
     return length.to_bytes(4, "little") + kind.to_bytes(2, "little") + bytes(10)
 
 
+def short_body(front, name, size):
+    line = f"{front} caused by invalid {name} length caused by invalid {name}: "
+    return f"{line}length is {size} but {name} are at least 4 bytes"
+
+
+def unknown_type(kind):
+    line = f"Failed to parse message with type {kind}: "
+    return f"{line}invalid ping-pong message: invalid message type"
+
+
 LEAST = "netlink packets are at least 16 bytes"
 FRAME = "invalid netlink buffer length caused by invalid netlink buffer: "
 INSIDE = "failed deserializing NetlinkMessage caused by "
-DONE = "failed to parse NLMSG_DONE caused by invalid DoneBuffer length caused by invalid DoneBuffer: "
-ERROR = "failed parsing NLMSG_ERROR caused by invalid ErrorBuffer length caused by invalid ErrorBuffer: "
+DONE, ERROR = "failed to parse NLMSG_DONE", "failed parsing NLMSG_ERROR"
 
 # Bytes that are no frame, and why.
 NO_FRAMES = [
@@ -52,12 +61,9 @@ NO_FRAMES = [
 
 # Frames that are no message, and why.
 NO_MESSAGES = [
-    *[(header(16 + n, 3) + bytes(n), f"{DONE}length is {n} but DoneBuffer are at least 4 bytes") for n in (1, 2, 3)],
-    *[(header(16 + n, 2) + bytes(n), f"{ERROR}length is {n} but ErrorBuffer are at least 4 bytes") for n in range(4)],
-    *[
-        (header(16, kind), f"Failed to parse message with type {kind}: invalid ping-pong message: invalid message type")
-        for kind in (0, 5, 17, 19, 21, 65535)
-    ],
+    *[(header(16 + n, 3) + bytes(n), short_body(DONE, "DoneBuffer", n)) for n in (1, 2, 3)],
+    *[(header(16 + n, 2) + bytes(n), short_body(ERROR, "ErrorBuffer", n)) for n in range(4)],
+    *[(header(16, kind), unknown_type(kind)) for kind in (0, 5, 17, 19, 21, 65535)],
 ]
 
 # Bytes that hold no attribute, and why.
@@ -68,7 +74,10 @@ NO_ATTRIBUTES = [
     (b"\5\0\1\0", "buffer has length: 4, but the NLA is 5 bytes"),
     (b"\x08\0\1\0\xaa\0\0", "buffer has length: 7, but the NLA is 8 bytes"),
     (b"\xff\xff\1\0\xaa", "buffer has length: 5, but the NLA is 65535 bytes"),
-    *[(bytes([n, 0, 1, 0, 0xAA]), f"NLA has invalid length: {n} (should be at least 4 bytes)") for n in range(4)],
+    *[
+        (bytes([n, 0, 1, 0, 0xAA]), f"NLA has invalid length: {n} (should be at least 4 bytes)")
+        for n in range(4)
+    ],
 ]
 
 # No word, two, extra and unknown ones, words in capitals, cut, longer, empty and not UTF-8.
@@ -80,9 +89,9 @@ WRONG_ARGUMENTS = [
     ["frames", "frames", "frames"],
     ["normalize", b"\xff"],
     *[[word] for word in ("", " ", "help", "--help", "-h", "-", "normalise", "payload", "read")],
-    *[[word] for command in COMMANDS for word in (command.upper(), command.title(), command[:-1], command + "s")],
-    *[[word] for command in COMMANDS for word in (command + " ", " " + command, command + "\n", "--" + command)],
-    *[[command, "extra"] for command in COMMANDS],
+    *[[word] for it in COMMANDS for word in (it.upper(), it.title(), it[:-1], f"{it}s")],
+    *[[word] for it in COMMANDS for word in (f"{it} ", f" {it}", f"{it}\n", f"--{it}")],
+    *[[it, "extra"] for it in COMMANDS],
     [b"\xff"],
     [b"normalize\xff"],
     [b"sh\xc3w"],
@@ -130,28 +139,38 @@ def usage_rows():
 
 def failing_rows(folder, full, broken):
     """Inputs that cannot be read, and outputs that cannot be written."""
+    unread, unwritten = (1, b"", "read failed"), (1, b"", "write failed")
     for command, (given, output) in GOOD.items():
-        yield row(f"{command} of a directory", [command], (1, b"", "read failed"), stdin=folder)
-        yield row(f"{command} of a closed input", [command], (1, b"", "read failed"), closed="0<&-")
-        wanted = (1, b"", "write failed")
-        yield row(f"{command} to a full output", [command], wanted, given, stdout=full)
-        yield row(f"{command} to a closed output", [command], wanted, given, closed="1>&-")
-        yield row(f"{command} to a pipe that nobody reads", [command], wanted, given, stdout=broken)
+        yield row(f"{command} of a directory", [command], unread, stdin=folder)
+        yield row(f"{command} of a closed input", [command], unread, closed="0<&-")
+        yield row(f"{command} to a full output", [command], unwritten, given, stdout=full)
+        yield row(f"{command} to a closed output", [command], unwritten, given, closed="1>&-")
+        yield row(f"{command} to a pipe without a reader", [command], unwritten, given, stdout=broken)
     for command, given in (("nlas", BLOCK + b"\5"), ("frames", PING + b"\0")):
-        wanted = (1, b"", "write failed")
-        yield row(f"{command} to a full output, in front of a fault", [command], wanted, given, stdout=full)
-        yield row(f"{command} to a closed output, in front of a fault", [command], wanted, given, closed="1>&-")
+        name = f"{command} with a fault behind its lines"
+        yield row(f"{name}, to a full output", [command], unwritten, given, stdout=full)
+        yield row(f"{name}, to a closed output", [command], unwritten, given, closed="1>&-")
     for command in ("nlas", "canon", "frames"):
-        yield row(f"{command} of nothing to a full output", [command], (0, b"", ""), stdout=full)
-        yield row(f"{command} of nothing to a closed output", [command], (0, b"", ""), closed="1>&-")
-    fault = f"{INSIDE}{FRAME}length is 4 but {LEAST}"
-    yield row("normalize of a cut frame to a full output", ["normalize"], (1, b"", fault), PING[:4], stdout=full)
-    yield row("normalize of a cut frame, no standard error", ["normalize"], (1, b"", ""), PING[:4], closed="2>&-")
-    yield row("nlas of a fault behind a line, no standard error", ["nlas"], (1, b"0001 1 aa\n", ""), BLOCK + b"\5", closed="2>&-")
-    yield row("a wrong word, no standard error", ["help"], (2, b"", ""), PING, closed="2>&-")
+        name = f"{command} of nothing"
+        yield row(f"{name}, to a full output", [command], (0, b"", ""), stdout=full)
+        yield row(f"{name}, to a closed output", [command], (0, b"", ""), closed="1>&-")
+    cut = (1, b"", f"{INSIDE}{FRAME}length is 4 but {LEAST}")
+    yield row("a cut frame, to a full output", ["normalize"], cut, PING[:4], stdout=full)
+    yield row("a cut frame, to a closed output", ["normalize"], cut, PING[:4], closed="1>&-")
     yield row("a wrong word and a closed input", ["help"], (2, b"", USAGE), closed="0<&-")
     yield row("a wrong word and a closed output", ["help"], (2, b"", USAGE), PING, closed="1>&-")
-    yield row("normalize, no standard error", ["normalize"], (0, PING, ""), PING, closed="2>&-")
+
+
+def silent_rows():
+    """Runs whose standard error is closed: the status tells."""
+    for words, given, status, output in (
+        (["normalize"], PING, 0, PING),
+        (["normalize"], PING[:4], 1, b""),
+        (["nlas"], BLOCK + b"\5", 1, b"0001 1 aa\n"),
+        (["help"], PING, 2, b""),
+    ):
+        name = f"{words[0]} of {given.hex()}, no standard error"
+        yield row(name, words, (status, output, ""), given, closed="2>&-")
 
 
 def main():
@@ -170,7 +189,8 @@ def main():
     os.close(here)
     full = os.open("/dev/full", os.O_WRONLY)
     folder = os.open("/", os.O_RDONLY)
-    rows = [*good_rows(), *refused_rows(), *usage_rows(), *failing_rows(folder, full, broken)]
+    failing = failing_rows(folder, full, broken)
+    rows = [*good_rows(), *refused_rows(), *usage_rows(), *failing, *silent_rows()]
     faults = [it for it in side_by_side(fault_of, rows) if it]
     print(f"{len(rows)} ends of the program were looked at")
     tally("statuses", faults, len(rows) - len(faults))

@@ -3,8 +3,8 @@
 use crate::ping_pong::PingPongMessage;
 use crate::samples::Zeros;
 use crate::tests::cuts::{Ending, WELL, nlas_of};
-use crate::tests::hoard::refuses;
 use crate::tests::messages::{Message, PING};
+use crate::tests::refusals::refuses;
 use netlink_packet_core::{
     DecodeError, NetlinkBuffer, NetlinkMessage, NetlinkPayload, NlaBuffer, normalize,
 };

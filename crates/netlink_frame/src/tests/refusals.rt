@@ -56,6 +56,14 @@ const REFUSED: [(&[u8], u8, &str); 6] = [
     ),
 ];
 
+/// Whether an answer is a refusal with this number.
+pub(crate) fn refuses<T: Drop>(answer: Result<T, DecodeError>, number: u8) -> bool {
+    match answer {
+        Ok(_) => false,
+        Err(error) => error.number() == number,
+    }
+}
+
 fn refusal_of(alloc: Global, bytes: &[u8]) -> Result<DecodeError, Fail> {
     match Message::deserialize(alloc, bytes) {
         Ok(_) => Err(Fail::from("the bytes are read")),

@@ -3,9 +3,8 @@
 use crate::ping_pong::PingPongMessage;
 use crate::samples::Zeros;
 use crate::tests::attributes::SHORT;
-use crate::tests::hoard::{Hoard, refused_or_equal};
 use crate::tests::lengths::{FOUR_ZEROS, counted};
-use crate::tests::messages::{CODED_DONE, EMPTY_DONE, NOOP, PING, PLAIN_DONE, PLAIN_NOOP, REQUEST};
+use crate::tests::messages::{EMPTY_DONE, NOOP, PING, PLAIN_DONE, PLAIN_NOOP, REQUEST};
 use crate::tests::refusals::UNKNOWN;
 use netlink_packet_core::laws::{cut_refused, frames_fixed, tail_ignored};
 use netlink_packet_core::{is_canonical_frame, is_canonical_nlas};
@@ -57,35 +56,5 @@ fn verdicts_on_zeros(rt: HostRuntime) -> Result<(), Fail> {
     assert!(rt; is_canonical_frame::<Zeros>(rt.alloc(), &FOUR_ZEROS)?);
     assert!(rt; !is_canonical_frame::<Zeros>(rt.alloc(), &counted(4))?);
     assert!(rt; !is_canonical_frame::<Zeros>(rt.alloc(), &counted(4294967280))?);
-    Ok(())
-}
-
-/// Each verdict, or want of memory.
-#[test]
-fn verdicts_without_memory(rt: HostRuntime) -> Result<(), Fail> {
-    let alloc = rt.alloc();
-    let mut hoard = Hoard::new(alloc, 3)?;
-    assert!(rt; hoard.has_all());
-    let rounds = [
-        hoard.sweep(|| {
-            refused_or_equal(is_canonical_frame::<PingPongMessage>(alloc, &PING), &true)
-        }),
-        hoard.sweep(|| {
-            refused_or_equal(
-                is_canonical_frame::<PingPongMessage>(alloc, &CODED_DONE),
-                &true,
-            )
-        }),
-        hoard.sweep(|| {
-            refused_or_equal(
-                is_canonical_frame::<PingPongMessage>(alloc, &UNKNOWN),
-                &false,
-            )
-        }),
-    ];
-    // each has to give its usual answer in some round; where the body asks for no memory, in the first
-    for verdict in rounds {
-        assert!(rt; verdict.is_some());
-    }
     Ok(())
 }

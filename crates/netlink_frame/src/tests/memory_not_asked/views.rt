@@ -1,8 +1,9 @@
 //! Views of messages and bodies, and headers.
 #![tactic(auto, using(netlink_packet_core::specs::Sizes::text_sizes))]
 
-use crate::tests::hoard::{Hoard, refuses};
+use crate::tests::mark::refuse_from_here;
 use crate::tests::messages::{PING, REQUEST};
+use crate::tests::refusals::refuses;
 use netlink_packet_core::{
     DoneBuffer, DoneMessage, Emitable, ErrorBuffer, ErrorMessage, NetlinkBuffer, NetlinkHeader,
     NonZeroI32, Parseable, Storage, StorageMut,
@@ -12,7 +13,7 @@ use std::test::Fail;
 #[test]
 fn views_of_a_message(rt: HostRuntime) -> Result<(), Fail> {
     let alloc = rt.alloc();
-    let hoard = Hoard::new(alloc, 0)?;
+    refuse_from_here(alloc);
     let view = NetlinkBuffer::new_checked(&REQUEST[..])?;
     assert!(rt; view.length() == 40 && view.message_type() == 18 && view.flags() == 769);
     assert!(rt; view.sequence_number() == 1526271540 && view.port_number() == 0);
@@ -30,13 +31,12 @@ fn views_of_a_message(rt: HostRuntime) -> Result<(), Fail> {
         assert!(rt; refuses(NetlinkBuffer::new_checked(*bytes), *number));
     }
     assert!(rt; refuses(NetlinkBuffer::new_checked(&[0u8; 16][..]), 11));
-    assert!(rt; hoard.has_all());
     Ok(())
 }
 
 #[test]
 fn fields_of_a_message(rt: HostRuntime) -> Result<(), Fail> {
-    let hoard = Hoard::new(rt.alloc(), 0)?;
+    refuse_from_here(rt.alloc());
     let mut bytes = [0u8; 40];
     let mut view = NetlinkBuffer::new(&mut bytes[..]);
     view.set_length(40);
@@ -49,14 +49,13 @@ fn fields_of_a_message(rt: HostRuntime) -> Result<(), Fail> {
     assert!(rt; payload.len() == 24);
     payload.copy_from_slice(&REQUEST[16..]);
     assert!(rt; bytes == REQUEST);
-    assert!(rt; hoard.has_all());
     Ok(())
 }
 
 #[test]
 fn views_of_bodies(rt: HostRuntime) -> Result<(), Fail> {
     let alloc = rt.alloc();
-    let hoard = Hoard::new(alloc, 0)?;
+    refuse_from_here(alloc);
     let mut bytes = [0u8, 0, 0, 0, 7];
     let mut done = DoneBuffer::new(&mut bytes[..]);
     done.set_code(5);
@@ -74,14 +73,13 @@ fn views_of_bodies(rt: HostRuntime) -> Result<(), Fail> {
     assert!(rt; error.into_inner() == &bytes[..]);
     assert!(rt; refuses(DoneBuffer::new_checked(&bytes[..3]), 12));
     assert!(rt; refuses(ErrorBuffer::new_checked(&bytes[..3]), 13));
-    assert!(rt; hoard.has_all());
     Ok(())
 }
 
 #[test]
 fn storages(rt: HostRuntime) -> Result<(), Fail> {
     let mut vec = REQUEST.to_vec(rt.alloc())?;
-    let hoard = Hoard::new(rt.alloc(), 0)?;
+    refuse_from_here(rt.alloc());
     assert!(rt; (&REQUEST[..]).bytes() == &REQUEST[..]);
     assert!(rt; vec.bytes() == &REQUEST[..]);
     vec.bytes_mut().fill(7);
@@ -95,7 +93,6 @@ fn storages(rt: HostRuntime) -> Result<(), Fail> {
     let mut wanted = [7; 40];
     wanted[..4].copy_from_slice(&[0x28, 9, 0, 0]);
     assert!(rt; array == wanted);
-    assert!(rt; hoard.has_all());
     Ok(())
 }
 
@@ -107,7 +104,7 @@ fn bodies(rt: HostRuntime) -> Result<(), Fail> {
         code: 5,
         extended_ack: [1u8, 2, 3].to_vec(alloc)?,
     };
-    let hoard = Hoard::new(alloc, 0)?;
+    refuse_from_here(alloc);
     let code = [0x2eu8, 0xfb, 0xff, 0xff];
     let done = DoneMessage::parse(alloc, &DoneBuffer::new_checked(&code[..])?)?;
     assert!(rt; done.code == -1234 && done.extended_ack.is_empty());
@@ -125,6 +122,5 @@ fn bodies(rt: HostRuntime) -> Result<(), Fail> {
     let mut buffer = [0u8; 7];
     coded.emit(&mut buffer);
     assert!(rt; buffer == [5, 0, 0, 0, 1, 2, 3]);
-    assert!(rt; hoard.has_all());
     Ok(())
 }

@@ -5,20 +5,21 @@ ghost use Rattle.std.specs.Prelude.{◌∷◌, []};
 use crate::nlas::nlas_fault;
 use crate::overwrite::overwrite;
 use crate::tests::attributes::{FLAGGED, SHORT, TWO};
-use crate::tests::hoard::{Hoard, refuses};
+use crate::tests::mark::refuse_from_here;
+use crate::tests::refusals::refuses;
 use netlink_ethernet::{Comparisons, look_up};
 use netlink_packet_core::{
     DefaultNla, Emitable, EthernetProtocol, Nla, NlaBuffer, Nlas, NlasIterator, Parseable,
-    emit_nla, is_canonical_nlas, nla_align, nla_buffer_len, nla_fits, nla_place, nlas_value_mut,
-    normalize_nlas,
+    append_nla, emit_nla, is_canonical_nlas, nla_align, nla_buffer_len, nla_fits, nla_place,
+    nlas_value_mut, normalize_nlas,
 };
 use std::fmt;
 use std::fmt::Write;
 use std::test::Fail;
 
 #[test]
-fn views_of_an_attribute(rt: HostRuntime) -> Result<(), Fail> {
-    let hoard = Hoard::new(rt.alloc(), 0)?;
+fn views_of_an_attribute(rt: HostRuntime) {
+    refuse_from_here(rt.alloc());
     match NlaBuffer::new_checked(&FLAGGED[..]) {
         Ok(mut view) => {
             assert!(rt; view.check_buffer_length().is_ok());
@@ -37,13 +38,11 @@ fn views_of_an_attribute(rt: HostRuntime) -> Result<(), Fail> {
         let view = NlaBuffer::new(*bytes);
         assert!(rt; refuses(view.check_buffer_length(), *number));
     }
-    assert!(rt; hoard.has_all());
-    Ok(())
 }
 
 #[test]
-fn fields_of_an_attribute(rt: HostRuntime) -> Result<(), Fail> {
-    let hoard = Hoard::new(rt.alloc(), 0)?;
+fn fields_of_an_attribute(rt: HostRuntime) {
+    refuse_from_here(rt.alloc());
     let mut bytes = FLAGGED;
     NlaBuffer::new(&mut bytes[..]).set_nested_flag();
     assert!(rt; bytes == [8, 0, 6, 0x80, 0, 0, 0x0e, 0x10]);
@@ -59,8 +58,6 @@ fn fields_of_an_attribute(rt: HostRuntime) -> Result<(), Fail> {
     }
     assert!(rt; view.inner_mut().len() == 8);
     assert!(rt; bytes == [6, 0, 7, 0, 9, 9, 0x0e, 0x10]);
-    assert!(rt; hoard.has_all());
-    Ok(())
 }
 
 /// A flag of one byte.
@@ -88,7 +85,7 @@ impl Nla for Flag {
 #[test]
 fn attributes_are_written(rt: HostRuntime) -> Result<(), Fail> {
     let value = [9u8].to_vec(rt.alloc())?;
-    let hoard = Hoard::new(rt.alloc(), 0)?;
+    refuse_from_here(rt.alloc());
     let nla = DefaultNla::new(0xc006, value);
     assert!(rt; nla.kind() == 0xc006 && nla.value_len() == 1);
     assert!(rt; nla.is_nested() && nla.is_network_byteorder());
@@ -107,14 +104,13 @@ fn attributes_are_written(rt: HostRuntime) -> Result<(), Fail> {
     assert!(rt; nlas.buffer_len() == 8);
     nlas.emit(&mut again);
     assert!(rt; again == [5, 0, 7, 0x40, 9, 0, 0, 0, 0x55]);
-    assert!(rt; hoard.has_all());
     Ok(())
 }
 
 #[test]
 fn blocks_are_walked(rt: HostRuntime) -> Result<(), Fail> {
     let alloc = rt.alloc();
-    let hoard = Hoard::new(alloc, 0)?;
+    refuse_from_here(alloc);
     let mut walk = NlasIterator::new(&SHORT);
     assert!(rt; matches!(walk.next(), Some(Ok(_))));
     match walk.next() {
@@ -141,14 +137,24 @@ fn blocks_are_walked(rt: HostRuntime) -> Result<(), Fail> {
     assert!(rt; is_canonical_nlas(&TWO) && !is_canonical_nlas(&SHORT));
     assert!(rt; nlas_value_mut(&mut block, 0).is_some_and(|value| value.len() == 1));
     assert!(rt; nlas_value_mut(&mut block, 2).is_none());
-    assert!(rt; hoard.has_all());
+    Ok(())
+}
+
+/// An attribute goes into a block with room for it and its padding.
+#[test]
+fn an_attribute_is_appended(rt: HostRuntime) -> Result<(), Fail> {
+    let alloc = rt.alloc();
+    let mut block = Vec::with_capacity(alloc, 8)?;
+    refuse_from_here(alloc);
+    assert!(rt; append_nla(alloc, &mut block, 2, &[0xaa]).is_ok());
+    assert!(rt; block.as_slice() == [5, 0, 2, 0, 0xaa, 0, 0, 0].as_slice());
     Ok(())
 }
 
 #[test]
 fn attributes_without_a_value(rt: HostRuntime) -> Result<(), Fail> {
     let alloc = rt.alloc();
-    let hoard = Hoard::new(alloc, 0)?;
+    refuse_from_here(alloc);
     let nla = DefaultNla::new(0xc006, Vec::new(alloc));
     match NlaBuffer::new_checked(&[4, 0, 6, 0xc0][..]) {
         Ok(view) => {
@@ -157,7 +163,6 @@ fn attributes_without_a_value(rt: HostRuntime) -> Result<(), Fail> {
         Err(_) => assert!(rt; false),
     }
     assert!(rt; nla.try_clone(alloc)? == nla);
-    assert!(rt; hoard.has_all());
     Ok(())
 }
 
@@ -182,8 +187,8 @@ impl fmt::Write for Line {
 }
 
 #[test]
-fn ethernet_protocols(rt: HostRuntime) -> Result<(), Fail> {
-    let hoard = Hoard::new(rt.alloc(), 0)?;
+fn ethernet_protocols(rt: HostRuntime) {
+    refuse_from_here(rt.alloc());
     assert!(rt; EthernetProtocol::from(0x0800) == EthernetProtocol::Ip);
     assert!(rt; EthernetProtocol::from(0x1234).value() == 0x1234);
     assert!(rt; EthernetProtocol::Other(0x0800).value() == 0x0800);
@@ -198,6 +203,4 @@ fn ethernet_protocols(rt: HostRuntime) -> Result<(), Fail> {
     assert!(rt; write!(line, "{}", EthernetProtocol::Ip).is_ok());
     assert!(rt; write!(line, "{}", EthernetProtocol::Other(0x1234)).is_ok());
     assert!(rt; line.text == *b"ip0x1234");
-    assert!(rt; hoard.has_all());
-    Ok(())
 }

@@ -1,6 +1,7 @@
 //! Numbers, addresses, causes and texts.
 
-use crate::tests::hoard::{Hoard, refuses};
+use crate::tests::mark::refuse_from_here;
+use crate::tests::refusals::refuses;
 use netlink_packet_core::{
     DecodeError, ErrorContext, IpAddr, NonZeroI32, emit_i16, emit_i16_be, emit_i16_le, emit_i32,
     emit_i32_be, emit_i32_le, emit_i64, emit_i64_be, emit_i64_le, emit_i128, emit_i128_be,
@@ -75,9 +76,8 @@ fn sixteen_bytes(rt: &impl Abort) {
 }
 
 #[test]
-fn numbers(rt: HostRuntime) -> Result<(), Fail> {
-    let hoard = Hoard::new(rt.alloc(), 0)?;
-    assert!(rt; hoard.has_all());
+fn numbers(rt: HostRuntime) {
+    refuse_from_here(rt.alloc());
     two_bytes(&rt);
     four_bytes(&rt);
     eight_bytes(&rt);
@@ -87,13 +87,11 @@ fn numbers(rt: HostRuntime) -> Result<(), Fail> {
         Some(number) => assert!(rt; number.get() == -8765),
         None => assert!(rt; false),
     }
-    assert!(rt; hoard.has_all());
-    Ok(())
 }
 
 #[test]
-fn bytes_and_addresses(rt: HostRuntime) -> Result<(), Fail> {
-    let hoard = Hoard::new(rt.alloc(), 0)?;
+fn bytes_and_addresses(rt: HostRuntime) {
+    refuse_from_here(rt.alloc());
     assert!(rt; parse_u8(&[7]).ok() == Some(7));
     assert!(rt; refuses(parse_u8(&[]), 4));
     assert!(rt; parse_i8(&[0x80]).ok() == Some(-128));
@@ -105,15 +103,13 @@ fn bytes_and_addresses(rt: HostRuntime) -> Result<(), Fail> {
     assert!(rt; parse_ip(&[127, 0, 0, 1]).ok() == Some(IpAddr::V4([127, 0, 0, 1])));
     assert!(rt; parse_ip(&[9; 16]).ok() == Some(IpAddr::V6([9; 16])));
     assert!(rt; refuses(parse_ip(&[0; 5]), 3));
-    assert!(rt; hoard.has_all());
-    Ok(())
 }
 
 #[test]
 fn causes_and_empty_texts(rt: HostRuntime) -> Result<(), Fail> {
     let alloc = rt.alloc();
     let words = String::from_str(alloc, "a text")?;
-    let hoard = Hoard::new(alloc, 0)?;
+    refuse_from_here(alloc);
     let rows = [
         (DecodeError::invalid_buffer(alloc, "", 0, 1), 1),
         (DecodeError::invalid_mac_address(5), 2),
@@ -142,6 +138,5 @@ fn causes_and_empty_texts(rt: HostRuntime) -> Result<(), Fail> {
     assert!(rt; fine.context(alloc, "a line").ok() == Some(7));
     assert!(rt; parse_string(alloc, &[])?.as_str().is_empty());
     assert!(rt; parse_string(alloc, &[0])?.as_str().is_empty());
-    assert!(rt; hoard.has_all());
     Ok(())
 }

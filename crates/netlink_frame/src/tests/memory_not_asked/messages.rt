@@ -2,9 +2,10 @@
 
 use crate::ping_pong::PingPongMessage;
 use crate::samples::Zeros;
-use crate::tests::hoard::{Hoard, refuses};
 use crate::tests::lengths::counted;
-use crate::tests::messages::{EMPTY_DONE, ERROR, Message, NOOP, PING};
+use crate::tests::mark::refuse_from_here;
+use crate::tests::messages::{CODED_DONE, EMPTY_DONE, ERROR, Message, NOOP, PING};
+use crate::tests::refusals::{UNKNOWN, refuses};
 use netlink_packet_core::{
     Emitable, NetlinkBuffer, NetlinkHeader, NetlinkMessage, NetlinkPayload, Parseable,
     is_canonical_frame, normalize,
@@ -15,7 +16,7 @@ use std::test::Fail;
 fn a_message_is_written(rt: HostRuntime) -> Result<(), Fail> {
     let alloc = rt.alloc();
     let bytes = [0u8, 1, 2, 3].to_vec(alloc)?;
-    let hoard = Hoard::new(alloc, 0)?;
+    refuse_from_here(alloc);
     let mut message = Message::from_inner(PingPongMessage::Ping(bytes));
     assert!(rt; message.fits());
     message.finalize();
@@ -32,7 +33,6 @@ fn a_message_is_written(rt: HostRuntime) -> Result<(), Fail> {
     let renewed = Message::new(NetlinkHeader::default(), payload);
     assert!(rt; renewed.fits());
     assert!(rt; !NetlinkMessage::from_inner(Zeros(4294967280)).fits());
-    assert!(rt; hoard.has_all());
     Ok(())
 }
 
@@ -46,7 +46,7 @@ const EMPTY_OVERRUN: [u8; 16] = [0x10, 0, 0, 0, 4, 0, 0, 0, 0, 0, 0, 0, 0, 0, 0,
 #[test]
 fn messages_with_nothing_to_copy(rt: HostRuntime) -> Result<(), Fail> {
     let alloc = rt.alloc();
-    let hoard = Hoard::new(alloc, 0)?;
+    refuse_from_here(alloc);
     let rows: [(&[u8], u16, i32, bool); 5] = [
         (&NOOP, 1, 0, false),
         (&ERROR, 2, -8765, true),
@@ -63,7 +63,6 @@ fn messages_with_nothing_to_copy(rt: HostRuntime) -> Result<(), Fail> {
         let verdict = is_canonical_frame::<PingPongMessage>(alloc, frame);
         assert!(rt; verdict.ok() == Some(*canonical));
     }
-    assert!(rt; hoard.has_all());
     Ok(())
 }
 
@@ -76,7 +75,7 @@ fn kind_and_code(message: &Message) -> (u16, i32) {
 }
 
 #[test]
-fn refusals_without_words(rt: HostRuntime) -> Result<(), Fail> {
+fn refusals_without_words(rt: HostRuntime) {
     let alloc = rt.alloc();
     let mut short_done = [0u8; 19];
     short_done[0] = 19;
@@ -84,7 +83,7 @@ fn refusals_without_words(rt: HostRuntime) -> Result<(), Fail> {
     let mut short_error = [0u8; 19];
     short_error[0] = 19;
     short_error[4] = 2;
-    let hoard = Hoard::new(alloc, 0)?;
+    refuse_from_here(alloc);
     let rows: [(&[u8], u8); 5] = [
         (&PING[..15], 9),
         (&PING[..19], 10),
@@ -98,6 +97,16 @@ fn refusals_without_words(rt: HostRuntime) -> Result<(), Fail> {
         assert!(rt; verdict.ok() == Some(false));
     }
     assert!(rt; refuses(normalize::<Zeros>(alloc, &counted(4294967280)), 15));
-    assert!(rt; hoard.has_all());
-    Ok(())
+}
+
+/// A body behind its code is not copied, and what the protocol refuses is not told.
+#[test]
+fn verdicts(rt: HostRuntime) {
+    let alloc = rt.alloc();
+    refuse_from_here(alloc);
+    let rows: [(&[u8], bool); 2] = [(&CODED_DONE, true), (&UNKNOWN, false)];
+    for (frame, verdict) in rows.iter() {
+        let answer = is_canonical_frame::<PingPongMessage>(alloc, frame);
+        assert!(rt; answer.ok() == Some(*verdict));
+    }
 }

@@ -1,0 +1,10 @@
+//! Calls that ask for no memory.
+//!
+//! `tests/memory` runs each test with every request behind its mark refused: it passes as ever, and
+//! it makes none.
+
+mod above;
+mod attributes;
+mod messages;
+mod numbers;
+mod views;

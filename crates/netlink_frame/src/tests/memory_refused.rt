@@ -1,0 +1,256 @@
+//! Calls that ask for memory.
+//!
+//! `tests/memory` runs each test once for each of its requests, with that one refused. Then it passes
+//! as ever, or it ends with want of memory, which it hands on by `?`.
+
+use crate::frames::frames_text;
+use crate::nlas::nlas_text;
+use crate::ping_pong::PingPongMessage;
+use crate::samples::Zeros;
+use crate::tests::attributes::TWO;
+use crate::tests::datagrams::DATAGRAM;
+use crate::tests::lengths::{FOUR_ZEROS, counted};
+use crate::tests::messages::{
+    CODED_DONE, DONE, EMPTY_DONE, Message, NOOP, OVERRUN, PING, PLAIN_DONE, PLAIN_NOOP,
+};
+use crate::tests::refusals::UNKNOWN;
+use crate::text::show_text;
+use netlink_packet_core::{
+    DecodeError, DefaultNla, DoneBuffer, DoneMessage, ErrorBuffer, ErrorContext, ErrorMessage,
+    NetlinkBuffer, NlaBuffer, NonZeroI32, Parseable, append_nla, is_canonical_frame, normalize,
+    normalize_nlas, parse_string,
+};
+use netlink_tree::{TreeFault, append_frame, is_well_formed, read_tree, write_tree};
+use std::alloc::Global;
+use std::test::Fail;
+
+const LINE: &str = "a line caused by message does not fit a 32-bit length";
+
+const NOT_UTF8: &str = "Invalid UTF-8 sequence: invalid utf-8 sequence of 1 bytes from index 0";
+
+fn line() -> &'static str {
+    "a line"
+}
+
+fn too_long() -> Result<u8, DecodeError> {
+    Err(DecodeError::TooLong)
+}
+
+/// Whether the cause has this text. Want of memory is handed on.
+fn says(alloc: Global, cause: DecodeError, text: &str) -> Result<bool, DecodeError> {
+    if cause.is_out_of_memory() {
+        return Err(cause);
+    }
+    Ok(cause.to_string(alloc)?.as_str() == text)
+}
+
+/// Whether the answer is a cause with this text. Want of memory is handed on.
+fn refused_with<T: Drop>(
+    alloc: Global,
+    answer: Result<T, DecodeError>,
+    text: &str,
+) -> Result<bool, DecodeError> {
+    match answer {
+        Ok(_) => Ok(false),
+        Err(cause) => says(alloc, cause, text),
+    }
+}
+
+#[test]
+fn causes_with_a_text(rt: HostRuntime) -> Result<(), Fail> {
+    let alloc = rt.alloc();
+    let named = DecodeError::invalid_buffer(alloc, "a name", 3, 8);
+    let text = "Invalid buffer a name. Expected at least 8 bytes, received 3 bytes";
+    assert!(rt; says(alloc, named, text)?);
+    assert!(rt; says(alloc, DecodeError::from_text(alloc, LINE), LINE)?);
+    match String::from_utf8([0xffu8].to_vec(alloc)?) {
+        Ok(_) => assert!(rt; false),
+        Err(error) => {
+            assert!(rt; says(alloc, DecodeError::from_utf8_error(alloc, error), NOT_UTF8)?)
+        }
+    }
+    Ok(())
+}
+
+#[test]
+fn contexts(rt: HostRuntime) -> Result<(), Fail> {
+    let alloc = rt.alloc();
+    assert!(rt; says(alloc, DecodeError::TooLong.context(alloc, "a line"), LINE)?);
+    assert!(rt; says(alloc, DecodeError::TooLong.with_context(alloc, line), LINE)?);
+    assert!(rt; refused_with(alloc, too_long().context(alloc, "a line"), LINE)?);
+    assert!(rt; refused_with(alloc, too_long().with_context(alloc, line), LINE)?);
+    Ok(())
+}
+
+#[test]
+fn strings(rt: HostRuntime) -> Result<(), Fail> {
+    let alloc = rt.alloc();
+    assert!(rt; parse_string(alloc, b"a line\0")?.as_str() == "a line");
+    assert!(rt; refused_with(alloc, parse_string(alloc, &[0xff]), NOT_UTF8)?);
+    Ok(())
+}
+
+#[test]
+fn an_attribute_is_read_and_copied(rt: HostRuntime) -> Result<(), Fail> {
+    let alloc = rt.alloc();
+    let wanted = DefaultNla::new(1, [0xaau8].to_vec(alloc)?);
+    match NlaBuffer::new_checked(&TWO[..]) {
+        Ok(view) => assert!(rt; DefaultNla::parse(alloc, &view)? == wanted),
+        Err(_) => assert!(rt; false),
+    }
+    assert!(rt; wanted.try_clone(alloc)? == wanted);
+    Ok(())
+}
+
+#[test]
+fn bodies_are_read_and_copied(rt: HostRuntime) -> Result<(), Fail> {
+    let alloc = rt.alloc();
+    let done = DoneMessage {
+        code: 5,
+        extended_ack: [1u8, 2, 3].to_vec(alloc)?,
+    };
+    match DoneBuffer::new_checked(&[5u8, 0, 0, 0, 1, 2, 3][..]) {
+        Ok(view) => assert!(rt; DoneMessage::parse(alloc, &view)? == done),
+        Err(_) => assert!(rt; false),
+    }
+    assert!(rt; done.try_clone(alloc)? == done);
+    let error = ErrorMessage {
+        code: NonZeroI32::new(-8765),
+        header: [6u8].to_vec(alloc)?,
+    };
+    match ErrorBuffer::new_checked(&[0xc3u8, 0xdd, 0xff, 0xff, 6][..]) {
+        Ok(view) => assert!(rt; ErrorMessage::parse(alloc, &view)? == error),
+        Err(_) => assert!(rt; false),
+    }
+    assert!(rt; error.try_clone(alloc)? == error);
+    Ok(())
+}
+
+#[test]
+fn a_block_is_normalised(rt: HostRuntime) -> Result<(), Fail> {
+    assert!(rt; normalize_nlas(rt.alloc(), &TWO)?.as_slice() == TWO.as_slice());
+    Ok(())
+}
+
+/// A refused append leaves the block as it was, be it empty or not.
+#[test]
+fn attributes_are_appended(rt: HostRuntime) -> Result<(), Fail> {
+    let alloc = rt.alloc();
+    let mut block = Vec::new(alloc);
+    if let Err(cause) = append_nla(alloc, &mut block, 2, &[0xaa]) {
+        assert!(rt; block.is_empty());
+        return Err(Fail::from(cause));
+    }
+    assert!(rt; block.as_slice() == [5, 0, 2, 0, 0xaa, 0, 0, 0].as_slice());
+    let mut longer = TWO.to_vec(alloc)?;
+    if let Err(cause) = append_nla(alloc, &mut longer, 2, &[0xaa]) {
+        assert!(rt; longer.as_slice() == TWO.as_slice());
+        return Err(Fail::from(cause));
+    }
+    assert!(rt; longer.starts_with(&TWO) && longer.ends_with(&block) && longer.len() == 24);
+    Ok(())
+}
+
+#[test]
+fn messages_are_read(rt: HostRuntime) -> Result<(), Fail> {
+    let alloc = rt.alloc();
+    let frames: [&[u8]; 4] = [&PING, &DONE, &CODED_DONE, &OVERRUN];
+    for frame in frames {
+        let message = Message::deserialize(alloc, frame)?;
+        assert!(rt; message.header.length as usize == frame.len());
+        let view = NetlinkBuffer::new_checked(frame)?;
+        assert!(rt; Message::parse(alloc, &view)? == message);
+    }
+    Ok(())
+}
+
+/// A protocol's refusal is told in its own words, which ask for memory.
+#[test]
+fn a_refused_message(rt: HostRuntime) -> Result<(), Fail> {
+    let alloc = rt.alloc();
+    let text =
+        "Failed to parse message with type 19: invalid ping-pong message: invalid message type";
+    assert!(rt; refused_with(alloc, Message::deserialize(alloc, &UNKNOWN), text)?);
+    Ok(())
+}
+
+#[test]
+fn frames_are_normalised(rt: HostRuntime) -> Result<(), Fail> {
+    let alloc = rt.alloc();
+    let rows: [(&[u8], &[u8]); 3] = [
+        (&PING, &PING),
+        (&EMPTY_DONE, &PLAIN_DONE),
+        (&NOOP, &PLAIN_NOOP),
+    ];
+    for (frame, normal) in rows.iter() {
+        assert!(rt; normalize::<PingPongMessage>(alloc, frame)?.as_slice() == *normal);
+    }
+    let four = normalize::<Zeros>(alloc, &counted(4))?;
+    assert!(rt; four.as_slice() == FOUR_ZEROS.as_slice());
+    assert!(rt; is_canonical_frame::<PingPongMessage>(alloc, &PING)?);
+    Ok(())
+}
+
+#[test]
+fn lines_are_written(rt: HostRuntime) -> Result<(), Fail> {
+    let alloc = rt.alloc();
+    let ping = Message::deserialize(alloc, &PING)?;
+    let of_ping = "length 20\ntype 18\nflags 0\nsequence 0\nport 0\npayload ping 00010203\n";
+    assert!(rt; show_text(alloc, &ping)?.as_str() == of_ping);
+    assert!(rt; nlas_text(alloc, &TWO)?.as_str() == "0001 1 aa\n0002 4 01020304\n");
+    assert!(rt; frames_text(alloc, &DATAGRAM)?.as_str() == "20 18\n17 4\n");
+    Ok(())
+}
+
+/// A refused append leaves the datagram as it was, be it empty or not.
+#[test]
+fn frames_are_appended(rt: HostRuntime) -> Result<(), Fail> {
+    let alloc = rt.alloc();
+    let mut datagram = Vec::new(alloc);
+    if let Err(cause) = append_frame(alloc, &mut datagram, &PING) {
+        assert!(rt; datagram.is_empty());
+        return Err(Fail::from(cause));
+    }
+    assert!(rt; datagram.as_slice() == PING.as_slice());
+    let mut longer = PING.to_vec(alloc)?;
+    if let Err(cause) = append_frame(alloc, &mut longer, &DATAGRAM[20..]) {
+        assert!(rt; longer.as_slice() == PING.as_slice());
+        return Err(Fail::from(cause));
+    }
+    assert!(rt; longer.as_slice() == DATAGRAM.as_slice());
+    Ok(())
+}
+
+/// One nest with one leaf, as it is read; the leaf lacks its padding.
+const READ: [u8; 9] = [9, 0, 1, 0x80, 5, 0, 2, 0, 0xaa];
+
+/// The same as it is written.
+const WRITTEN: [u8; 12] = [12, 0, 1, 0x80, 5, 0, 2, 0, 0xaa, 0, 0, 0];
+
+#[test]
+fn trees_are_read_and_written(rt: HostRuntime) -> Result<(), Fail> {
+    let alloc = rt.alloc();
+    let trees = read_tree(alloc, &READ)?;
+    assert!(rt; is_well_formed(&trees));
+    if is_well_formed(&trees) {
+        assert!(rt; write_tree(alloc, &trees)?.as_slice() == WRITTEN.as_slice());
+    }
+    match read_tree(alloc, &[8, 0, 1, 0, 1, 2, 3, 4, 3, 0, 2, 0]) {
+        Ok(_) => assert!(rt; false),
+        Err(fault) => {
+            if is_want_of_memory(&fault) {
+                return Err(Fail::from(fault));
+            }
+            let text = "NLA has invalid length: 3 (should be at least 4 bytes)";
+            assert!(rt; fault.to_string(alloc)?.as_str() == text);
+        }
+    }
+    Ok(())
+}
+
+fn is_want_of_memory(fault: &TreeFault) -> bool {
+    match fault {
+        TreeFault::Decode(cause) => cause.is_out_of_memory(),
+        _ => false,
+    }
+}
