@@ -16,7 +16,7 @@ def built(name, of="netlink_frame"):
     """The path of a program that `rt ci` left in the folder of the crate."""
     path = os.path.join(TOP, "crates", of, "out", name)
     if not os.path.isfile(path):
-        print(f"{os.path.relpath(path, TOP)} is not there: run ./check, or rt run and rt test in crates/{of}")
+        print(f"{os.path.relpath(path, TOP)} is not there: ./check builds it")
         tally("build", ["not built"], 0)
     return path
 

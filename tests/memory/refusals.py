@@ -33,9 +33,9 @@ WANTS = [
     for error in (b"OutOfMemory", b"AllocError", b"Decode(OutOfMemory)")
 ]
 
-# The modules of tests that are run here, in whichever crate, and single tests.
+# The modules of tests that are run here, in whichever crate, and a test of the example's caller.
 REFUSED, NOT_ASKED = "::memory_refused::", "::memory_not_asked::"
-SINGLE = ["netlink_example tests::answers::requests_are_answered"]
+ANSWERED = ("netlink_example", "tests::answers::requests_are_answered")
 
 COMMANDS = ["normalize", "show", "nlas", "canon", "frames"]
 
@@ -169,8 +169,9 @@ def tests_of_crates():
 def of_tests(library):
     """A sweep of each test of a call that asks for memory, and a run of each of one that asks for none."""
     built("netlink_frame_tests")
+    built("netlink_example_tests", "netlink_example")
     rows = [(crate, program, name) for crate, program, names in tests_of_crates() for name in names]
-    refused = [it for it in rows if REFUSED in it[2] or f"{it[0]} {it[2]}" in SINGLE]
+    refused = [it for it in rows if REFUSED in it[2] or (it[0], it[2]) == ANSWERED]
     not_asked = [it for it in rows if NOT_ASKED in it[2]]
 
     def sweep_of(row):
@@ -198,6 +199,8 @@ def main():
     sweeps = [*commands, *refused, *not_asked]
     faults = [fault for sweep in sweeps for fault in sweep.faults]
     passed = count(sweeps) - len(faults)
+    if not (commands and refused and not_asked and ANSWERED[1] in {it.words[1] for it in refused}):
+        faults.append("tests that are to be run here were not found")
     for program in {sweep.words[0] for sweep in sweeps}:
         faults += other_ways_of(program)
     tally("memory", faults, passed)
