@@ -187,6 +187,8 @@ fn frames_are_normalised(rt: HostRuntime) -> Result<(), Fail> {
     }
     let four = normalize::<Zeros>(alloc, &counted(4))?;
     assert!(rt; four.as_slice() == FOUR_ZEROS.as_slice());
+    let ping = Message::from_inner(PingPongMessage::Ping([0u8, 1, 2, 3].to_vec(alloc)?));
+    assert!(rt; ping.into_frame(alloc)?.as_slice() == PING.as_slice());
     assert!(rt; is_canonical_frame::<PingPongMessage>(alloc, &PING)?);
     Ok(())
 }

@@ -10,8 +10,8 @@ use crate::tests::refusals::refuses;
 use netlink_ethernet::{Comparisons, look_up};
 use netlink_packet_core::{
     DefaultNla, Emitable, EthernetProtocol, Nla, NlaBuffer, Nlas, NlasIterator, Parseable,
-    append_nla, emit_nla, is_canonical_nlas, nla_align, nla_buffer_len, nla_fits, nla_place,
-    nlas_value_mut, normalize_nlas,
+    append_nla, emit_nla, is_canonical_nlas, nla_align, nla_buffer_len, nla_find, nla_find_raw,
+    nla_fits, nla_place, nlas_value_mut, normalize_nlas, write_nla_value,
 };
 use std::fmt;
 use std::fmt::Write;
@@ -120,6 +120,8 @@ fn blocks_are_walked(rt: HostRuntime) -> Result<(), Fail> {
     assert!(rt; walk.next().is_none());
     assert!(rt; walk == NlasIterator::new(&[]));
     assert!(rt; nla_place(&TWO, 1) == Some((12, 16)) && nla_place(&TWO, 2).is_none());
+    assert!(rt; nla_find(&TWO, 2) == Some(1) && nla_find(&TWO, 3).is_none());
+    assert!(rt; nla_find_raw(&TWO, 2) == Some(1) && nla_find_raw(&TWO, 0x8002).is_none());
     assert!(rt; nlas_fault(&TWO).is_none());
     match nlas_fault(&SHORT) {
         Some(fault) => assert!(rt; fault.number() == 7),
@@ -133,6 +135,7 @@ fn blocks_are_walked(rt: HostRuntime) -> Result<(), Fail> {
     let mut block = TWO;
     assert!(rt; overwrite(&mut block, 0, &[0xbb]));
     assert!(rt; !overwrite(&mut block, 1, &[0xbb]));
+    assert!(rt; write_nla_value(&mut block, 0, &[0xbb]) && !write_nla_value(&mut block, 2, &[]));
     assert!(rt; block == [5, 0, 1, 0, 0xbb, 0, 0, 0, 8, 0, 2, 0, 1, 2, 3, 4]);
     assert!(rt; is_canonical_nlas(&TWO) && !is_canonical_nlas(&SHORT));
     assert!(rt; nlas_value_mut(&mut block, 0).is_some_and(|value| value.len() == 1));

@@ -97,6 +97,8 @@ fn refusals_without_words(rt: HostRuntime) {
         assert!(rt; verdict.ok() == Some(false));
     }
     assert!(rt; refuses(normalize::<Zeros>(alloc, &counted(4294967280)), 15));
+    let long = NetlinkMessage::from_inner(Zeros(4294967280));
+    assert!(rt; refuses(long.into_frame(alloc), 15));
 }
 
 /// A body behind its code is not copied, and what the protocol refuses is not told.

@@ -25,6 +25,7 @@ fn views_of_a_message(rt: HostRuntime) -> Result<(), Fail> {
     let mut buffer = [0x55u8; 17];
     header.emit(&mut buffer);
     assert!(rt; &buffer[..16] == &REQUEST[..16] && buffer[16] == 0x55);
+    assert!(rt; view.borrowed().payload() == &REQUEST[16..]);
     assert!(rt; view.into_inner() == &REQUEST[..]);
     let rows: [(&[u8], u8); 2] = [(&PING[..15], 9), (&PING[..19], 10)];
     for (bytes, number) in rows.iter() {
@@ -67,9 +68,11 @@ fn views_of_bodies(rt: HostRuntime) -> Result<(), Fail> {
     assert!(rt; bytes == [0x2e, 0xfb, 0xff, 0xff, 9]);
     let done = DoneBuffer::new_checked(&bytes[..])?;
     assert!(rt; done.code() == -1234 && done.extended_ack() == &bytes[4..]);
+    assert!(rt; done.borrowed().extended_ack() == &bytes[4..]);
     assert!(rt; done.into_inner() == &bytes[..]);
     let error = ErrorBuffer::new_checked(&bytes[..])?;
     assert!(rt; error.code() == NonZeroI32::new(-1234) && error.payload() == &bytes[4..]);
+    assert!(rt; error.borrowed().payload() == &bytes[4..]);
     assert!(rt; error.into_inner() == &bytes[..]);
     assert!(rt; refuses(DoneBuffer::new_checked(&bytes[..3]), 12));
     assert!(rt; refuses(ErrorBuffer::new_checked(&bytes[..3]), 13));
