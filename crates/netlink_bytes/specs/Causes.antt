@@ -1,5 +1,5 @@
 -- The causes of a refusal: the number of each, and its text.
-use Rattle.std.specs.Prelude.{◌≡◌, ℕ, Bool, true, false, List, [], ◌++◌, codes, decimal, string_bytes}
+use Rattle.std.specs.Prelude.{◌≡◌, ℕ, Bool, true, false, List, [], ◌∷◌, ◌++◌, codes, decimal, string_bytes}
 use Rattle.netlink_bytes.specs.declared.error.DecodeError.{DecodeError}
 use Rattle.netlink_bytes.specs.declared.error.DecodeError.TheVariants.{InvalidBuffer, InvalidMacAddress, InvalidIpAddress, InvalidNumber, NlaBufferTooSmall, NlaLengthMismatch, NlaInvalidLength, BufferTooSmall, FrameShort, FrameCut, FrameLength, DoneShort, ErrorShort, Message, TooLong, OutOfMemory}
 
@@ -71,3 +71,42 @@ abbrev pub IsInvalidBuffer : List ℕ → ℕ → ℕ → DecodeError → Type 0
 IsInvalidBuffer name received minimum_length (InvalidBuffer held got least) = (string_bytes held ≡ name) × (got ≡ received) × (least ≡ minimum_length)
 IsInvalidBuffer name received minimum_length OutOfMemory = Unit {0}
 IsInvalidBuffer name received minimum_length _ = ⊥
+
+-- the text that a cause holds, which the others do without
+abbrev pub held_text : DecodeError → List ℕ
+held_text (InvalidBuffer name received minimum_length) = string_bytes name
+held_text (Message text) = string_bytes text
+held_text _ = []
+
+-- the sizes and lengths that a cause holds, in their order
+abbrev pub held_sizes : DecodeError → List ℕ
+held_sizes (InvalidBuffer name received minimum_length) = received ∷ minimum_length ∷ []
+held_sizes (InvalidMacAddress received) = received ∷ []
+held_sizes (InvalidIpAddress received) = received ∷ []
+held_sizes (InvalidNumber expected received) = expected ∷ received ∷ []
+held_sizes (NlaBufferTooSmall buffer_len nla_len) = buffer_len ∷ nla_len ∷ []
+held_sizes (NlaLengthMismatch buffer_len nla_len) = buffer_len ∷ nla_len ∷ []
+held_sizes (NlaInvalidLength buffer_len nla_len) = buffer_len ∷ nla_len ∷ []
+held_sizes (BufferTooSmall buffer_len value_len) = buffer_len ∷ value_len ∷ []
+held_sizes (FrameShort size inside) = size ∷ []
+held_sizes (FrameCut length size inside) = length ∷ size ∷ []
+held_sizes (FrameLength length inside) = length ∷ []
+held_sizes (DoneShort size inside) = size ∷ []
+held_sizes (ErrorShort size inside) = size ∷ []
+held_sizes _ = []
+
+-- the fault was found inside a larger call
+abbrev pub is_inside : DecodeError → Bool
+is_inside (FrameShort size inside) = inside
+is_inside (FrameCut length size inside) = inside
+is_inside (FrameLength length inside) = inside
+is_inside (DoneShort size inside) = inside
+is_inside (ErrorShort size inside) = inside
+is_inside _ = false
+
+-- two causes that nobody can tell apart
+pub record SameCause (a b : DecodeError) : Type 0 where
+  pub number : cause_number a ≡ cause_number b
+  pub text : held_text a ≡ held_text b
+  pub sizes : held_sizes a ≡ held_sizes b
+  pub inside : is_inside a ≡ is_inside b

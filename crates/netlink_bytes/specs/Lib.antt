@@ -1,5 +1,6 @@
 pub mod Causes
 pub mod Contexts
+pub mod Fields
 pub mod Laws
 pub mod Lending
 pub mod NonZero

@@ -1,11 +1,12 @@
 //! Why a call refuses.
 
-ghost use Rattle.std.specs.Prelude.{◌≡◌, ◌≢◌, ◌↔◌, ◌++◌, List, ℕ, [], IsTrue, IsOk, IfOk, codes, string_bytes};
+ghost use Rattle.std.specs.Prelude.{◌≡◌, ◌≢◌, ◌↔◌, ◌++◌, List, ℕ, [], IsTrue, IfOk, codes, string_bytes};
 ghost use Rattle.netlink_bytes.specs.Causes.{HoldsText, IsInvalidBuffer, TextBegins, cause_number};
 
 mod display;
 
-use std::alloc::{AllocError, Global};
+use crate::copies::text_copy_of;
+use std::alloc::{AllocError, AllocFailed, Global};
 use std::error::Error;
 use std::str::Utf8Error;
 use std::string::FromUtf8Error;
@@ -14,7 +15,7 @@ use std::string::FromUtf8Error;
 ///
 /// Only `InvalidBuffer` and `Message` hold memory. `inside` says that a fault was found
 /// inside a larger call, whose line then stands in front of the text.
-#[derive(Debug, Drop)]
+#[derive(Debug, Drop, PartialEq, Eq)]
 pub enum DecodeError {
     /// C1: a buffer is too short, by a name that the caller gives.
     InvalidBuffer {
@@ -121,7 +122,7 @@ impl DecodeError {
         ensures says { IsInvalidBuffer name.now received minimum_length result }
         ensures empty { name.now ≡ [] → result ≢ DecodeError.OutOfMemory }
     {
-        match copied(alloc, name) {
+        match text_copy_of(alloc, name) {
             Ok(name) => DecodeError::InvalidBuffer {
                 name,
                 received,
@@ -250,7 +251,7 @@ impl DecodeError {
         ensures says { HoldsText text.now result }
         ensures empty { text.now ≡ [] → result ≢ DecodeError.OutOfMemory }
     {
-        match copied(alloc, text) {
+        match text_copy_of(alloc, text) {
             Ok(text) => DecodeError::Message(text),
             Err(_) => DecodeError::OutOfMemory,
         }
@@ -298,17 +299,6 @@ impl DecodeError {
     }
 }
 
-/// A copy of the text. An empty one asks for no memory.
-fn copied(alloc: Global, text: &str) -> Result<String, AllocError>
-    ensures ok { IfOk result (λ copy. string_bytes copy ≡ text.now) }
-    ensures empty { text.now ≡ [] → IsOk result }
-{
-    if text.is_empty() {
-        return Ok(String::new(alloc));
-    }
-    String::from_str(alloc, text)
-}
-
 /// The text of an error of UTF-8, behind its fixed beginning.
 pub(crate) fn utf8_text(alloc: Global, error: Utf8Error) -> Result<String, AllocError>
     ensures { IfOk result (λ text. (rest : List ℕ) × (string_bytes text ≡ codes "Invalid UTF-8 sequence: " ++ rest)) }
@@ -338,5 +328,16 @@ impl From<AllocError> for DecodeError {
     /// C16, so that `?` hands on a refused request for memory.
     fn from(_refused: AllocError) -> Self {
         DecodeError::OutOfMemory
+    }
+}
+
+impl<T: Drop> From<AllocFailed<T>> for DecodeError {
+    ghost use Rattle.netlink_bytes.specs.declared.error.DecodeError.TheVariants.{OutOfMemory};
+
+    ghost from_gives = { λ _ e. e ≡ OutOfMemory };
+
+    /// C16 where a value found no room, so that `list.push(value)?` hands it on; the value is given up.
+    fn from(_refused: AllocFailed<T>) -> Self {
+        DecodeError::from(AllocError)
     }
 }

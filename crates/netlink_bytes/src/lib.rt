@@ -4,7 +4,9 @@
 
 mod addresses;
 mod context;
+mod copies;
 mod error;
+mod fields;
 pub mod laws;
 mod nonzero;
 mod numbers;
@@ -16,7 +18,9 @@ mod traits;
 
 pub use crate::addresses::{IpAddr, parse_i8, parse_ip, parse_ipv6, parse_mac, parse_u8};
 pub use crate::context::ErrorContext;
+pub use crate::copies::copy_of;
 pub use crate::error::DecodeError;
+pub use crate::fields::{i32_at, put_i32, put_u16, put_u32, u16_at, u32_at};
 pub use crate::nonzero::NonZeroI32;
 pub use crate::numbers::signed::{
     emit_i16, emit_i16_be, emit_i16_le, emit_i32, emit_i32_be, emit_i32_le, emit_i64, emit_i64_be,

@@ -2,6 +2,8 @@
 
 mod causes;
 mod contexts;
+mod copies;
+mod fields;
 mod numbers;
 mod readers;
 mod storage;

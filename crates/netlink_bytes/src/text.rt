@@ -6,6 +6,7 @@ ghost use Rattle.netlink_bytes.specs.Causes.{TextBegins};
 ghost use Rattle.netlink_bytes.specs.Text.{without_last_zero};
 ghost use Rattle.netlink_bytes.specs.declared.error.DecodeError.TheVariants.{OutOfMemory};
 
+use crate::copies::text_copy_of;
 use crate::error::{DecodeError, utf8_text};
 use std::alloc::Global;
 
@@ -20,12 +21,8 @@ pub fn parse_string(alloc: Global, payload: &[u8]) -> Result<String, DecodeError
     ensures refused { IfErr result (TextBegins (codes "Invalid UTF-8 sequence: ")) }
     ensures empty { without_last_zero payload.now ≡ [] → IsOk result }
 {
-    let bytes = cut_last_zero(payload);
-    if bytes.is_empty() {
-        return Ok(String::new(alloc));
-    }
-    match std::str::from_utf8(bytes) {
-        Ok(text) => Ok(String::from_str(alloc, text)?),
+    match std::str::from_utf8(cut_last_zero(payload)) {
+        Ok(text) => Ok(text_copy_of(alloc, text)?),
         Err(error) => Err(DecodeError::Message(utf8_text(alloc, error)?)),
     }
 }

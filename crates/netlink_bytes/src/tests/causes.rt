@@ -1,7 +1,8 @@
 //! The text and the number of each cause.
 
 use crate::DecodeError;
-use std::alloc::AllocError;
+use crate::laws::causes_equal;
+use std::alloc::{AllocError, AllocFailed, Global};
 use std::test::Fail;
 
 /// The error of the byte ff, which is no text.
@@ -123,6 +124,11 @@ fn causes(rt: HostRuntime) -> Result<(), Fail> {
         ),
         (DecodeError::out_of_memory(), 16, "out of memory"),
         (DecodeError::from(AllocError), 16, "out of memory"),
+        (
+            DecodeError::from(AllocFailed { value: 7u8 }),
+            16,
+            "out of memory",
+        ),
     ];
     for (cause, number, text) in &rows {
         assert_eq!(rt; cause.number(), *number, "{text}");
@@ -136,4 +142,55 @@ fn causes(rt: HostRuntime) -> Result<(), Fail> {
         "Invalid UTF-8 sequence: invalid utf-8 sequence of 1 bytes from index 0"
     );
     Ok(())
+}
+
+/// Causes that differ from one another in their kind, a number, a text or `inside`.
+fn different(alloc: Global) -> [DecodeError; 33] {
+    [
+        DecodeError::invalid_buffer(alloc, "x", 3, 8),
+        DecodeError::invalid_buffer(alloc, "y", 3, 8),
+        DecodeError::invalid_buffer(alloc, "x", 4, 8),
+        DecodeError::invalid_buffer(alloc, "x", 3, 9),
+        DecodeError::invalid_mac_address(5),
+        DecodeError::invalid_mac_address(7),
+        DecodeError::invalid_ip_address(5),
+        DecodeError::invalid_ip_address(7),
+        DecodeError::invalid_number(8, 7),
+        DecodeError::invalid_number(7, 8),
+        DecodeError::nla_buffer_too_small(1, 4),
+        DecodeError::nla_buffer_too_small(2, 4),
+        DecodeError::nla_length_mismatch(1, 4),
+        DecodeError::nla_length_mismatch(1, 5),
+        DecodeError::nla_invalid_length(1, 4),
+        DecodeError::nla_invalid_length(4, 1),
+        DecodeError::buffer_too_small(1, 4),
+        DecodeError::buffer_too_small(4, 1),
+        DecodeError::frame_short(4, false),
+        DecodeError::frame_short(4, true),
+        DecodeError::frame_cut(40, 24, false),
+        DecodeError::frame_cut(40, 24, true),
+        DecodeError::frame_cut(24, 40, true),
+        DecodeError::frame_length(4, false),
+        DecodeError::frame_length(4, true),
+        DecodeError::done_short(3, false),
+        DecodeError::done_short(3, true),
+        DecodeError::error_short(3, false),
+        DecodeError::error_short(3, true),
+        DecodeError::from_text(alloc, "out of memory"),
+        DecodeError::from_text(alloc, ""),
+        DecodeError::too_long(),
+        DecodeError::out_of_memory(),
+    ]
+}
+
+#[test]
+fn causes_are_told_apart(rt: HostRuntime) {
+    causes_equal();
+    let alloc = rt.alloc();
+    let others = different(alloc);
+    for (at, cause) in different(alloc).iter().enumerate() {
+        for (place, other) in others.iter().enumerate() {
+            assert_eq!(rt; cause == other, at == place);
+        }
+    }
 }

@@ -1,0 +1,86 @@
+//! Numbers at their places in bytes, in native order, as the fields of a fixed header are. No call
+//! asks for memory.
+#![tactic(auto, using(crate::proofs::Bytes::numbers_as_bytes))]
+
+ghost use Rattle.std.specs.Prelude.{◌≡◌, ◌≤◌, ◌+◌, length, slice_range};
+ghost use Rattle.netlink_bytes.specs.Fields.{number_at};
+ghost use Rattle.netlink_bytes.specs.Numbers.{signed, text_le, unsigned};
+ghost use Rattle.netlink_bytes.specs.Storage.{put_at};
+
+/// The number in the 2 bytes from a place on, native order; the place plus 2 is at most the size.
+#[inline]
+pub fn u16_at(bytes: &[u8], at: usize) -> u16
+    requires inside { at + 2 ≤ length bytes.now }
+    ensures number { result ≡ number_at at 2 bytes.now }
+{
+    u16::from_ne_bytes(part(bytes, at))
+}
+
+/// The number in the 4 bytes from a place on, native order; the place plus 4 is at most the size.
+#[inline]
+pub fn u32_at(bytes: &[u8], at: usize) -> u32
+    requires inside { at + 4 ≤ length bytes.now }
+    ensures number { result ≡ number_at at 4 bytes.now }
+{
+    u32::from_ne_bytes(part(bytes, at))
+}
+
+/// The signed number, two's complement, in the 4 bytes from a place on, native order; the place
+/// plus 4 is at most the size.
+#[inline]
+pub fn i32_at(bytes: &[u8], at: usize) -> i32
+    requires inside { at + 4 ≤ length bytes.now }
+    ensures number { result ≡ signed 4 (number_at at 4 bytes.now) }
+{
+    u32_at(bytes, at).cast_signed()
+}
+
+/// Writes the number over the 2 bytes from a place on, native order, and leaves the others; the
+/// place plus 2 is at most the size.
+#[inline]
+pub fn put_u16(bytes: &mut [u8], at: usize, value: u16)
+    requires inside { at + 2 ≤ length bytes.old }
+    ensures written { bytes.new ≡ put_at bytes.old at (text_le value 2) }
+{
+    put::<2>(bytes, at, value.to_ne_bytes());
+}
+
+/// Writes the number over the 4 bytes from a place on, native order, and leaves the others; the
+/// place plus 4 is at most the size.
+#[inline]
+pub fn put_u32(bytes: &mut [u8], at: usize, value: u32)
+    requires inside { at + 4 ≤ length bytes.old }
+    ensures written { bytes.new ≡ put_at bytes.old at (text_le value 4) }
+{
+    put::<4>(bytes, at, value.to_ne_bytes());
+}
+
+/// Writes the signed number, two's complement, over the 4 bytes from a place on, native order, and
+/// leaves the others; the place plus 4 is at most the size.
+#[inline]
+pub fn put_i32(bytes: &mut [u8], at: usize, value: i32)
+    requires inside { at + 4 ≤ length bytes.old }
+    ensures written { bytes.new ≡ put_at bytes.old at (text_le (unsigned 4 value) 4) }
+{
+    put_u32(bytes, at, value.cast_unsigned());
+}
+
+/// The bytes from a place on.
+#[inline]
+fn part<const N: usize>(bytes: &[u8], at: usize) -> [u8; N]
+    requires { at + N ≤ length bytes.now }
+    ensures { result ≡ slice_range bytes.now at (at + N) }
+{
+    let mut part = [0; N];
+    part.copy_from_slice(&bytes[at..at + N]);
+    part
+}
+
+/// Writes the text over the bytes from a place on.
+#[inline]
+fn put<const N: usize>(bytes: &mut [u8], at: usize, text: [u8; N])
+    requires { at + N ≤ length bytes.old }
+    ensures { bytes.new ≡ put_at bytes.old at text.entry }
+{
+    bytes[at..at + N].copy_from_slice(&text);
+}
