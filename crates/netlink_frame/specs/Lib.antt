@@ -1,3 +1,4 @@
+pub mod Ending
 pub mod Lines
 pub mod PingPong
 pub mod PingPongLaws

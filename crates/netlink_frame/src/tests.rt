@@ -5,6 +5,7 @@ mod attributes;
 mod cuts;
 mod datagrams;
 mod devices;
+mod endings;
 mod lengths;
 mod mark;
 mod memory_not_asked;

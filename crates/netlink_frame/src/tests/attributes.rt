@@ -3,6 +3,7 @@
 use crate::command::Command;
 use crate::nlas::nlas_fault;
 use crate::run::{Fault, run};
+use netlink_packet_core::DecodeError;
 use std::test::Fail;
 
 pub const TWO: [u8; 16] = [5, 0, 1, 0, 0xaa, 0, 0, 0, 8, 0, 2, 0, 1, 2, 3, 4];
@@ -81,13 +82,29 @@ fn canonical_blocks(rt: HostRuntime) -> Result<(), Fail> {
     Ok(())
 }
 
+/// The block ends in an attribute whose length says 3.
 #[test]
-fn a_damaged_block_has_no_canonical_one(rt: HostRuntime) {
+fn a_damaged_block_has_no_canonical_one(rt: HostRuntime) -> Result<(), Fail> {
     let mut reader: &[u8] = &SHORT;
     let mut output: Vec<u8> = Vec::new(rt.alloc());
     match run(rt.alloc(), Command::Canon, &mut reader, &mut output) {
-        Err(Fault::Decode(cause)) => assert_eq!(rt; cause.number(), 7),
+        Err(Fault::Decode(cause)) => {
+            assert!(rt;
+                matches!(
+                    &cause,
+                    DecodeError::NlaInvalidLength {
+                        buffer_len: 4,
+                        nla_len: 3,
+                    }
+                )
+            );
+            assert_eq!(rt;
+                cause.to_string(rt.alloc())?.as_str(),
+                "NLA has invalid length: 3 (should be at least 4 bytes)"
+            );
+        }
         _ => assert!(rt; false),
     }
     assert!(rt; output.is_empty());
+    Ok(())
 }

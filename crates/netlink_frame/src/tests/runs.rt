@@ -5,7 +5,9 @@ ghost use Rattle.netlink_frame.specs.Run.{Makes};
 
 use crate::command::Command;
 use crate::laws::makes_once;
+use crate::ping_pong::DeserializeError;
 use crate::run::{Fault, run};
+use crate::samples::Zeros;
 use crate::tests::messages::PING;
 use std::alloc::Global;
 use std::io;
@@ -96,4 +98,35 @@ fn words_and_faults(rt: HostRuntime) -> Result<(), Fail> {
     }
     assert!(rt; output.is_empty());
     Ok(())
+}
+
+#[test]
+fn texts_of_the_protocols_errors(rt: HostRuntime) -> Result<(), Fail> {
+    assert_eq!(rt;
+        DeserializeError::InvalidType
+            .to_string(rt.alloc())?
+            .as_str(),
+        "invalid ping-pong message: invalid message type"
+    );
+    assert_eq!(rt;
+        DeserializeError::OutOfMemory
+            .to_string(rt.alloc())?
+            .as_str(),
+        "out of memory"
+    );
+    Ok(())
+}
+
+/// A copy is equal, and what it was taken of is still there.
+#[test]
+fn copies_are_equal(rt: HostRuntime) {
+    let command = Command::Canon;
+    let same = command;
+    assert!(rt; same == command && command == Command::Canon);
+    let error = DeserializeError::InvalidType;
+    let same = error;
+    assert!(rt; same == error && error == DeserializeError::InvalidType);
+    let zeros = Zeros(3);
+    let same = zeros;
+    assert!(rt; same == zeros && zeros == Zeros(3));
 }
