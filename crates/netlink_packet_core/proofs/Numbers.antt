@@ -1,5 +1,5 @@
 -- Numbers at their places, and codes with what stands behind them.
-use Rattle.std.proofs.Common.{◌≡◌, ℕ, ℤ, ◌+◌, ◌<◌, ◌≤◌, ◌^◌, List, ◌++◌, length, take, drop, refl, ap, sym, ◌∙◌}
+use Rattle.std.proofs.Common.{◌≡◌, ℕ, ℤ, ◌+◌, ◌<◌, ◌≤◌, ◌^◌, List, ◌++◌, length, take, drop, ap, sym, ◌∙◌}
 use Rattle.std.proofs.lemmas.List.{take_at, drop_at}
 use Rattle.netlink_bytes.specs.Numbers.{IsBytes, IsSigned, number_le, text_le, signed, unsigned}
 use Rattle.netlink_bytes.specs.NumberLaws.{length-text_le, number_le-text_le, front-fits, split_number, signed-unsigned, unsigned-signed, unsigned-fits, signed-fits}
@@ -39,7 +39,3 @@ rest-code payload code rest is = ap (drop 4) is.whole ∙ drop_at (code_text cod
 pub code_once : (payload : List ℕ) (c d : ℤ) (r s : List ℕ) → IsCodeAndRest payload c r → IsCodeAndRest payload d s → (c ≡ d) × (r ≡ s)
 code_once payload c d r s p q =
     (sym (front-code payload c r p) ∙ front-code payload d s q, sym (rest-code payload c r p) ∙ rest-code payload d s q)
-
--- a code and its rest are written in one way
-pub code_text_once : (c d : ℤ) (r s : List ℕ) → IsSigned 4 c → IsSigned 4 d → code_text c ++ r ≡ code_text d ++ s → (c ≡ d) × (r ≡ s)
-code_text_once c d r s p q e = code_once (code_text c ++ r) c d r s (record { whole = refl; in_range = p }) (record { whole = e; in_range = q })

@@ -51,7 +51,7 @@ payload_same decoding (InnerMessage a) (InnerMessage b) h payload p q =
     let same : Some (decoding.stands_for a) ≡ Some (decoding.stands_for b) = sym p.2 ∙ q.2 in cc
 
 -- and payloads that say the same have one type and one text
-same_text : {I : Type 0} {eq : I → I → Bool} {encoding : Encoding I} {decoding : Decoding I} → Laws eq encoding decoding → (x y : NetlinkPayload I) → SamePayload decoding x y → (payload_type encoding x ≡ payload_type encoding y) × (payload_text encoding x ≡ payload_text encoding y)
+pub same_text : {I : Type 0} {eq : I → I → Bool} {encoding : Encoding I} {decoding : Decoding I} → Laws eq encoding decoding → (x y : NetlinkPayload I) → SamePayload decoding x y → (payload_type encoding x ≡ payload_type encoding y) × (payload_text encoding x ≡ payload_text encoding y)
 same_text laws (Done a) (Done b) same = (refl, cc)
 same_text laws (Error a) (Error b) same = (refl, cc)
 same_text laws Noop Noop same = (refl, refl)

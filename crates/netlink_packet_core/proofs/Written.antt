@@ -41,7 +41,7 @@ type_fits laws (Overrun bytes) i = omega arith
 type_fits laws (InnerMessage v) i = (own_is_lawful laws v i).width
 
 -- the header of a finalized message is in range
-pub finalized_in_range : {I : Type 0} {eq : I → I → Bool} {encoding : Encoding I} {decoding : Decoding I} → Laws eq encoding decoding → (m : NetlinkMessage I) → Fits encoding m → InnerInRange decoding m.payload → HeaderInRange (finalized encoding m).header
+finalized_in_range : {I : Type 0} {eq : I → I → Bool} {encoding : Encoding I} {decoding : Decoding I} → Laws eq encoding decoding → (m : NetlinkMessage I) → Fits encoding m → InnerInRange decoding m.payload → HeaderInRange (finalized encoding m).header
 finalized_in_range laws m fits i = record {
   length = fits.size;
   message_type = type_fits laws m.payload i;
@@ -126,13 +126,7 @@ lawful_is_canonical decoding pair lawful h in_range kind size =
       own = λ _. lawful.again h kind size ∙ ap (λ (t : ℕ). Some (t, pair.1)) (sym kind);
     })
 
--- one canonical frame is of one header and one payload text
-pub written_once : {I : Type 0} (encoding : Encoding I) (m n : NetlinkMessage I) → HeaderInRange (finalized encoding m).header → HeaderInRange (finalized encoding n).header → canonical_frame encoding m ≡ canonical_frame encoding n → ((finalized encoding m).header ≡ (finalized encoding n).header) × (payload_text encoding m.payload ≡ payload_text encoding n.payload)
-written_once encoding m n i j e = (
-  sym (header_of-header_text (finalized encoding m).header (payload_text encoding m.payload) i) ∙ ap header_of e ∙ header_of-header_text (finalized encoding n).header (payload_text encoding n.payload) j,
-  sym (drop-header_text (finalized encoding m).header (payload_text encoding m.payload)) ∙ ap (drop 16) e ∙ drop-header_text (finalized encoding n).header (payload_text encoding n.payload),
-)
-
+-- messages of one finalized header and one payload text are written alike
 pub written_from : {I : Type 0} (encoding : Encoding I) (m n : NetlinkMessage I) → (finalized encoding m).header ≡ (finalized encoding n).header → payload_text encoding m.payload ≡ payload_text encoding n.payload → canonical_frame encoding m ≡ canonical_frame encoding n
 written_from encoding m n h t =
     ap (λ (j : NetlinkHeader). header_text j ++ payload_text encoding m.payload) h

@@ -4,7 +4,7 @@ ghost use Rattle.std.specs.Prelude.{◌≡◌, ◌≢◌, ◌↔◌, ◌+◌, �
 ghost use Rattle.netlink_packet_core.specs.Canonical.{Fits, IsCanonicalFrame, canonical_frame, finalized};
 ghost use Rattle.netlink_packet_core.specs.Frame.{Frame, SamePayload};
 ghost use Rattle.netlink_packet_core.specs.Header.{HeaderInRange, field, header_text};
-ghost use Rattle.netlink_packet_core.specs.Payload.{InnerInRange, PayloadInRange, payload_text, payload_type, raw_code};
+ghost use Rattle.netlink_packet_core.specs.Payload.{InnerInRange, raw_code};
 ghost use Rattle.netlink_packet_core.specs.Protocol.{IsOwnType};
 ghost use Rattle.netlink_packet_core.specs.Refusal.{IsFrameFault, IsRefusal, SameRefusal};
 ghost use Rattle.netlink_bytes.specs.declared.error.DecodeError.{DecodeError};
@@ -41,13 +41,6 @@ fn known<I: NetlinkProtocol>(payload: &NetlinkPayload<I>)
         message.in_widths();
     }
 }
-
-/// Payloads are equal exactly if their types and texts are.
-fn equal_payloads<I: NetlinkProtocol>()
-    ensures { (x y : NetlinkPayload I) → PayloadInRange x → PayloadInRange y → InnerInRange I.decoding x → InnerInRange I.decoding y
-        → ((payload_type I.encoding x ≡ payload_type I.encoding y) × (payload_text I.encoding x ≡ payload_text I.encoding y))
-        ↔ IsTrue (⟦<NetlinkPayload<I> as PartialEq>⟧.eq x y) }
-{}
 
 /// Two views are equal exactly if their storages are, by `==`.
 pub fn message_views_equal<T: Storage + PartialEq>()
@@ -93,7 +86,7 @@ pub fn frame_unique<I: NetlinkProtocol>()
     ensures written { (bytes : List ℕ) (m n : NetlinkMessage I) → Frame I.decoding bytes m → Frame I.decoding bytes n
         → canonical_frame I.encoding m ≡ canonical_frame I.encoding n }
 {
-    equal_payloads::<I>();
+    messages_equal::<I>();
 }
 
 /// Bytes are refused in one way at most, want of memory and a protocol's own words aside, and the
@@ -123,7 +116,7 @@ pub fn reads_back<I: NetlinkProtocol>(m: &NetlinkMessage<I>, n: &NetlinkMessage<
 {
     known(&m.payload);
     known(&n.payload);
-    equal_payloads::<I>();
+    messages_equal::<I>();
 }
 
 /// What a protocol reads, of any header and payload, is written as a canonical frame: the type is

@@ -1,4 +1,4 @@
-use Rattle.netlink_packet_core.proofs.Once.{frame_same, frame_once, body_in_range, headers_and}
+use Rattle.netlink_packet_core.proofs.Once.{frame_same, body_in_range}
 use Rattle.netlink_packet_core.proofs.Normalized.{fits_alike, written_alike}
 use Rattle.netlink_packet_core.proofs.Written.{Laws}
 use Rattle.netlink_packet_core.proofs.laws.frame_unique.Given
@@ -10,10 +10,9 @@ laws g = let met = g.met.I.NetlinkProtocol in record { own_pair = met.own_pair; 
 pub returns-clause-unique : goal.returns-clause-unique
 returns-clause-unique g c bytes m n f k =
     let decoding = g.I.NetlinkDeserializable.decoding in
-    let same = frame_once (laws g) bytes m n f k in
     let first = body_in_range decoding m.payload m.header f.0 f.2 in
     let second = body_in_range decoding n.payload n.header k.0 k.2 in
-    headers_and _ m.header n.header same.header ((c.equal_payloads.ensures m.payload n.payload first.0 second.0 first.1 second.1).0 (same.kind, same.text))
+    (c.messages_equal.ensures.message m n first.1 second.1).1 (frame_same decoding bytes m n f k)
 
 pub returns-clause-fits : goal.returns-clause-fits
 returns-clause-fits g c bytes m n f k = fits_alike (laws g) bytes n m k f

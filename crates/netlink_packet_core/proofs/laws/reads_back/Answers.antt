@@ -1,11 +1,10 @@
-use Rattle.std.proofs.Common.{◌≡◌, ◌≤◌, sym, ap, arith, length}
+use Rattle.std.proofs.Common.{◌≤◌, ℕ, List, [], ◌++◌, sym, subst, arith, length}
 use Rattle.netlink_packet_core.specs.Canonical.{canonical_frame, finalized}
-use Rattle.netlink_packet_core.specs.Payload.{payload_type}
+use Rattle.netlink_packet_core.specs.Frame.{Frame}
 use Rattle.netlink_packet_core.proofs.Headers.{begins-holds}
-use Rattle.netlink_packet_core.proofs.Written.{Laws, written_is_canonical, written_once, written_from, reads_before, finalized_in_range}
+use Rattle.netlink_packet_core.proofs.Written.{Laws, written_is_canonical, written_from, reads_before}
 use Rattle.netlink_packet_core.proofs.Canonicals.{canonical_is_written, cut_holds_none, cut_short, cut_later}
-use Rattle.netlink_packet_core.proofs.Once.{headers_and, and_headers}
-use Rattle.netlink_packet_core.specs.declared.header.NetlinkHeader.{NetlinkHeader}
+use Rattle.netlink_packet_core.proofs.Once.{frame_same, same_text}
 use Rattle.netlink_packet_core.proofs.laws.reads_back.Given
 use Rattle.netlink_packet_core.proofs.laws.reads_back.Goals as goal
 
@@ -40,14 +39,17 @@ returns-clause-cut_later g c k many proper =
 pub returns-clause-equal : goal.returns-clause-equal
 returns-clause-equal g c =
     let encoding = g.I.NetlinkSerializable.encoding in
+    let decoding = g.I.NetlinkDeserializable.decoding in
     let m = c.args.m.now in
     let n = c.args.n.now in
-    let equal = c.equal_payloads.ensures m.payload n.payload c.requires.first.payload c.requires.second.payload c.known.ensures c.known-2.ensures in (
+    let equal = c.messages_equal.ensures.message (finalized encoding m) (finalized encoding n) c.known.ensures c.known-2.ensures in (
       λ e.
-          let both = written_once encoding m n (finalized_in_range (laws g) m c.requires.first c.known.ensures) (finalized_in_range (laws g) n c.requires.second c.known-2.ensures) e in
-          let types : payload_type encoding m.payload ≡ payload_type encoding n.payload = ap (λ (h : NetlinkHeader). h.message_type) both.0 in
-          headers_and _ (finalized encoding m).header (finalized encoding n).header both.0 (equal.0 (types, both.1)),
+          let first = reads_before (laws g) m c.requires.first c.known.ensures [] in
+          let second = reads_before (laws g) n c.requires.second c.known-2.ensures [] in
+          let moved = subst (λ (b : List ℕ). Frame decoding (b ++ []) (finalized encoding n)) (sym e) second in
+          equal.1 (frame_same decoding (canonical_frame encoding m ++ []) (finalized encoding m) (finalized encoding n) first moved),
       λ t.
-          let both = and_headers _ (finalized encoding m).header (finalized encoding n).header t in
-          written_from encoding m n both.0 (equal.1 both.1).1,
+          let both = equal.0 t in
+          let same = same_text (laws g) m.payload n.payload both.1 in
+          written_from encoding m n both.0 same.1,
     )
