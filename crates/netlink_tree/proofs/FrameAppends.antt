@@ -1,6 +1,6 @@
 -- A frame behind a datagram whose size is a multiple of 4.
-use Rattle.std.proofs.Common.{◌≡◌, ℕ, ◌+◌, ◌-◌, ◌%◌, List, [], ◌∷◌, ◌++◌, length, length-append, take, refl, ap, sym, subst, ◌∙◌, inl, inr, arith, Option, None, append_assoc, append-nil}
-use Rattle.std.proofs.lemmas.List.{length-replicate, take_all}
+use Rattle.std.proofs.Common.{◌≡◌, ℕ, ◌%◌, List, [], ◌∷◌, ◌++◌, length, refl, ap, sym, subst, ◌∙◌, inl, inr, arith, Option, None, append_assoc, append-nil}
+use Rattle.std.proofs.lemmas.List.{length-replicate}
 use Rattle.std.specs.Prelude.{replicate}
 use Rattle.netlink_packet_core.specs.Attribute.{padding}
 use Rattle.netlink_packet_core.specs.DecodeError.{DecodeError}
@@ -51,15 +51,12 @@ one_frame bytes holds =
       refl,
     )
 
--- a text added, and then zeros up to the end of its padding
-pub added : (old front middle new text : List ℕ) (end size : ℕ) → front ≡ old → middle ≡ front ++ text → size ≡ length middle → new ≡ take end middle ++ replicate (end - size) 0
-    → end ≡ length old + (length text + padding (length text)) → new ≡ old ++ padded_frame text
-added old front middle new text end size first second counted third total =
-    let parts : middle ≡ old ++ text = second ∙ ap (λ (x : List ℕ). x ++ text) first in
-    let long : length middle ≡ length old + length text = ap length parts ∙ length-append old text in
-    let missing : end - size ≡ padding (length text) = omega arith in
-    third ∙ ap (λ (x : List ℕ). x ++ replicate (end - size) 0) (take_all end middle (omega arith) ∙ parts) ∙ ap (λ (n : ℕ). (old ++ text) ++ replicate n 0) missing
-    ∙ append_assoc old text (replicate (padding (length text)) 0)
+-- a text added, and then the zeros of its padding
+pub added : (old front middle new text : List ℕ) (count : ℕ) → front ≡ old → middle ≡ front ++ text → new ≡ middle ++ replicate count 0
+    → count ≡ padding (length text) → new ≡ old ++ padded_frame text
+added old front middle new text count first second third counted =
+    third ∙ ap (λ (x : List ℕ). x ++ replicate count 0) (second ∙ ap (λ (x : List ℕ). x ++ text) first)
+    ∙ ap (λ (n : ℕ). (old ++ text) ++ replicate n 0) counted ∙ append_assoc old text (replicate (padding (length text)) 0)
 
 -- a datagram and one frame more
 pub frames_push : (old new text bytes : List ℕ) → length old % 4 ≡ 0 → HoldsFrame bytes → text ≡ frame_of bytes → new ≡ old ++ padded_frame text

@@ -1,6 +1,6 @@
 //! The frames of a datagram, one after another.
 
-ghost use Rattle.std.specs.Prelude.{◌≡◌, ◌+◌, ◌%◌, ◌^◌, ◌<◌, ◌≤◌, ◌++◌, ◌⊎◌, ◌∷◌, [], List, ℕ, None, false, IfErr, IfOk, IsOk, OnErr, OnOk, length, vec_len, vec_capacity};
+ghost use Rattle.std.specs.Prelude.{◌≡◌, ◌+◌, ◌%◌, ◌^◌, ◌<◌, ◌≤◌, ◌++◌, ◌⊎◌, ◌∷◌, [], List, ℕ, None, false, IfErr, IfOk, IsOk, OnErr, OnOk, length, replicate, vec_len, vec_capacity};
 ghost use Rattle.std.specs.Iterator.{at_most};
 ghost use Rattle.netlink_packet_core.specs.Header.{field, HoldsFrame};
 ghost use Rattle.netlink_packet_core.specs.Refusal.{IsFrameFault};
@@ -8,7 +8,7 @@ ghost use Rattle.netlink_tree.specs.FrameSteps.{unread_frames, frame_steps, fram
 ghost use Rattle.netlink_tree.specs.FrameWalk.{StartsFrame, FrameWalk, frame_of, padded_frame};
 
 use netlink_packet_core::{DecodeError, NetlinkBuffer, nla_align};
-use std::alloc::Global;
+use std::alloc::{AllocError, Global};
 
 /// The frames of a datagram in order. An error (C9, C10 or C11) is the last item, and `None` comes
 /// for good behind it.
@@ -87,7 +87,8 @@ fn behind_frame(bytes: &[u8], size: usize) -> &[u8]
     }
 }
 
-/// Adds a frame at the end of a datagram, with its padding of zeros.
+/// Adds a frame at the end of a datagram, with its padding of zeros. The datagram's size in bytes has
+/// to be a multiple of 4, as it is where it is empty and behind each call.
 ///
 /// Of `frame` the first `length` bytes are added, and nothing past them. Bytes that
 /// `NetlinkBuffer::new_checked` refuses are answered by the same error (C9, C10 or C11) without a
@@ -108,9 +109,23 @@ pub fn append_frame(_alloc: Global, datagram: &mut Vec<u8>, frame: &[u8]) -> Res
 {
     let text = first_frame(frame)?;
     let whole = nla_align(text.len());
-    let end = datagram.len() + whole;
     datagram.reserve(whole)?;
     datagram.extend_from_slice(text)?;
-    datagram.resize(end, 0)?;
+    append_zeros(datagram, whole - text.len())?;
     Ok(())
+}
+
+/// Adds fewer than 4 zeros, each number of them by a copy of a fixed size.
+#[inline(always)]
+fn append_zeros(datagram: &mut Vec<u8>, count: usize) -> Result<(), AllocError>
+    requires { count < 4 }
+    ensures ok { OnOk result (datagram.new.items ≡ datagram.old.items ++ replicate count 0) }
+    ensures room { vec_len datagram.old + count ≤ vec_capacity datagram.old → IsOk result }
+{
+    match count {
+        0 => Ok(()),
+        1 => datagram.extend_from_slice(&[0]),
+        2 => datagram.extend_from_slice(&[0, 0]),
+        _ => datagram.extend_from_slice(&[0, 0, 0]),
+    }
 }

@@ -16,8 +16,9 @@ use std::alloc::Global;
 /// The most bytes of a value: the length field has 16 bits and counts the header.
 const LONGEST_VALUE: usize = 65531;
 
-/// The canonical block of well-formed trees, at every depth: each attribute with its kind as it is
-/// and with its padding of zeros, the value of a nest being the block of what is inside.
+/// The canonical block of trees, at every depth: each attribute with its kind as it is and with its
+/// padding of zeros, the value of a nest being the block of what is inside. The trees have to be well
+/// formed, as `is_well_formed` tells; those that `read_tree` gives are.
 ///
 /// Where an attribute stands deeper than 16, the outer ones having depth 1, the answer is `TooDeep`;
 /// otherwise, where a value or the block inside a nest is above 65531 bytes, it is `TooLong`.

@@ -79,6 +79,8 @@ fn walked(alloc: Global, datagram: &[u8]) -> Result<(Vec<usize>, Vec<u8>, String
 fn a_datagram_ends_for_good(rt: HostRuntime) {
     let mut walk = Frames::new(CUT);
     let start = walk;
+    let mut again = start;
+    assert!(rt; matches!(again.next(), Some(Err(_))));
     assert!(rt; matches!(walk.next(), Some(Err(_))));
     assert!(rt; walk.next().is_none());
     assert!(rt; walk.next().is_none());

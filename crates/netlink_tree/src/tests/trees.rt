@@ -4,7 +4,8 @@ use crate::laws::{
     frames_equal, frames_given, frames_hold, frames_stop, frames_total, frames_unique, trees_equal,
     trees_read_back, trees_total, trees_unique, trees_write_back,
 };
-use crate::{NlaTree, is_well_formed, read_tree, write_tree};
+use crate::{NlaTree, TreeFault, is_well_formed, read_tree, write_tree};
+use netlink_packet_core::DecodeError;
 use std::alloc::{AllocError, Global};
 use std::test::Fail;
 
@@ -132,8 +133,9 @@ fn kinds_are_looked_at_inside(rt: HostRuntime) -> Result<(), Fail> {
     Ok(())
 }
 
+/// Calls alone: a law has no effect, and its clause is proved.
 #[test]
-fn the_laws_hold() {
+fn the_laws_are_called() {
     frames_total();
     frames_unique();
     frames_given();
@@ -150,6 +152,26 @@ fn the_laws_hold() {
 const TOO_DEEP: &str = "attributes are nested deeper than 16";
 
 const TOO_LONG: &str = "the value of an attribute is longer than 65531 bytes";
+
+/// Each fault with its exact text, as it is made of what `?` hands on.
+#[test]
+fn texts_of_faults(rt: HostRuntime) -> Result<(), Fail> {
+    let alloc = rt.alloc();
+    assert_eq!(rt; TreeFault::TooDeep.to_string(alloc)?.as_str(), TOO_DEEP);
+    assert_eq!(rt; TreeFault::TooLong.to_string(alloc)?.as_str(), TOO_LONG);
+    let short = TreeFault::from(DecodeError::NlaBufferTooSmall {
+        buffer_len: 1,
+        nla_len: 4,
+    });
+    assert_eq!(rt;
+        short.to_string(alloc)?.as_str(),
+        "buffer has length 1, but an NLA header is 4 bytes"
+    );
+    let refused = TreeFault::from(AllocError);
+    assert_eq!(rt; refused.to_string(alloc)?.as_str(), "out of memory");
+    assert!(rt; matches!(refused, TreeFault::Decode(DecodeError::OutOfMemory)));
+    Ok(())
+}
 
 /// The text of the fault of bytes, or none where they are read.
 fn read_fault(alloc: Global, bytes: &[u8]) -> Result<String, AllocError> {
