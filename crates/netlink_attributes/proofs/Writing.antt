@@ -1,6 +1,6 @@
 -- The sizes and the pieces of what is written.
 use Rattle.std.proofs.Common.{◌≡◌, ℕ, ◌+◌, ◌-◌, ◌<◌, ◌^◌, List, [], ◌++◌, length, get_or, take, drop, ap, sym, ◌∙◌, arith, All, None, append_assoc, append-nil, length-append, length-drop}
-use Rattle.std.proofs.lemmas.List.{drop-drop, drop_more, drop_all, take_rest, take_at, drop_at}
+use Rattle.std.proofs.lemmas.List.{drop-drop, drop_more, drop_all, take_all, take_rest, take_at, drop_at, length-replicate}
 use borrow.Rule.Slice.PartMut.{put_mid}
 use Rattle.std.specs.Prelude.{replicate}
 use Rattle.netlink_bytes.specs.Numbers.{text_le}
@@ -57,6 +57,22 @@ put_behind at n front first buffer text new start is size written =
     ∙ ap (λ (x : List ℕ). front ++ (new ++ x)) none
     ∙ ap (λ (x : List ℕ). front ++ (x ++ [])) part
     ∙ grouped front text (drop (at + n) first)
+
+-- a text is written in the room that was made for it behind the items of a vector
+pub put_last : (old whole text new : List ℕ) (at n size : ℕ) → at ≡ size → size ≡ length old → n ≡ length text
+    → whole ≡ take (at + n) old ++ replicate (at + n - size) 0
+    → new ≡ text ++ drop (length text) (take (length whole - at) (drop at whole)) → put_mid at (length whole - at) whole new ≡ old ++ text
+put_last old whole text new at n size start counted long grown written =
+    let zeros : List ℕ = replicate (at + n - size) 0 in
+    let front : at ≡ length old = start ∙ counted in
+    let parts : whole ≡ old ++ zeros = grown ∙ ap (λ (x : List ℕ). x ++ zeros) (take_all (at + n) old (omega (arith, front))) in
+    let room : length zeros ≡ at + n - size = length-replicate (at + n - size) 0 in
+    let total : length whole ≡ length old + length zeros = ap length parts ∙ length-append old zeros in
+    let behind : drop at whole ≡ zeros = ap (drop at) parts ∙ drop_at old zeros at (sym front) in
+    let is : whole ≡ old ++ drop at whole = parts ∙ ap (λ (x : List ℕ). old ++ x) (sym behind) in
+    put_behind at n old whole whole text new front is long written
+    ∙ ap (λ (x : List ℕ). (old ++ text) ++ x) (drop_all (at + n) whole (omega (arith, total, room, start, counted)))
+    ∙ append-nil (old ++ text)
 
 -- a list is written up to one attribute more
 pub moved_on : (front text whole block rest : List ℕ) → front ++ block ≡ whole → block ≡ text ++ rest → (front ++ text) ++ rest ≡ whole

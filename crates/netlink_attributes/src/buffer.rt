@@ -53,6 +53,14 @@ impl<T: Storage> NlaBuffer<T> {
         Ok(())
     }
 
+    /// A view of the same bytes, lent: what a slice is read by, of any storage.
+    #[inline]
+    pub fn borrowed(&self) -> NlaBuffer<&[u8]>
+        ensures bytes { shown result ≡ T.held (storage_of self.now) }
+    {
+        NlaBuffer::new(self.buffer.bytes())
+    }
+
     /// The storage that the view stands over.
     #[inline]
     pub fn into_inner(self) -> T
@@ -188,11 +196,12 @@ impl<T: StorageMut> NlaBuffer<T> {
         self.set_raw_kind(kind)
     }
 
-    /// Sets the kind field as it is given.
+    /// Sets the kind as it is given, its two flag bits with it, and no byte outside the kind field.
+    /// The storage has at least 4 bytes.
     #[tactic(auto, unfolding(netlink_bytes::specs::Numbers::text_le))]
     #[inline]
-    fn set_raw_kind(&mut self, kind: u16)
-        requires { 4 ≤ length (T.held (storage_of self.old)) }
+    pub fn set_raw_kind(&mut self, kind: u16)
+        requires field { 4 ≤ length (T.held (storage_of self.old)) }
         ensures bytes { T.held (storage_of self.new) ≡ with_kind (T.held (storage_of self.old)) kind }
         ensures same_storage { storage_of self.new ≡ T.holding (storage_of self.old) (with_kind (T.held (storage_of self.old)) kind) }
     {

@@ -27,5 +27,5 @@ pub use crate::default::DefaultNla;
 pub use crate::find::{nla_find, nla_find_raw};
 pub use crate::iterator::NlasIterator;
 pub use crate::nla::{Nla, emit_nla, nla_buffer_len, nla_fits};
-pub use crate::nlas::Nlas;
+pub use crate::nlas::{Nlas, write_nlas};
 pub use crate::place::{nla_place, nlas_value_mut, write_nla_value};

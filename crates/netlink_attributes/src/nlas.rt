@@ -1,12 +1,14 @@
 //! Attributes one after another, written.
 
-ghost use Rattle.std.specs.Prelude.{◌≡◌, ◌≤◌, ◌++◌, None, true, drop, length};
+ghost use Rattle.std.specs.Prelude.{◌≡◌, ◌≤◌, ◌++◌, [], None, IfErr, IfOk, IsOk, true, drop, length};
+ghost use Rattle.netlink_bytes.specs.declared.error.DecodeError.{DecodeError};
 ghost use Rattle.netlink_attributes.specs.Block.{canonical_block};
 ghost use Rattle.netlink_attributes.specs.Nla.{attributes_of, AllFit};
 ghost use Rattle.netlink_attributes.specs.Walk.{Walk};
 
 use crate::nla::{Nla, emit_nla, nla_buffer_len};
-use netlink_bytes::Emitable;
+use netlink_bytes::{DecodeError, Emitable};
+use std::alloc::Global;
 
 /// Attributes that are written one after another, each with its padding.
 #[derive(Debug)]
@@ -42,4 +44,25 @@ impl<'a, T: Nla> Emitable for Nlas<'a, T> {
             at += nla_buffer_len(nla);
         }
     }
+}
+
+/// The block that `Nlas` writes of these attributes, in a vector of its own.
+///
+/// Each value has at most 65531 bytes, as `nla_fits` tells. The only error is C16, and for no
+/// attributes no memory is asked.
+#[tactic(auto, using(crate::specs::Sizes::written_sizes))]
+pub fn write_nlas<T: Nla>(alloc: Global, nlas: &[T]) -> Result<Vec<u8>, DecodeError>
+    requires fit { AllFit T.value_of nlas.now }
+    ensures written { IfOk result (λ block.
+        block.items ≡ canonical_block (attributes_of T.kind_of T.value_of nlas.now)) }
+    ensures memory { IfErr result (λ e. e ≡ DecodeError.OutOfMemory) }
+    ensures empty { nlas.now ≡ [] → IsOk result }
+{
+    let mut block = Vec::new(alloc);
+    for nla in nlas {
+        let start = block.len();
+        block.resize(start + nla_buffer_len(nla), 0)?;
+        emit_nla(nla, &mut block[start..]);
+    }
+    Ok(block)
 }

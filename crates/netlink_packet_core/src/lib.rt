@@ -73,6 +73,7 @@ pub use netlink_attributes::nla_place;
 pub use netlink_attributes::nlas_value_mut;
 pub use netlink_attributes::normalize_nlas;
 pub use netlink_attributes::write_nla_value;
+pub use netlink_attributes::write_nlas;
 pub use netlink_bytes::DecodeError;
 pub use netlink_bytes::Emitable;
 pub use netlink_bytes::ErrorContext;

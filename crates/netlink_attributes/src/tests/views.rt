@@ -107,6 +107,9 @@ fn setters_change_their_own_bits(rt: HostRuntime) {
     NlaBuffer::new(&mut bytes[..]).set_length(0x0605);
     assert!(rt; bytes == [5, 6, 6, 0, 0, 0, 0x0e, 0x10]);
 
+    NlaBuffer::new(&mut bytes[..]).set_raw_kind(0xc006);
+    assert!(rt; bytes == [5, 6, 6, 0xc0, 0, 0, 0x0e, 0x10]);
+
     let mut short = [4, 0, 6, 0x80];
     NlaBuffer::new(&mut short[..]).set_network_byte_order_flag();
     assert!(rt; short == [4, 0, 6, 0x40]);
@@ -122,6 +125,7 @@ fn values_and_storages_are_lent(rt: HostRuntime) -> Result<(), Fail> {
     assert!(rt; bytes == [6, 0, 1, 0, 9, 9, 3, 4]);
 
     let mut view = NlaBuffer::new(vec![in rt.alloc(); 6, 0, 1, 0, 1, 2]?);
+    assert!(rt; view.borrowed() == NlaBuffer::new(&[6u8, 0, 1, 0, 1, 2][..]));
     view.set_kind(2);
     assert!(rt; view.inner().as_slice() == &[6, 0, 2, 0, 1, 2][..]);
     *view.inner_mut() = vec![in rt.alloc(); 4, 0, 2, 0]?;

@@ -2,7 +2,9 @@
 
 ghost use Rattle.std.specs.Prelude.{◌∷◌, []};
 
-use crate::{DefaultNla, Nla, NlaBuffer, Nlas, append_nla, emit_nla, nla_buffer_len, nla_fits};
+use crate::{
+    DefaultNla, Nla, NlaBuffer, Nlas, append_nla, emit_nla, nla_buffer_len, nla_fits, write_nlas,
+};
 use netlink_bytes::{Emitable, Parseable};
 use std::test::Fail;
 
@@ -102,6 +104,19 @@ fn an_attribute_is_copied(rt: HostRuntime) -> Result<(), Fail> {
         Err(_) => assert!(rt; false),
     }
     Ok(())
+}
+
+#[test]
+fn a_list_is_written_into_a_vector(rt: HostRuntime) {
+    let list = [Flag(9), Flag(8)];
+    match write_nlas(rt.alloc(), &list) {
+        Ok(block) => assert!(rt;
+            block.as_slice() == &[5, 0, 7, 0x40, 9, 0, 0, 0, 5, 0, 7, 0x40, 8, 0, 0, 0][..]
+        ),
+        Err(_) => assert!(rt; false),
+    }
+    let none: [Flag; 0] = [];
+    assert!(rt; write_nlas(rt.alloc(), &none).is_ok_and(|block| block.is_empty()));
 }
 
 #[test]
