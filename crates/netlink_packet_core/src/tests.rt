@@ -1,5 +1,8 @@
+mod beat;
 mod bodies;
 mod canonical;
 mod constants;
 mod headers;
+mod laws;
+mod messages;
 mod views;

@@ -113,6 +113,21 @@ fn the_payload_length_past_the_storage(rt: HostRuntime) {
     assert!(rt; view != NetlinkBuffer::new(&REQUEST[..23]));
 }
 
+/// What a vector or a mutable slice holds is read by the view that is lent of it.
+#[test]
+fn lent_views_are_read(rt: HostRuntime) -> Result<(), Fail> {
+    let view = NetlinkBuffer::new_checked(REQUEST.to_vec(rt.alloc())?)?;
+    assert_eq!(rt; view.borrowed().payload(), &REQUEST[16..]);
+    let mut bytes = [5u8, 0, 0, 0, 1, 2];
+    let Ok(view) = DoneBuffer::new_checked(&mut bytes[..]) else {
+        return Err(Fail::from("the bytes hold no code"));
+    };
+    assert_eq!(rt; view.borrowed().extended_ack(), [1u8, 2].as_slice());
+    let view = ErrorBuffer::new_checked([5u8, 0, 0, 0, 1, 2].to_vec(rt.alloc())?)?;
+    assert_eq!(rt; view.borrowed().payload(), [1u8, 2].as_slice());
+    Ok(())
+}
+
 #[test]
 fn a_vector_is_written_in_place(rt: HostRuntime) -> Result<(), Fail> {
     let mut view = NetlinkBuffer::new(REQUEST.to_vec(rt.alloc())?);
