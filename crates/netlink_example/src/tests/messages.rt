@@ -1,6 +1,7 @@
 //! Messages that are read and written. The bytes are written by hand, from `struct nlmsghdr` of
 //! linux/netlink.h and `struct genlmsghdr` of linux/genetlink.h.
 
+use crate::error::GenericError;
 use crate::family::Family;
 use crate::message::GenericMessage;
 use netlink_packet_core::laws::{frame_unique, reads_back, refusal_unique};
@@ -95,4 +96,15 @@ fn families_begin_at_sixteen(rt: HostRuntime) {
             None => assert!(rt; !known),
         }
     }
+}
+
+/// A family and an error are copied, and are equal to what they were copied from.
+#[test]
+fn copies_are_equal(rt: HostRuntime) {
+    let family = Family::CONTROLLER;
+    let copy = family;
+    assert!(rt; copy == family && copy.number == 16);
+    let error = GenericError::TooShort;
+    let copy = error;
+    assert!(rt; copy == error && copy != GenericError::OutOfMemory);
 }
