@@ -1,6 +1,8 @@
 -- What is shown, as far as a loop has come.
 use Rattle.std.proofs.Common.{◌≡◌, ℕ, zero, suc, ◌+◌, ◌/◌, ◌%◌, ◌<◌, List, [], ◌∷◌, ◌++◌, length, take, slice_index, refl, ap, ◌∙◌, arith, add-one, append_assoc}
-use Rattle.netlink_frame.specs.Lines.{hex_digit, hex_digits}
+use Rattle.std.specs.Prelude.{decimal}
+use Rattle.netlink_packet_core.specs.Attribute.{Attribute}
+use Rattle.netlink_frame.specs.Lines.{hex_digit, hex_digits, nla_line, shown}
 
 more_digits : (bytes : List ℕ) (i : ℕ) → i < length bytes → hex_digits (take (suc i) bytes) ≡ hex_digits (take i bytes) ++ (hex_digit (slice_index bytes i / 16) ∷ (hex_digit (slice_index bytes i % 16) ∷ []))
 unfolding hex_digits
@@ -9,9 +11,28 @@ more_digits (b ∷ bytes) zero less = refl
 more_digits (b ∷ bytes) (suc i) less =
     ap (λ (more : List ℕ). hex_digit (b / 16) ∷ (hex_digit (b % 16) ∷ more)) (more_digits bytes i (omega arith))
 
--- two digits more than the text of the bytes so far
-pub two_digits : (bytes old new newer a b : List ℕ) (i : ℕ) → i < length bytes → old ≡ hex_digits (take i bytes) → new ≡ old ++ a → newer ≡ new ++ b → a ≡ hex_digit (slice_index bytes i / 16) ∷ [] → b ≡ hex_digit (slice_index bytes i % 16) ∷ [] → newer ≡ hex_digits (take (i + 1) bytes)
-two_digits bytes old new newer a b i less so_far first second one two =
-    let step = more_digits bytes i less in
-    let joined = append_assoc (hex_digits (take i bytes)) (hex_digit (slice_index bytes i / 16) ∷ []) (hex_digit (slice_index bytes i % 16) ∷ []) in
-    rw (add-one, step) (second ∙ (ap (λ (t : List ℕ). t ++ b) (first ∙ ap (λ (t : List ℕ). t ++ a) so_far) ∙ (ap (λ (t : List ℕ). (hex_digits (take i bytes) ++ t) ++ b) one ∙ (ap (λ (t : List ℕ). (hex_digits (take i bytes) ++ (hex_digit (slice_index bytes i / 16) ∷ [])) ++ t) two ∙ joined))))
+-- two digits more behind a text and the digits of the bytes so far
+pub two_digits : (front bytes old new newer a b : List ℕ) (i : ℕ) → i < length bytes → old ≡ front ++ hex_digits (take i bytes) → new ≡ old ++ a → newer ≡ new ++ b → a ≡ hex_digit (slice_index bytes i / 16) ∷ [] → b ≡ hex_digit (slice_index bytes i % 16) ∷ [] → newer ≡ front ++ hex_digits (take (i + 1) bytes)
+two_digits front bytes old new newer a b i less so_far first second one two =
+    let digits : List ℕ = hex_digits (take i bytes) in
+    let high : List ℕ = hex_digit (slice_index bytes i / 16) ∷ [] in
+    let low : List ℕ = hex_digit (slice_index bytes i % 16) ∷ [] in
+    let added : newer ≡ ((front ++ digits) ++ high) ++ low =
+    second ∙ ap (λ (t : List ℕ). t ++ b) (first ∙ ap (λ (t : List ℕ). t ++ a) so_far ∙ ap (λ (t : List ℕ). (front ++ digits) ++ t) one)
+    ∙ ap (λ (t : List ℕ). ((front ++ digits) ++ high) ++ t) two in
+    rw (add-one, more_digits bytes i less) (added ∙ append_assoc (front ++ digits) high low ∙ append_assoc front digits (high ++ low))
+
+-- the parts of an attribute's line, added one after another
+line_joins : (t0 t1 t2 t3 t4 kind size value : List ℕ) → t1 ≡ t0 ++ kind → t2 ≡ t1 ++ (32 ∷ (size ++ (32 ∷ []))) → t3 ≡ t2 ++ value → t4 ≡ t3 ++ (10 ∷ [])
+    → t4 ≡ t0 ++ (kind ++ (32 ∷ (size ++ (32 ∷ (value ++ (10 ∷ []))))))
+line_joins t0 t1 t2 t3 t4 kind size value first second third fourth =
+    fourth ∙ ap (λ (t : List ℕ). t ++ (10 ∷ [])) (third ∙ ap (λ (t : List ℕ). t ++ value) (second ∙ ap (λ (t : List ℕ). t ++ (32 ∷ (size ++ (32 ∷ [])))) first))
+    ∙ simp append_assoc
+
+-- an attribute's line, added so
+pub line_added : (t0 t1 t2 t3 t4 value : List ℕ) (a : Attribute) (kind : ℕ) → t1 ≡ t0 ++ hex_digits (kind / 256 ∷ (kind % 256 ∷ [])) → t2 ≡ t1 ++ (32 ∷ (decimal (length value) ++ (32 ∷ [])))
+    → t3 ≡ t2 ++ shown value → t4 ≡ t3 ++ (10 ∷ []) → kind ≡ a.kind → value ≡ a.value → t4 ≡ t0 ++ nla_line a
+line_added t0 t1 t2 t3 t4 value a kind first second third fourth same_kind same_value =
+    line_joins t0 t1 t2 t3 t4 (hex_digits (kind / 256 ∷ (kind % 256 ∷ []))) (decimal (length value)) (shown value) first second third fourth
+    ∙ ap (λ (k : ℕ). t0 ++ nla_line (record { kind = k; value = value })) same_kind
+    ∙ ap (λ (v : List ℕ). t0 ++ nla_line (record { kind = a.kind; value = v })) same_value

@@ -1,16 +1,17 @@
 //! What the program shows of attributes.
 
-ghost use Rattle.std.specs.Prelude.{◌≡◌, List, Option, IfOk, IfErr, string_bytes};
+ghost use Rattle.std.specs.Prelude.{◌≡◌, ◌/◌, ◌%◌, ◌++◌, [], ◌∷◌, List, Option, IfOk, IfErr, OnOk, string_bytes};
 ghost use Rattle.netlink_packet_core.specs.Attribute.{Attribute};
 ghost use Rattle.netlink_packet_core.specs.DecodeError.{DecodeError};
 ghost use Rattle.netlink_packet_core.specs.Views.{attribute_of, shown, HoldsAttribute};
 ghost use Rattle.netlink_packet_core.specs.Walk.{Walk};
-ghost use Rattle.netlink_frame.specs.Lines.{nla_line, nla_lines};
+ghost use Rattle.netlink_frame.specs.Lines.{hex_digits, nla_line, nla_lines};
 
-use crate::text::hex_text;
+use crate::text::{push_digits, push_shown};
 use netlink_packet_core::laws::walk_unique;
 use netlink_packet_core::{DecodeError, NlaBuffer, NlasIterator};
 use std::alloc::{AllocError, Global};
+use std::fmt::Write;
 
 /// The lines of a block's attributes, up to its end or a fault: the kind with its flags as four
 /// lower-case hexadecimal digits, the size of the value in decimal, and the value's bytes as two such
@@ -41,7 +42,7 @@ fn walked_text(alloc: Global, block: &[u8]) -> Result<String, AllocError>
     let mut text = String::new(alloc);
     for item in NlasIterator::new(block) {
         match item {
-            Ok(nla) => text.push_str(line_text(alloc, &nla)?.as_str())?,
+            Ok(nla) => push_line(&mut text, &nla)?,
             Err(_) => return Ok(text),
         }
     }
@@ -61,14 +62,26 @@ fn walked_fault(block: &[u8]) -> Option<DecodeError>
     None
 }
 
-/// The line of an attribute.
-fn line_text(alloc: Global, nla: &NlaBuffer<&[u8]>) -> Result<String, AllocError>
+/// Adds the line of an attribute.
+fn push_line(text: &mut String, nla: &NlaBuffer<&[u8]>) -> Result<(), AllocError>
     requires { HoldsAttribute (shown nla.now) }
-    ensures { IfOk result (λ text. string_bytes text ≡ nla_line (attribute_of (shown nla.now))) }
+    ensures { OnOk result (string_bytes text.new ≡ string_bytes text.old ++ nla_line (attribute_of (shown nla.now))) }
 {
     let value = nla.value();
-    let kind = hex_text(alloc, &nla.raw_kind().to_be_bytes())?;
     let size = value.len();
-    let bytes = hex_text(alloc, value)?;
-    format!(in alloc; "{kind} {size} {bytes}\n")
+    push_kind(text, nla.raw_kind())?;
+    match write!(text, " {size} ") {
+        Ok(()) => {}
+        Err(_) => return Err(AllocError),
+    }
+    push_shown(text, value)?;
+    text.push_str("\n")?;
+    Ok(())
+}
+
+/// Adds the four digits of a kind with its flags.
+fn push_kind(text: &mut String, kind: u16) -> Result<(), AllocError>
+    ensures { OnOk result (string_bytes text.new ≡ string_bytes text.old ++ hex_digits (kind / 256 ∷ (kind % 256 ∷ []))) }
+{
+    push_digits(text, &kind.to_be_bytes())
 }

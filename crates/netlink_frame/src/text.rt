@@ -1,7 +1,7 @@
 //! What the program shows of a message.
 
-ghost use Rattle.std.specs.Prelude.{◌≡◌, ◌<◌, [], ◌∷◌, IfOk, IfErr, string_bytes};
-ghost use Rattle.netlink_frame.specs.Lines.{header_lines, hex_digit, inner_text, message_lines, number_line, payload_words, shown};
+ghost use Rattle.std.specs.Prelude.{◌≡◌, ◌<◌, [], ◌∷◌, ◌++◌, IfOk, IfErr, OnOk, string_bytes};
+ghost use Rattle.netlink_frame.specs.Lines.{header_lines, hex_digit, hex_digits, inner_text, message_lines, number_line, payload_words, shown};
 
 use crate::ping_pong::PingPongMessage;
 use netlink_packet_core::{DecodeError, NetlinkHeader, NetlinkMessage, NetlinkPayload};
@@ -86,18 +86,34 @@ fn ping_pong_text(alloc: Global, message: &PingPongMessage) -> Result<String, Al
 }
 
 /// The bytes as they are shown.
-pub(crate) fn hex_text(alloc: Global, bytes: &[u8]) -> Result<String, AllocError>
+fn hex_text(alloc: Global, bytes: &[u8]) -> Result<String, AllocError>
     ensures { IfOk result (λ text. string_bytes text ≡ shown bytes.now) }
 {
-    if bytes.is_empty() {
-        return String::from_str(alloc, "-");
-    }
     let mut text = String::new(alloc);
+    push_shown(&mut text, bytes)?;
+    Ok(text)
+}
+
+/// Adds the bytes as they are shown.
+pub(crate) fn push_shown(text: &mut String, bytes: &[u8]) -> Result<(), AllocError>
+    ensures { OnOk result (string_bytes text.new ≡ string_bytes text.old ++ shown bytes.now) }
+{
+    if bytes.is_empty() {
+        return text.push_str("-");
+    }
+    push_digits(text, bytes)
+}
+
+/// Adds two digits a byte, with room for all of them first.
+pub(crate) fn push_digits(text: &mut String, bytes: &[u8]) -> Result<(), AllocError>
+    ensures { OnOk result (string_bytes text.new ≡ string_bytes text.old ++ hex_digits bytes.now) }
+{
+    text.reserve(bytes.len().saturating_mul(2))?;
     for byte in bytes {
         text.push_str(digit(*byte / 16))?;
         text.push_str(digit(*byte % 16))?;
     }
-    Ok(text)
+    Ok(())
 }
 
 /// A hexadecimal digit.

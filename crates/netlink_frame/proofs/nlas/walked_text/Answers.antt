@@ -1,7 +1,8 @@
-use Rattle.std.proofs.Common.{◌≡◌, [], ◌∷◌, ◌++◌, ap, rules, Some}
+use Rattle.std.proofs.Common.{◌≡◌, ◌∙◌, ℕ, List, [], ◌∷◌, ◌++◌, ap, sym, rules, Some}
 use Rattle.netlink_packet_core.specs.Attribute.{Attribute}
 use Rattle.netlink_packet_core.specs.Steps.{unread}
 use Rattle.netlink_packet_core.specs.Views.{attribute_of, shown}
+use Rattle.netlink_frame.specs.Lines.{nla_line, nla_lines}
 use Rattle.netlink_frame.proofs.Attributes.{passes_none, passes_push, passes_ends, passes_faults, lines_push}
 use Rattle.netlink_frame.proofs.nlas.walked_text.Goals as goal
 
@@ -18,7 +19,7 @@ loop-item-preserved c =
       (let shows : attribute_of (shown c.in-Ok.nla) ≡ a = ap attribute_of step.0 in
           let push = lines_push done a in
           let so_far = c.loop-item.invariant.2 in
-          cc (push, so_far, c.in_ok-line_text-in-Ok.ensures, c.as_str.ensures.value, c.in_ok-push_str-in-Ok.ensures.bytes)),
+          c.in_ok-push_line-in-Ok.ensures ∙ ap (λ (t : List ℕ). t ++ nla_line (attribute_of (shown c.in-Ok.nla))) so_far ∙ ap (λ (b : Attribute). nla_lines done ++ nla_line b) shows ∙ sym push),
     )
 
 pub returns-in-Err : goal.returns-in-Err
