@@ -36,3 +36,17 @@ line_added t0 t1 t2 t3 t4 value a kind first second third fourth same_kind same_
     line_joins t0 t1 t2 t3 t4 (hex_digits (kind / 256 ∷ (kind % 256 ∷ []))) (decimal (length value)) (shown value) first second third fourth
     ∙ ap (λ (k : ℕ). t0 ++ nla_line (record { kind = k; value = value })) same_kind
     ∙ ap (λ (v : List ℕ). t0 ++ nla_line (record { kind = a.kind; value = v })) same_value
+
+-- a name and bytes, added one after another
+pub name_joins : (t0 t1 t2 name bytes : List ℕ) → t1 ≡ t0 ++ name → t2 ≡ t1 ++ bytes → t2 ≡ t0 ++ (name ++ bytes)
+name_joins t0 t1 t2 name bytes first second = second ∙ ap (λ (t : List ℕ). t ++ bytes) first ∙ append_assoc t0 name bytes
+
+-- the same with a code between them
+pub code_joins : (t0 t1 t2 name code bytes : List ℕ) → t1 ≡ t0 ++ (name ++ (code ++ (32 ∷ []))) → t2 ≡ t1 ++ bytes → t2 ≡ t0 ++ (name ++ (code ++ (32 ∷ bytes)))
+code_joins t0 t1 t2 name code bytes first second = second ∙ ap (λ (t : List ℕ). t ++ bytes) first ∙ simp append_assoc
+
+-- the lines of a header, and then the parts of the last line
+pub message_joins : (t1 t2 t3 t4 header name words end : List ℕ) → t1 ≡ header → t2 ≡ t1 ++ name → t3 ≡ t2 ++ words → t4 ≡ t3 ++ end → t4 ≡ header ++ (name ++ (words ++ end))
+message_joins t1 t2 t3 t4 header name words end first second third fourth =
+    fourth ∙ ap (λ (t : List ℕ). t ++ end) (third ∙ ap (λ (t : List ℕ). t ++ words) (second ∙ ap (λ (t : List ℕ). t ++ name) first))
+    ∙ append_assoc (header ++ name) words end ∙ append_assoc header name (words ++ end)

@@ -1,7 +1,8 @@
 //! What the program shows of a message.
 
-ghost use Rattle.std.specs.Prelude.{◌≡◌, ◌<◌, [], ◌∷◌, ◌++◌, IfOk, IfErr, OnOk, string_bytes};
-ghost use Rattle.netlink_frame.specs.Lines.{header_lines, hex_digit, hex_digits, inner_text, message_lines, number_line, payload_words, shown};
+ghost use Rattle.std.specs.Prelude.{◌≡◌, ◌<◌, [], ◌∷◌, ◌++◌, IfOk, IfErr, OnOk, codes, string_bytes};
+ghost use Rattle.std.specs.Fmt.{signed_decimal};
+ghost use Rattle.netlink_frame.specs.Lines.{header_lines, hex_digit, hex_digits, message_lines, number_line, payload_words, shown};
 
 use crate::ping_pong::PingPongMessage;
 use netlink_packet_core::{DecodeError, NetlinkHeader, NetlinkMessage, NetlinkPayload};
@@ -17,9 +18,9 @@ pub fn show_text(
     ensures memory { IfErr result (λ e. e ≡ DecodeError.OutOfMemory) }
 {
     let mut text = header_text(alloc, &message.header)?;
-    let words = payload_text(alloc, &message.payload)?;
-    let line = format!(in alloc; "payload {words}\n")?;
-    text.push_str(line.as_str())?;
+    text.push_str("payload ")?;
+    push_payload(alloc, &mut text, &message.payload)?;
+    text.push_str("\n")?;
     Ok(text)
 }
 
@@ -42,56 +43,69 @@ fn number_text(alloc: Global, name: &str, number: u32) -> Result<String, AllocEr
     format!(in alloc; "{name}{number}\n")
 }
 
-/// What a payload is, its code and its bytes.
-fn payload_text(
+/// Adds what a payload is, its code and its bytes.
+fn push_payload(
     alloc: Global,
+    text: &mut String,
     payload: &NetlinkPayload<PingPongMessage>,
-) -> Result<String, AllocError>
-    ensures { IfOk result (λ text. string_bytes text ≡ payload_words payload.now) }
+) -> Result<(), AllocError>
+    ensures { OnOk result (string_bytes text.new ≡ string_bytes text.old ++ payload_words payload.now) }
 {
     match payload {
-        NetlinkPayload::Noop => String::from_str(alloc, "noop"),
-        NetlinkPayload::Done(body) => {
-            let code = body.code;
-            let bytes = hex_text(alloc, &body.extended_ack)?;
-            format!(in alloc; "done {code} {bytes}")
+        NetlinkPayload::Noop => text.push_str("noop"),
+        NetlinkPayload::Done(body) => push_coded(
+            alloc,
+            text,
+            "done ",
+            body.code,
+            &body.extended_ack,
+        ),
+        NetlinkPayload::Error(body) => push_coded(
+            alloc,
+            text,
+            "error ",
+            body.raw_code(),
+            &body.header,
+        ),
+        NetlinkPayload::Overrun(bytes) => push_named(text, "overrun ", bytes),
+        NetlinkPayload::InnerMessage(PingPongMessage::Ping(bytes)) => {
+            push_named(text, "ping ", bytes)
         }
-        NetlinkPayload::Error(body) => {
-            let code = body.raw_code();
-            let bytes = hex_text(alloc, &body.header)?;
-            format!(in alloc; "error {code} {bytes}")
-        }
-        NetlinkPayload::Overrun(bytes) => {
-            let bytes = hex_text(alloc, bytes)?;
-            format!(in alloc; "overrun {bytes}")
-        }
-        NetlinkPayload::InnerMessage(message) => ping_pong_text(alloc, message),
-    }
-}
-
-/// Which of the two messages it is, and its bytes.
-fn ping_pong_text(alloc: Global, message: &PingPongMessage) -> Result<String, AllocError>
-    ensures { IfOk result (λ text. string_bytes text ≡ inner_text message.now) }
-{
-    match message {
-        PingPongMessage::Ping(bytes) => {
-            let bytes = hex_text(alloc, bytes)?;
-            format!(in alloc; "ping {bytes}")
-        }
-        PingPongMessage::Pong(bytes) => {
-            let bytes = hex_text(alloc, bytes)?;
-            format!(in alloc; "pong {bytes}")
+        NetlinkPayload::InnerMessage(PingPongMessage::Pong(bytes)) => {
+            push_named(text, "pong ", bytes)
         }
     }
 }
 
-/// The bytes as they are shown.
-fn hex_text(alloc: Global, bytes: &[u8]) -> Result<String, AllocError>
-    ensures { IfOk result (λ text. string_bytes text ≡ shown bytes.now) }
+/// Adds a name, a code and bytes.
+fn push_coded(
+    alloc: Global,
+    text: &mut String,
+    name: &str,
+    code: i32,
+    bytes: &[u8],
+) -> Result<(), AllocError>
+    ensures { OnOk result (string_bytes text.new ≡ string_bytes text.old ++ (name.now ++ (signed_decimal code ++ (codes " " ++ shown bytes.now)))) }
 {
-    let mut text = String::new(alloc);
-    push_shown(&mut text, bytes)?;
-    Ok(text)
+    text.push_str(code_text(alloc, name, code)?.as_str())?;
+    push_shown(text, bytes)?;
+    Ok(())
+}
+
+/// A name, a code and a space.
+fn code_text(alloc: Global, name: &str, code: i32) -> Result<String, AllocError>
+    ensures { IfOk result (λ text. string_bytes text ≡ name.now ++ (signed_decimal code ++ codes " ")) }
+{
+    format!(in alloc; "{name}{code} ")
+}
+
+/// Adds a name and bytes.
+fn push_named(text: &mut String, name: &str, bytes: &[u8]) -> Result<(), AllocError>
+    ensures { OnOk result (string_bytes text.new ≡ string_bytes text.old ++ (name.now ++ shown bytes.now)) }
+{
+    text.push_str(name)?;
+    push_shown(text, bytes)?;
+    Ok(())
 }
 
 /// Adds the bytes as they are shown.
