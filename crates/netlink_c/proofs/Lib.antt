@@ -1,0 +1,5 @@
+mod Ending
+mod Putting
+mod Refusing
+mod Texts
+mod Walking

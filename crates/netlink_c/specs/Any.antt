@@ -1,0 +1,35 @@
+-- The protocol of any bytes: each message type from 16 on, with any payload.
+use Rattle.std.specs.Prelude.{◌&&◌, ◌^◌, ◌==◌, ℕ, Bool, true, false, List, Option, Some, None, codes, nat_le, nat_lt, if◌then◌else◌}
+use Rattle.netlink_packet_core.specs.Protocol.{Encoding, Decoding}
+use Rattle.netlink_packet_core.specs.declared.header.NetlinkHeader.{NetlinkHeader}
+use Rattle.netlink_c.specs.declared.any.AnyMessage.{AnyMessage}
+use Rattle.netlink_c.specs.declared.any.AnyError.{AnyError}
+use Rattle.netlink_c.specs.declared.any.AnyError.TheVariants.{BelowLeastType, OutOfMemory}
+
+-- a message type of 16 bits that a sub-protocol may have
+abbrev pub is_protocol_type : ℕ → Bool
+is_protocol_type message_type = nat_le 16 message_type && nat_lt message_type (2 ^ 16)
+
+abbrev pub any_reading : NetlinkHeader → List ℕ → Option (ℕ × List ℕ)
+any_reading h payload = if is_protocol_type h.message_type then Some (h.message_type, payload) else
+    None
+
+abbrev pub any_encoding : Encoding AnyMessage
+any_encoding = record { type_of = λ m. m.kind.number; text_of = λ m. m.bytes.items }
+
+abbrev pub any_decoding : Decoding AnyMessage
+any_decoding = record {
+  reading = any_reading;
+  stands_for = λ m. (m.kind.number, m.bytes.items);
+  in_range = λ m. nat_lt m.kind.number (2 ^ 16);
+}
+
+-- the errors that are want of memory
+abbrev pub wants_memory : AnyError → Bool
+wants_memory BelowLeastType = false
+wants_memory OutOfMemory = true
+
+-- the text of an error
+abbrev pub error_text : AnyError → List ℕ
+error_text BelowLeastType = codes "the message type is below 16"
+error_text OutOfMemory = codes "out of memory"

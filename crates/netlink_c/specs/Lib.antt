@@ -1,0 +1,10 @@
+pub mod Answered
+pub mod Any
+pub mod Bodies
+pub mod Ends
+pub mod Fault
+pub mod Out
+pub mod Parts
+pub mod Put
+pub mod Steps
+pub mod Texts

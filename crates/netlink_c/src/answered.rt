@@ -1,0 +1,95 @@
+//! The body of an error message: the code, the request that it answers, and the extended
+//! acknowledgement.
+
+ghost use Rattle.std.specs.Prelude.{◌≡◌, ◌≢◌, ◌+◌, ◌≤◌, length};
+ghost use Rattle.netlink_packet_core.specs.Header.{field};
+ghost use Rattle.netlink_packet_core.specs.Numbers.{signed};
+ghost use Rattle.netlink_c.specs.Answered.{IsRequestEnd};
+ghost use Rattle.netlink_c.specs.Bodies.{IsShortError};
+ghost use Rattle.netlink_c.specs.Fault.{Refuses};
+
+use crate::answers::OK;
+use crate::fault::{FaultNumbers, refused};
+use crate::frame::Part;
+use netlink_packet_core::{
+    ErrorBuffer, NETLINK_HEADER_LEN, NLM_F_ACK_TLVS, NLM_F_CAPPED, NetlinkBuffer, nla_align,
+};
+
+/// The body of an error message (`struct nlp_error`).
+#[derive(Clone, Copy, Debug, PartialEq, Eq)]
+#[repr(C)]
+pub struct ErrorBody {
+    /// 0 for an acknowledgement, else the negated number of an error.
+    pub code: i32,
+    /// The header of the message that is answered, and what follows of it.
+    pub request: Part,
+    /// The attributes of the extended acknowledgement.
+    pub attributes: Part,
+}
+
+/// The body of a message of type `NLMSG_ERROR` whose header has these flags: its code, where the
+/// request lies that it answers, and where the attributes lie that follow.
+///
+/// `NLM_F_ACK_TLVS` says that there are attributes, and `NLM_F_CAPPED` that of the request there is
+/// the header alone. Answers 0, or C13 where there are fewer than 4 bytes. Wraps `ErrorBuffer`.
+#[unsafe(no_mangle)]
+pub extern "C" fn nlp_error_body(
+    payload: &[u8],
+    flags: u16,
+    body: &mut ErrorBody,
+    fault: &mut FaultNumbers,
+) -> u32
+    ensures code { result ≡ 0 → (4 ≤ length payload.now)
+        × (body.new.code ≡ signed 4 (field 0 4 payload.now)) }
+    ensures request { result ≡ 0 → (body.new.request.offset ≡ 4)
+        × IsRequestEnd flags payload.now (4 + body.new.request.size) }
+    ensures attributes { result ≡ 0 → (body.new.attributes.offset ≡ 4 + body.new.request.size)
+        × (body.new.attributes.offset + body.new.attributes.size ≡ length payload.now) }
+    ensures refuses { result ≢ 0 → Refuses (IsShortError payload.now) result fault.new
+        × (body.new ≡ body.old) }
+{
+    match ErrorBuffer::new_checked(payload) {
+        Ok(view) => {
+            let end = request_end(payload, flags);
+            let code = match view.code() {
+                None => 0,
+                Some(code) => code.get(),
+            };
+            *body = ErrorBody {
+                code,
+                request: Part {
+                    offset: 4,
+                    size: end - 4,
+                },
+                attributes: Part {
+                    offset: end,
+                    size: payload.len() - end,
+                },
+            };
+            OK
+        }
+        Err(cause) => refused(fault, &cause),
+    }
+}
+
+/// Where the request ends, in bytes from the code on.
+fn request_end(payload: &[u8], flags: u16) -> usize
+    requires code { 4 ≤ length payload.now }
+    ensures end { IsRequestEnd flags payload.now result }
+    ensures inside { (4 ≤ result) × (result ≤ length payload.now) }
+{
+    let size = payload.len();
+    if flags / NLM_F_ACK_TLVS % 2 == 0 || size < 4 + NETLINK_HEADER_LEN {
+        return size;
+    }
+    if flags / NLM_F_CAPPED % 2 == 1 {
+        return 4 + NETLINK_HEADER_LEN;
+    }
+    let said = NetlinkBuffer::new(&payload[4..]).length() as usize;
+    let end = if said < NETLINK_HEADER_LEN {
+        4 + NETLINK_HEADER_LEN
+    } else {
+        4 + nla_align(said)
+    };
+    if end < size { end } else { size }
+}

@@ -1,0 +1,112 @@
+//! A protocol of any bytes.
+
+ghost use Rattle.std.proofs.Common.{rules};
+ghost use Rattle.std.proofs.lemmas.Grind.{common_steps};
+ghost use Rattle.std.specs.Prelude.{◌≡◌, IfErr, IfOk, Some, refl};
+ghost use Rattle.netlink_c.specs.Any.{any_decoding, any_encoding, error_text, wants_memory};
+
+use crate::protocol_type::ProtocolType;
+use netlink_packet_core::{
+    NetlinkDeserializable, NetlinkHeader, NetlinkProtocol, NetlinkSerializable,
+};
+use std::alloc::Global;
+use std::error::Error;
+use std::fmt;
+
+/// A message of any type from 16 on, with any bytes.
+#[derive(Debug, Drop, PartialEq, Eq)]
+pub struct AnyMessage {
+    kind: ProtocolType,
+    bytes: Vec<u8>,
+}
+
+/// Why a payload is no message of this protocol.
+#[derive(Clone, Copy, Debug, PartialEq, Eq)]
+pub enum AnyError {
+    /// The message type is below 16.
+    BelowLeastType,
+    /// A request for memory was refused.
+    OutOfMemory,
+}
+
+impl fmt::Display for AnyError {
+    ghost output = { λ e. Some (error_text e) };
+
+    fn fmt<W: fmt::Write>(&self, f: &mut fmt::Formatter<W>) -> fmt::Result {
+        match self {
+            AnyError::BelowLeastType => f.write_str("the message type is below 16"),
+            AnyError::OutOfMemory => f.write_str("out of memory"),
+        }
+    }
+}
+
+impl Error for AnyError {}
+
+impl NetlinkSerializable for AnyMessage {
+    ghost encoding = { any_encoding };
+
+    fn message_type(&self) -> u16 {
+        self.kind.number
+    }
+
+    fn buffer_len(&self) -> usize {
+        self.bytes.len()
+    }
+
+    fn serialize(&self, buffer: &mut [u8]) {
+        buffer.copy_from_slice(&self.bytes);
+    }
+}
+
+impl NetlinkDeserializable for AnyMessage {
+    type Error = AnyError;
+
+    ghost decoding = { any_decoding };
+
+    ghost wants_memory = { wants_memory };
+
+    /// The type and a copy of the payload; a type below 16 is refused.
+    fn deserialize(
+        alloc: Global,
+        header: &NetlinkHeader,
+        payload: &[u8],
+    ) -> Result<Self, AnyError> {
+        let Some(kind) = ProtocolType::new(header.message_type) else {
+            return Err(AnyError::BelowLeastType);
+        };
+        let bytes = copied(alloc, payload)?;
+        Ok(AnyMessage { kind, bytes })
+    }
+
+    fn is_out_of_memory(error: &AnyError) -> bool {
+        matches!(error, AnyError::OutOfMemory)
+    }
+}
+
+impl NetlinkProtocol for AnyMessage {
+    fn in_widths(&self) {
+        let _number = self.kind.number;
+    }
+
+    ghost own_pair = { λ m. refl };
+
+    ghost equal_pairs = { Prim.search (rules, common_steps) };
+
+    ghost value_is_lawful = { Prim.search (rules, common_steps) };
+
+    ghost reading_is_lawful = { Prim.search (rules, common_steps) };
+}
+
+/// A copy of the bytes, of their exact size. An empty input asks for no memory.
+fn copied(alloc: Global, bytes: &[u8]) -> Result<Vec<u8>, AnyError>
+    ensures ok { IfOk result (λ copy. copy.items ≡ bytes.now) }
+    ensures memory { IfErr result (λ e. e ≡ AnyError.OutOfMemory) }
+{
+    if bytes.is_empty() {
+        return Ok(Vec::new(alloc));
+    }
+    match Vec::from_slice(alloc, bytes) {
+        Ok(copy) => Ok(copy),
+        Err(_) => Err(AnyError::OutOfMemory),
+    }
+}

@@ -1,0 +1,161 @@
+//! Nests and frames, begun and ended in a caller's buffer.
+
+ghost use Rattle.std.specs.Prelude.{◌≡◌, ◌≢◌, ◌+◌, ◌-◌, ◌<◌, ◌≤◌, ◌++◌, ◌^◌, ◌%◌, ◌↔◌, IsTrue, drop, length, replicate, slice_range};
+ghost use Rattle.netlink_packet_core.specs.Attribute.{padding};
+ghost use Rattle.netlink_packet_core.specs.Header.{header_text};
+ghost use Rattle.netlink_packet_core.specs.Nla.{attribute_with};
+ghost use Rattle.netlink_packet_core.specs.Numbers.{text_le};
+ghost use Rattle.netlink_packet_core.specs.Storage.{put_at};
+ghost use Rattle.netlink_packet_core.specs.Views.{attribute_of, raw_kind, HoldsAttribute};
+ghost use Rattle.netlink_tree.specs.FrameWalk.{StartsFrame};
+ghost use Rattle.netlink_c.specs.Ends.{AnswersEnd, AnswersPutFrame, IsStretch, PutsFrame, begun_size, frame_text};
+
+use crate::answers::{NO_PLACE, NO_ROOM, OK, TOO_LONG};
+use crate::frame::HeaderFields;
+use netlink_packet_core::{
+    Emitable, NETLINK_HEADER_LEN, NLA_HEADER_SIZE, NetlinkHeader, emit_u16, emit_u32, nla_align,
+};
+
+/// Ends a nest: the bytes from behind the header at `start` up to the cursor become its value.
+///
+/// Answers 0; `NO_PLACE` where the cursor is not in the buffer, or not a multiple of 4 behind the
+/// start, or less than 4; or else `TOO_LONG` where the value has more than 65531 bytes. Writes the
+/// length field, and nothing else. Asks for no memory.
+#[unsafe(no_mangle)]
+pub extern "C" fn nlp_nest_end(buffer: &mut [u8], cursor: usize, start: usize) -> u32
+    ensures answers { AnswersEnd 4 (2 ^ 16) (length buffer.old) start cursor result }
+    ensures written { result ≡ 0 → buffer.new
+        ≡ put_at buffer.old start (text_le (cursor - start) 2) }
+    ensures reads_back { result ≡ 0 → HoldsAttribute (drop start buffer.new)
+        × (attribute_of (drop start buffer.new)
+        ≡ attribute_with (raw_kind (drop start buffer.old))
+        (slice_range buffer.old (start + 4) cursor)) }
+    ensures unchanged { result ≢ 0 → buffer.new ≡ buffer.old }
+{
+    if !is_stretch(buffer.len(), start, cursor, NLA_HEADER_SIZE) {
+        return NO_PLACE;
+    }
+    let size = cursor - start;
+    if size > u16::MAX as usize {
+        return TOO_LONG;
+    }
+    put_u16_at(buffer, start, size as u16);
+    OK
+}
+
+/// Begins a frame: adds its header, whose length field counts what is put here, then the bytes that
+/// the sub-protocol has in front of its attributes, and zeros up to a multiple of 4.
+///
+/// The length that the caller's header has is not looked at. Answers 0, and the cursor is then
+/// behind the zeros; `TOO_LONG` where the length does not fit 32 bits; or else `NO_ROOM`. What is
+/// put from then on belongs to the frame, once `nlp_frame_end` is given the old cursor. Asks for no
+/// memory.
+#[unsafe(no_mangle)]
+pub extern "C" fn nlp_frame_put(
+    buffer: &mut [u8],
+    cursor: &mut usize,
+    header: &HeaderFields,
+    fixed: &[u8],
+) -> u32
+    ensures answers { AnswersPutFrame (length fixed.now) (length buffer.old) cursor.old result }
+    ensures written { result ≡ 0
+        → PutsFrame header.now fixed.now buffer.old cursor.old buffer.new cursor.new }
+    ensures reads_back { result ≡ 0
+        → StartsFrame (drop cursor.old buffer.new) (frame_text header.now fixed.now)
+        (drop cursor.new buffer.new) }
+    ensures unchanged { result ≢ 0 → (buffer.new ≡ buffer.old) × (cursor.new ≡ cursor.old) }
+{
+    if fixed.len() > u32::MAX as usize - NETLINK_HEADER_LEN {
+        return TOO_LONG;
+    }
+    let size = fixed.len() + NETLINK_HEADER_LEN;
+    let whole = nla_align(size);
+    let at = *cursor;
+    if at > buffer.len() || buffer.len() - at < whole {
+        return NO_ROOM;
+    }
+    let begun = NetlinkHeader {
+        length: size as u32,
+        message_type: header.message_type,
+        flags: header.flags,
+        sequence_number: header.sequence_number,
+        port_number: header.port_number,
+    };
+    put_frame_at(buffer, at, whole, &begun, fixed);
+    *cursor = at + whole;
+    OK
+}
+
+/// Ends a frame: its length field becomes the number of bytes from `start` up to the cursor.
+///
+/// Answers 0; `NO_PLACE` where the cursor is not in the buffer, or not a multiple of 4 behind the
+/// start, or less than 16; or else `TOO_LONG` where the length does not fit 32 bits. Writes the
+/// length field, and nothing else. Asks for no memory.
+#[unsafe(no_mangle)]
+pub extern "C" fn nlp_frame_end(buffer: &mut [u8], cursor: usize, start: usize) -> u32
+    ensures answers { AnswersEnd 16 (2 ^ 32) (length buffer.old) start cursor result }
+    ensures written { result ≡ 0 → buffer.new
+        ≡ put_at buffer.old start (text_le (cursor - start) 4) }
+    ensures reads_back { result ≡ 0
+        → StartsFrame (drop start buffer.new) (slice_range buffer.new start cursor)
+        (drop cursor buffer.new) }
+    ensures unchanged { result ≢ 0 → buffer.new ≡ buffer.old }
+{
+    if !is_stretch(buffer.len(), start, cursor, NETLINK_HEADER_LEN) {
+        return NO_PLACE;
+    }
+    let size = cursor - start;
+    if size > u32::MAX as usize {
+        return TOO_LONG;
+    }
+    put_u32_at(buffer, start, size as u32);
+    OK
+}
+
+/// Whether from the start up to the cursor there are bytes of the buffer, a multiple of 4, and at
+/// least this many.
+fn is_stretch(room: usize, start: usize, cursor: usize, least: usize) -> bool
+    ensures { IsTrue result ↔ IsStretch room start cursor least }
+{
+    start <= cursor && cursor <= room && cursor - start >= least && (cursor - start) % 4 == 0
+}
+
+/// Writes a number of 2 bytes at a place.
+fn put_u16_at(buffer: &mut [u8], at: usize, value: u16)
+    requires room { at + 2 ≤ length buffer.old }
+    ensures { buffer.new ≡ put_at buffer.old at (text_le value 2) }
+{
+    let _written = emit_u16(&mut buffer[at..at + 2], value);
+}
+
+/// Writes a number of 4 bytes at a place.
+fn put_u32_at(buffer: &mut [u8], at: usize, value: u32)
+    requires room { at + 4 ≤ length buffer.old }
+    ensures { buffer.new ≡ put_at buffer.old at (text_le value 4) }
+{
+    let _written = emit_u32(&mut buffer[at..at + 4], value);
+}
+
+/// Writes a frame of this size with its padding at a place.
+fn put_frame_at(buffer: &mut [u8], at: usize, whole: usize, header: &NetlinkHeader, fixed: &[u8])
+    requires size { whole ≡ begun_size (length fixed.now) }
+    requires room { at + whole ≤ length buffer.old }
+    ensures { buffer.new ≡ put_at buffer.old at
+        ((header_text header.now ++ fixed.now) ++ replicate (padding (length fixed.now)) 0) }
+{
+    write_frame(&mut buffer[at..at + whole], header, fixed);
+}
+
+/// Fills the buffer with a header of this length, the bytes, and zeros.
+#[tactic(auto, using(crate::proofs::Ending::frame_sizes))]
+fn write_frame(buffer: &mut [u8], header: &NetlinkHeader, fixed: &[u8])
+    requires room { length fixed.now + 16 ≤ length buffer.old }
+    ensures { buffer.new ≡ (header_text header.now ++ fixed.now) ++ replicate
+        (length buffer.old - (16 + length fixed.now)) 0 }
+{
+    let (front, rest) = buffer.split_at_mut(NETLINK_HEADER_LEN);
+    header.emit(front);
+    let (value, padding) = rest.split_at_mut(fixed.len());
+    value.copy_from_slice(fixed);
+    padding.fill(0);
+}

@@ -1,0 +1,84 @@
+//! The numbers of a cause.
+
+ghost use Rattle.std.specs.Prelude.{◌≡◌, ◌<◌, if◌then◌else◌};
+ghost use Rattle.netlink_packet_core.specs.Causes.{cause_number};
+ghost use Rattle.netlink_c.specs.Fault.{numbers_of};
+
+use netlink_packet_core::DecodeError;
+
+/// The numbers of a cause (`struct nlp_fault`).
+#[derive(Clone, Copy, Debug, PartialEq, Eq)]
+#[repr(C)]
+pub struct FaultNumbers {
+    /// The number of the cause, 1 to 16.
+    pub cause: u32,
+    /// 1 where the fault was found inside a larger call, else 0.
+    pub inside: u32,
+    /// The bytes that there are, where the cause has such a number, else 0.
+    pub size: usize,
+    /// What a length field says or what is wanted, in bytes, where the cause has such a number,
+    /// else 0.
+    pub wanted: usize,
+}
+
+/// Writes the numbers of a cause, and answers the cause's own.
+#[tactic(auto, using(crate::proofs::Refusing::cause_some))]
+pub(crate) fn refused(fault: &mut FaultNumbers, cause: &DecodeError) -> u32
+    ensures number { result ≡ cause_number cause.now }
+    ensures numbers { fault.new ≡ numbers_of cause.now }
+    ensures some { 0 < result }
+{
+    let (inside, size, wanted) = other_numbers(cause);
+    let number = u32::from(cause.number());
+    *fault = FaultNumbers {
+        cause: number,
+        inside: u32::from(inside),
+        size,
+        wanted,
+    };
+    number
+}
+
+/// Whether the fault was found inside, the bytes that there are, and what is wanted.
+fn other_numbers(cause: &DecodeError) -> (bool, usize, usize)
+    ensures inside { (if result.0 then 1 else 0) ≡ (numbers_of cause.now).inside }
+    ensures size { result.1 ≡ (numbers_of cause.now).size }
+    ensures wanted { result.2 ≡ (numbers_of cause.now).wanted }
+{
+    match cause {
+        DecodeError::InvalidBuffer {
+            received,
+            minimum_length,
+            ..
+        } => (false, *received, *minimum_length),
+        DecodeError::InvalidMacAddress { received } => (false, *received, 0),
+        DecodeError::InvalidIpAddress { received } => (false, *received, 0),
+        DecodeError::InvalidNumber { expected, received } => (false, *received, *expected),
+        DecodeError::NlaBufferTooSmall {
+            buffer_len,
+            nla_len,
+        } => (false, *buffer_len, *nla_len),
+        DecodeError::NlaLengthMismatch {
+            buffer_len,
+            nla_len,
+        } => (false, *buffer_len, *nla_len),
+        DecodeError::NlaInvalidLength {
+            buffer_len,
+            nla_len,
+        } => (false, *buffer_len, *nla_len),
+        DecodeError::BufferTooSmall {
+            buffer_len,
+            value_len,
+        } => (false, *buffer_len, *value_len),
+        DecodeError::FrameShort { size, inside } => (*inside, *size, 0),
+        DecodeError::FrameCut {
+            length,
+            size,
+            inside,
+        } => (*inside, *size, *length as usize),
+        DecodeError::FrameLength { length, inside } => (*inside, 0, *length as usize),
+        DecodeError::DoneShort { size, inside } => (*inside, *size, 0),
+        DecodeError::ErrorShort { size, inside } => (*inside, *size, 0),
+        DecodeError::Message(_) | DecodeError::TooLong | DecodeError::OutOfMemory => (false, 0, 0),
+    }
+}

@@ -1,0 +1,137 @@
+//! A frame in place: whether it is whole, its header, its payload, and the bodies of done and error
+//! messages.
+
+ghost use Rattle.std.specs.Prelude.{◌≡◌, ◌≢◌, ◌+◌, ◌≤◌, ◌<◌, length, drop, false};
+ghost use Rattle.netlink_packet_core.specs.DecodeError.{DecodeError};
+ghost use Rattle.netlink_packet_core.specs.Header.{HoldsFrame, field, header_of, payload_of};
+ghost use Rattle.netlink_packet_core.specs.Numbers.{signed};
+ghost use Rattle.netlink_packet_core.specs.Refusal.{IsFrameFault};
+ghost use Rattle.netlink_c.specs.Bodies.{IsShortDone, IsShortError, IsShortHeader, fields_of};
+ghost use Rattle.netlink_c.specs.Fault.{Refuses};
+ghost use Rattle.netlink_c.specs.Parts.{part_of};
+
+use crate::answers::OK;
+use crate::fault::{FaultNumbers, refused};
+use netlink_packet_core::{DecodeError, DoneBuffer, NETLINK_HEADER_LEN, NetlinkBuffer};
+
+/// A part of bytes (`struct nlp_part`): where it starts, and how many bytes it has.
+#[derive(Clone, Copy, Debug, PartialEq, Eq)]
+#[repr(C)]
+pub struct Part {
+    /// Where the part starts, in bytes from the start of what was given.
+    pub offset: usize,
+    /// Its number of bytes.
+    pub size: usize,
+}
+
+/// The five fields of a header (`struct nlp_header`), laid out as `struct nlmsghdr`.
+#[derive(Clone, Copy, Debug, PartialEq, Eq)]
+#[repr(C)]
+pub struct HeaderFields {
+    /// The size of the message in bytes, its header included.
+    pub length: u32,
+    /// What the message is: one of `NLMSG_*`, or a type of the sub-protocol.
+    pub message_type: u16,
+    /// The `NLM_F_*` bits.
+    pub flags: u16,
+    /// The number that ties an answer to its request.
+    pub sequence_number: u32,
+    /// The address of the sending socket.
+    pub port_number: u32,
+}
+
+/// Whether the bytes hold a whole frame: 0, or C9, C10 or C11. Wraps `NetlinkBuffer::new_checked`.
+#[unsafe(no_mangle)]
+pub extern "C" fn nlp_frame_check(bytes: &[u8], fault: &mut FaultNumbers) -> u32
+    ensures whole { result ≡ 0 → HoldsFrame bytes.now }
+    ensures refuses { result ≢ 0 → Refuses (IsFrameFault false bytes.now) result fault.new }
+{
+    match NetlinkBuffer::new_checked(bytes) {
+        Ok(_) => OK,
+        Err(cause) => refused(fault, &cause),
+    }
+}
+
+/// The five fields of the header that the bytes begin with: 0, or C9 where there are fewer than 16
+/// bytes. The length field may say anything.
+#[unsafe(no_mangle)]
+pub extern "C" fn nlp_frame_header(
+    bytes: &[u8],
+    header: &mut HeaderFields,
+    fault: &mut FaultNumbers,
+) -> u32
+    ensures fields { result ≡ 0 → (16 ≤ length bytes.now)
+        × (header.new ≡ fields_of (header_of bytes.now)) }
+    ensures refuses { result ≢ 0 → Refuses (IsShortHeader bytes.now) result fault.new
+        × (header.new ≡ header.old) }
+{
+    let size = bytes.len();
+    if size < NETLINK_HEADER_LEN {
+        return refused(fault, &DecodeError::frame_short(size, false));
+    }
+    let view = NetlinkBuffer::new(bytes);
+    *header = HeaderFields {
+        length: view.length(),
+        message_type: view.message_type(),
+        flags: view.flags(),
+        sequence_number: view.sequence_number(),
+        port_number: view.port_number(),
+    };
+    OK
+}
+
+/// Where the payload of the frame lies that the bytes hold whole: 0, or C9, C10 or C11. Wraps
+/// `NetlinkBuffer::payload`.
+#[unsafe(no_mangle)]
+pub extern "C" fn nlp_frame_payload(
+    bytes: &[u8],
+    payload: &mut Part,
+    fault: &mut FaultNumbers,
+) -> u32
+    ensures payload { result ≡ 0 → HoldsFrame bytes.now
+        × (part_of payload.new bytes.now ≡ payload_of bytes.now) }
+    ensures place { result ≡ 0 → (payload.new.offset ≡ 16)
+        × (16 + payload.new.size ≡ field 0 4 bytes.now) }
+    ensures refuses { result ≢ 0 → Refuses (IsFrameFault false bytes.now) result fault.new
+        × (payload.new ≡ payload.old) }
+{
+    match NetlinkBuffer::new_checked(bytes) {
+        Ok(view) => {
+            let size = view.payload_length();
+            *payload = Part {
+                offset: NETLINK_HEADER_LEN,
+                size,
+            };
+            OK
+        }
+        Err(cause) => refused(fault, &cause),
+    }
+}
+
+/// The body of a message of type `NLMSG_DONE`: its code, and where the bytes behind it lie. 0, or
+/// C12 where there are fewer than 4 bytes. Wraps `DoneBuffer`.
+#[unsafe(no_mangle)]
+pub extern "C" fn nlp_done_body(
+    payload: &[u8],
+    code: &mut i32,
+    rest: &mut Part,
+    fault: &mut FaultNumbers,
+) -> u32
+    ensures code { result ≡ 0 → code.new ≡ signed 4 (field 0 4 payload.now) }
+    ensures rest { result ≡ 0 → (4 ≤ length payload.now)
+        × (part_of rest.new payload.now ≡ drop 4 payload.now) }
+    ensures refuses { result ≢ 0 → Refuses (IsShortDone payload.now) result fault.new
+        × (code.new ≡ code.old) × (rest.new ≡ rest.old) }
+{
+    match DoneBuffer::new_checked(payload) {
+        Ok(view) => {
+            *code = view.code();
+            *rest = Part {
+                offset: 4,
+                size: view.extended_ack().len(),
+            };
+            OK
+        }
+        Err(cause) => refused(fault, &cause),
+    }
+}

@@ -1,0 +1,128 @@
+//! Normal forms: what is canonical, and the canonical form of bytes, written into a caller's
+//! buffer.
+
+ghost use Rattle.std.specs.Prelude.{◌≡◌, ◌↔◌, ◌⊎◌, ◌≢◌, ◌≤◌, List, None, Some, [], IsTrue, take, length};
+ghost use Rattle.netlink_packet_core.specs.Attribute.{Attribute};
+ghost use Rattle.netlink_packet_core.specs.Block.{canonical_block, IsCanonicalBlock};
+ghost use Rattle.netlink_packet_core.specs.Canonical.{Fits, IsCanonicalFrame, IsNormalizeFault, canonical_frame};
+ghost use Rattle.netlink_packet_core.specs.DecodeError.{DecodeError};
+ghost use Rattle.netlink_packet_core.specs.Frame.{Frame};
+ghost use Rattle.netlink_packet_core.specs.Walk.{Walk};
+ghost use Rattle.netlink_packet_core.specs.declared.message.NetlinkMessage.{NetlinkMessage};
+ghost use Rattle.netlink_c.specs.Any.{any_decoding, any_encoding, wants_memory};
+ghost use Rattle.netlink_c.specs.Fault.{Refuses, IsOutOfMemory, numbers_of};
+ghost use Rattle.netlink_c.specs.Out.{CopiesOut, FrameCopiedOut};
+ghost use Rattle.netlink_c.specs.declared.any.AnyMessage.{AnyMessage};
+ghost use Rattle.netlink_packet_core.specs.Causes.{cause_number};
+
+use crate::answers::{NO_ROOM, OK};
+use crate::any::AnyMessage;
+use crate::fault::{FaultNumbers, refused};
+use netlink_packet_core::{is_canonical_frame, is_canonical_nlas, normalize, normalize_nlas};
+use std::alloc::Global;
+
+/// Whether the bytes are a canonical block: attributes one after another, each with the whole of
+/// its padding, of zeros. Wraps `is_canonical_nlas`. Asks for no memory.
+#[unsafe(no_mangle)]
+pub extern "C" fn nlp_attrs_is_canonical(bytes: &[u8]) -> bool
+    ensures canonical { IsTrue result ↔ IsCanonicalBlock bytes.now }
+{
+    is_canonical_nlas(bytes)
+}
+
+/// Writes the canonical block of the bytes: the attributes that they walk as, each with its padding
+/// of zeros.
+///
+/// Answers 0, and the block is then the first `size` bytes; C5, C6 or C7 where the walk has that
+/// fault; C16; or `NO_ROOM`, and `size` is then what is wanted. Only 0 changes the buffer. Wraps
+/// `normalize_nlas`, which asks for memory of the block's size.
+#[unsafe(no_mangle)]
+pub extern "C" fn nlp_attrs_normalize(
+    alloc: Global,
+    bytes: &[u8],
+    buffer: &mut [u8],
+    size: &mut usize,
+    fault: &mut FaultNumbers,
+) -> u32
+    ensures writes { (all : List Attribute) → Walk bytes.now all None
+        → CopiesOut (canonical_block all) buffer.old buffer.new size.new result
+        ⊎ (IsOutOfMemory result fault.new × (buffer.new ≡ buffer.old)) }
+    ensures refuses { (all : List Attribute) (e : DecodeError) → Walk bytes.now all (Some e)
+        → (result ≡ cause_number e) × (fault.new ≡ numbers_of e) × (buffer.new ≡ buffer.old) }
+    ensures canonical { result ≡ 0 → IsCanonicalBlock (take size.new buffer.new) }
+    ensures unchanged { result ≡ 0 → (take size.new buffer.new ≡ bytes.now)
+        ↔ IsCanonicalBlock bytes.now }
+{
+    match normalize_nlas(alloc, bytes) {
+        Ok(block) => copy_out(block.as_slice(), buffer, size),
+        Err(cause) => refused(fault, &cause),
+    }
+}
+
+/// Whether the bytes are a canonical frame, for any type from 16 on with any bytes: 1 or 0 in
+/// `canonical`.
+///
+/// Answers 0; or C16. Wraps `is_canonical_frame`.
+#[unsafe(no_mangle)]
+pub extern "C" fn nlp_frame_is_canonical(
+    alloc: Global,
+    bytes: &[u8],
+    canonical: &mut u32,
+    fault: &mut FaultNumbers,
+) -> u32
+    ensures yes { result ≡ 0 → (canonical.new ≡ 1) ↔ IsCanonicalFrame any_decoding bytes.now }
+    ensures no { result ≡ 0 → (canonical.new ≡ 1) ⊎ (canonical.new ≡ 0) }
+    ensures memory { result ≢ 0 → IsOutOfMemory result fault.new }
+{
+    match is_canonical_frame::<AnyMessage>(alloc, bytes) {
+        Ok(yes) => {
+            *canonical = u32::from(yes);
+            OK
+        }
+        Err(cause) => refused(fault, &cause),
+    }
+}
+
+/// Writes the canonical frame of the message whose frame the bytes begin with, for any type from 16
+/// on with any bytes.
+///
+/// Answers 0, and the frame is then the first `size` bytes; the cause for which
+/// `NetlinkMessage::deserialize` refuses; C15; C16; or `NO_ROOM`, and `size` is then what is
+/// wanted. Only 0 changes the buffer. Wraps `normalize`, which asks for memory of the frame's size.
+#[unsafe(no_mangle)]
+pub extern "C" fn nlp_frame_normalize(
+    alloc: Global,
+    bytes: &[u8],
+    buffer: &mut [u8],
+    size: &mut usize,
+    fault: &mut FaultNumbers,
+) -> u32
+    ensures answers { FrameCopiedOut bytes.now buffer.old buffer.new size.new result
+        ⊎ (Refuses (IsNormalizeFault any_encoding any_decoding wants_memory bytes.now) result
+        fault.new × (buffer.new ≡ buffer.old)) }
+    ensures fixed { IsCanonicalFrame any_decoding bytes.now
+        → CopiesOut bytes.now buffer.old buffer.new size.new result
+        ⊎ IsOutOfMemory result fault.new }
+    ensures only_fixed { result ≡ 0 → take size.new buffer.new ≡ bytes.now
+        → IsCanonicalFrame any_decoding bytes.now }
+    ensures again { result ≡ 0 → (n : NetlinkMessage AnyMessage)
+        → Frame any_decoding (take size.new buffer.new) n → canonical_frame any_encoding n
+        ≡ take size.new buffer.new }
+{
+    match normalize::<AnyMessage>(alloc, bytes) {
+        Ok(frame) => copy_out(frame.as_slice(), buffer, size),
+        Err(cause) => refused(fault, &cause),
+    }
+}
+
+/// Puts the bytes in front where there is room, and tells their size.
+pub(crate) fn copy_out(bytes: &[u8], buffer: &mut [u8], size: &mut usize) -> u32
+    ensures { CopiesOut bytes.now buffer.old buffer.new size.new result }
+{
+    *size = bytes.len();
+    if bytes.len() > buffer.len() {
+        return NO_ROOM;
+    }
+    buffer[..bytes.len()].copy_from_slice(bytes);
+    OK
+}

@@ -1,0 +1,280 @@
+//! Attributes, written into a caller's buffer from a cursor on.
+
+ghost use Rattle.std.specs.Prelude.{◌≡◌, ◌≢◌, ◌+◌, ◌<◌, ◌≤◌, ◌^◌, ◌++◌, ◌∷◌, [], drop, length};
+ghost use Rattle.netlink_packet_core.specs.Attribute.{padded};
+ghost use Rattle.netlink_packet_core.specs.Nla.{attribute_with};
+ghost use Rattle.netlink_packet_core.specs.Numbers.{text_le};
+ghost use Rattle.netlink_packet_core.specs.Storage.{put_at};
+ghost use Rattle.netlink_packet_core.specs.Views.{nested};
+ghost use Rattle.netlink_packet_core.specs.Walk.{Starts};
+ghost use Rattle.netlink_c.specs.Put.{AnswersPut, GrowsBlock, PutsAttribute};
+
+use crate::answers::{NO_ROOM, OK, TOO_LONG};
+use netlink_packet_core::{
+    NLA_F_NESTED, NLA_F_NET_BYTEORDER, Nla, emit_nla, emit_u16, emit_u32, emit_u64, nla_buffer_len,
+    nla_fits,
+};
+
+/// Adds an attribute from the cursor on, its kind as it is, with its padding of zeros.
+///
+/// Answers 0, and the cursor is then behind the padding; `TOO_LONG` where the value has more than
+/// 65531 bytes; or else `NO_ROOM`. What was put is what `nlp_attrs_next` answers from the old
+/// cursor on. Wraps `emit_nla`. Asks for no memory.
+#[unsafe(no_mangle)]
+pub extern "C" fn nlp_attr_put(
+    buffer: &mut [u8],
+    cursor: &mut usize,
+    kind: u16,
+    value: &[u8],
+) -> u32
+    ensures answers { AnswersPut (attribute_with kind value.now) buffer.old cursor.old result }
+    ensures written { result ≡ 0
+        → PutsAttribute (attribute_with kind value.now) buffer.old cursor.old buffer.new cursor.new }
+    ensures block { result ≡ 0
+        → GrowsBlock (attribute_with kind value.now) buffer.old cursor.old buffer.new cursor.new }
+    ensures reads_back { result ≡ 0
+        → Starts (drop cursor.old buffer.new) (attribute_with kind value.now)
+        (drop cursor.new buffer.new) }
+    ensures unchanged { result ≢ 0 → (buffer.new ≡ buffer.old) × (cursor.new ≡ cursor.old) }
+{
+    put(buffer, cursor, &Value { kind, value })
+}
+
+/// Adds an attribute whose value is a number of 1 byte, as `nlp_attr_put` does.
+#[unsafe(no_mangle)]
+pub extern "C" fn nlp_attr_put_u8(
+    buffer: &mut [u8],
+    cursor: &mut usize,
+    kind: u16,
+    value: u8,
+) -> u32
+    ensures answers { AnswersPut (attribute_with kind (value ∷ [])) buffer.old cursor.old result }
+    ensures written { result ≡ 0
+        → PutsAttribute (attribute_with kind (value ∷ [])) buffer.old cursor.old buffer.new
+        cursor.new }
+    ensures block { result ≡ 0
+        → GrowsBlock (attribute_with kind (value ∷ [])) buffer.old cursor.old buffer.new cursor.new }
+    ensures reads_back { result ≡ 0
+        → Starts (drop cursor.old buffer.new) (attribute_with kind (value ∷ []))
+        (drop cursor.new buffer.new) }
+    ensures unchanged { result ≢ 0 → (buffer.new ≡ buffer.old) × (cursor.new ≡ cursor.old) }
+{
+    let text = [value];
+    put(buffer, cursor, &Value { kind, value: &text })
+}
+
+/// Adds an attribute whose value is a number of 2 bytes in native order, as `nlp_attr_put` does.
+#[unsafe(no_mangle)]
+pub extern "C" fn nlp_attr_put_u16(
+    buffer: &mut [u8],
+    cursor: &mut usize,
+    kind: u16,
+    value: u16,
+) -> u32
+    ensures answers { AnswersPut (attribute_with kind (text_le value 2)) buffer.old cursor.old
+        result }
+    ensures written { result ≡ 0
+        → PutsAttribute (attribute_with kind (text_le value 2)) buffer.old cursor.old buffer.new
+        cursor.new }
+    ensures block { result ≡ 0
+        → GrowsBlock (attribute_with kind (text_le value 2)) buffer.old cursor.old buffer.new
+        cursor.new }
+    ensures reads_back { result ≡ 0
+        → Starts (drop cursor.old buffer.new) (attribute_with kind (text_le value 2))
+        (drop cursor.new buffer.new) }
+    ensures unchanged { result ≢ 0 → (buffer.new ≡ buffer.old) × (cursor.new ≡ cursor.old) }
+{
+    let mut text = [0u8; 2];
+    let _written = emit_u16(&mut text, value);
+    put(buffer, cursor, &Value { kind, value: &text })
+}
+
+/// Adds an attribute whose value is a number of 4 bytes in native order, as `nlp_attr_put` does.
+#[unsafe(no_mangle)]
+pub extern "C" fn nlp_attr_put_u32(
+    buffer: &mut [u8],
+    cursor: &mut usize,
+    kind: u16,
+    value: u32,
+) -> u32
+    ensures answers { AnswersPut (attribute_with kind (text_le value 4)) buffer.old cursor.old
+        result }
+    ensures written { result ≡ 0
+        → PutsAttribute (attribute_with kind (text_le value 4)) buffer.old cursor.old buffer.new
+        cursor.new }
+    ensures block { result ≡ 0
+        → GrowsBlock (attribute_with kind (text_le value 4)) buffer.old cursor.old buffer.new
+        cursor.new }
+    ensures reads_back { result ≡ 0
+        → Starts (drop cursor.old buffer.new) (attribute_with kind (text_le value 4))
+        (drop cursor.new buffer.new) }
+    ensures unchanged { result ≢ 0 → (buffer.new ≡ buffer.old) × (cursor.new ≡ cursor.old) }
+{
+    let mut text = [0u8; 4];
+    let _written = emit_u32(&mut text, value);
+    put(buffer, cursor, &Value { kind, value: &text })
+}
+
+/// Adds an attribute whose value is a number of 8 bytes in native order, as `nlp_attr_put` does.
+#[unsafe(no_mangle)]
+pub extern "C" fn nlp_attr_put_u64(
+    buffer: &mut [u8],
+    cursor: &mut usize,
+    kind: u16,
+    value: u64,
+) -> u32
+    ensures answers { AnswersPut (attribute_with kind (text_le value 8)) buffer.old cursor.old
+        result }
+    ensures written { result ≡ 0
+        → PutsAttribute (attribute_with kind (text_le value 8)) buffer.old cursor.old buffer.new
+        cursor.new }
+    ensures block { result ≡ 0
+        → GrowsBlock (attribute_with kind (text_le value 8)) buffer.old cursor.old buffer.new
+        cursor.new }
+    ensures reads_back { result ≡ 0
+        → Starts (drop cursor.old buffer.new) (attribute_with kind (text_le value 8))
+        (drop cursor.new buffer.new) }
+    ensures unchanged { result ≢ 0 → (buffer.new ≡ buffer.old) × (cursor.new ≡ cursor.old) }
+{
+    let mut text = [0u8; 8];
+    let _written = emit_u64(&mut text, value);
+    put(buffer, cursor, &Value { kind, value: &text })
+}
+
+/// Adds an attribute whose value is the bytes and one zero behind them, as a text of C has it, as
+/// `nlp_attr_put` does.
+#[unsafe(no_mangle)]
+pub extern "C" fn nlp_attr_put_str(
+    buffer: &mut [u8],
+    cursor: &mut usize,
+    kind: u16,
+    text: &[u8],
+) -> u32
+    ensures answers { AnswersPut (attribute_with kind (text.now ++ 0 ∷ [])) buffer.old cursor.old
+        result }
+    ensures written { result ≡ 0
+        → PutsAttribute (attribute_with kind (text.now ++ 0 ∷ [])) buffer.old cursor.old buffer.new
+        cursor.new }
+    ensures block { result ≡ 0
+        → GrowsBlock (attribute_with kind (text.now ++ 0 ∷ [])) buffer.old cursor.old buffer.new
+        cursor.new }
+    ensures reads_back { result ≡ 0
+        → Starts (drop cursor.old buffer.new) (attribute_with kind (text.now ++ 0 ∷ []))
+        (drop cursor.new buffer.new) }
+    ensures unchanged { result ≢ 0 → (buffer.new ≡ buffer.old) × (cursor.new ≡ cursor.old) }
+{
+    put(buffer, cursor, &Text { kind, text })
+}
+
+/// Begins a nest: adds an attribute with no value yet, its kind with the bit of nested attributes
+/// alone. What is put from then on is its value, once `nlp_nest_end` is given the old cursor.
+#[unsafe(no_mangle)]
+pub extern "C" fn nlp_nest_begin(buffer: &mut [u8], cursor: &mut usize, kind: u16) -> u32
+    ensures answers { AnswersPut (attribute_with (nested kind) []) buffer.old cursor.old result }
+    ensures written { result ≡ 0
+        → PutsAttribute (attribute_with (nested kind) []) buffer.old cursor.old buffer.new
+        cursor.new }
+    ensures block { result ≡ 0
+        → GrowsBlock (attribute_with (nested kind) []) buffer.old cursor.old buffer.new cursor.new }
+    ensures reads_back { result ≡ 0
+        → Starts (drop cursor.old buffer.new) (attribute_with (nested kind) [])
+        (drop cursor.new buffer.new) }
+    ensures unchanged { result ≢ 0 → (buffer.new ≡ buffer.old) × (cursor.new ≡ cursor.old) }
+{
+    let kind = kind % NLA_F_NET_BYTEORDER + NLA_F_NESTED;
+    put(buffer, cursor, &Value { kind, value: &[] })
+}
+
+/// Adds an attribute where there is room.
+#[tactic(auto, using(crate::proofs::Putting::put_reads_back))]
+fn put<T: Nla>(buffer: &mut [u8], cursor: &mut usize, nla: &T) -> u32
+    ensures answers { AnswersPut (attribute_with (T.kind_of nla.now) (T.value_of nla.now))
+        buffer.old cursor.old result }
+    ensures written { result ≡ 0
+        → PutsAttribute (attribute_with (T.kind_of nla.now) (T.value_of nla.now)) buffer.old
+        cursor.old buffer.new cursor.new }
+    ensures block { result ≡ 0
+        → GrowsBlock (attribute_with (T.kind_of nla.now) (T.value_of nla.now)) buffer.old cursor.old
+        buffer.new cursor.new }
+    ensures reads_back { result ≡ 0
+        → Starts (drop cursor.old buffer.new)
+        (attribute_with (T.kind_of nla.now) (T.value_of nla.now)) (drop cursor.new buffer.new) }
+    ensures unchanged { result ≢ 0 → (buffer.new ≡ buffer.old) × (cursor.new ≡ cursor.old) }
+{
+    if !nla_fits(nla) {
+        return TOO_LONG;
+    }
+    let size = nla_buffer_len(nla);
+    let at = *cursor;
+    if at > buffer.len() || buffer.len() - at < size {
+        return NO_ROOM;
+    }
+    emit_at(nla, buffer, at, size);
+    *cursor = at + size;
+    OK
+}
+
+/// Writes an attribute of this size at a place.
+#[tactic(auto, using(crate::proofs::Putting::put_sizes))]
+fn emit_at<T: Nla>(nla: &T, buffer: &mut [u8], at: usize, size: usize)
+    requires fits { length (T.value_of nla.now) ≤ 65531 }
+    requires size { size ≡ length (padded (attribute_with (T.kind_of nla.now) (T.value_of nla.now))) }
+    requires room { at + size ≤ length buffer.old }
+    ensures written { buffer.new
+        ≡ put_at buffer.old at (padded (attribute_with (T.kind_of nla.now) (T.value_of nla.now))) }
+    ensures kind { T.kind_of nla.now < 2 ^ 16 }
+{
+    emit_nla(nla, &mut buffer[at..at + size]);
+}
+
+/// An attribute of a kind and a value.
+#[derive(Clone, Copy)]
+struct Value<'a> {
+    kind: u16,
+    value: &'a [u8],
+}
+
+impl<'a> Nla for Value<'a> {
+    ghost kind_of = { λ v. v.kind };
+
+    ghost value_of = { λ v. v.value.now };
+
+    fn value_len(&self) -> usize {
+        self.value.len()
+    }
+
+    fn kind(&self) -> u16 {
+        self.kind
+    }
+
+    fn emit_value(&self, buffer: &mut [u8]) {
+        buffer.copy_from_slice(self.value);
+    }
+}
+
+/// An attribute of a kind and a text, which ends with a zero.
+#[derive(Clone, Copy)]
+struct Text<'a> {
+    kind: u16,
+    text: &'a [u8],
+}
+
+impl<'a> Nla for Text<'a> {
+    ghost kind_of = { λ v. v.kind };
+
+    ghost value_of = { λ v. v.text.now ++ 0 ∷ [] };
+
+    fn value_len(&self) -> usize {
+        self.text.len() + 1
+    }
+
+    fn kind(&self) -> u16 {
+        self.kind
+    }
+
+    fn emit_value(&self, buffer: &mut [u8]) {
+        let (text, end) = buffer.split_at_mut(self.text.len());
+        text.copy_from_slice(self.text);
+        end.fill(0);
+    }
+}

@@ -1,0 +1,74 @@
+//! The text of a cause, written into a caller's buffer.
+
+ghost use Rattle.std.specs.Prelude.{◌≡◌, ◌≢◌};
+ghost use Rattle.netlink_packet_core.specs.DecodeError.{DecodeError};
+ghost use Rattle.netlink_c.specs.Fault.{numbers_of};
+ghost use Rattle.netlink_c.specs.Texts.{HasNumbersAlone, IsTextOut, cause_from};
+
+use crate::answers::{NO_MEMORY, NO_PLACE};
+use crate::fault::FaultNumbers;
+use crate::normal::copy_out;
+use netlink_packet_core::DecodeError;
+use std::alloc::Global;
+
+/// Writes the text of the cause that has these numbers, in UTF-8, with no zero behind it.
+///
+/// Answers 0, and the text is then the first `size` bytes; `NO_ROOM`, and `size` is then what is
+/// wanted; `NO_PLACE` where the numbers are of no cause, or of one with words of its own (C1 and
+/// C14); or C16. Only 0 changes the buffer. Wraps the `Display` of `DecodeError`; asks for memory
+/// for the text.
+#[unsafe(no_mangle)]
+pub extern "C" fn nlp_fault_text(
+    alloc: Global,
+    fault: &FaultNumbers,
+    buffer: &mut [u8],
+    size: &mut usize,
+) -> u32
+    ensures text { (e : DecodeError) → HasNumbersAlone e → fault.now ≡ numbers_of e
+        → IsTextOut e buffer.old buffer.new size.new result }
+    ensures unchanged { result ≢ 0 → buffer.new ≡ buffer.old }
+{
+    let Some(cause) = cause_of(fault) else {
+        return NO_PLACE;
+    };
+    text_out(alloc, &cause, buffer, size)
+}
+
+/// Writes the text of a cause.
+fn text_out(alloc: Global, cause: &DecodeError, buffer: &mut [u8], size: &mut usize) -> u32
+    ensures text { IsTextOut cause.now buffer.old buffer.new size.new result }
+    ensures unchanged { result ≢ 0 → buffer.new ≡ buffer.old }
+{
+    match cause.to_string(alloc) {
+        Ok(text) => copy_out(text.as_str().as_bytes(), buffer, size),
+        Err(_) => NO_MEMORY,
+    }
+}
+
+/// The cause that has these numbers, where they tell it.
+fn cause_of(fault: &FaultNumbers) -> Option<DecodeError>
+    ensures { result ≡ cause_from fault.now }
+{
+    let inside = fault.inside != 0;
+    let size = fault.size;
+    let wanted = fault.wanted;
+    match fault.cause {
+        2 => Some(DecodeError::invalid_mac_address(size)),
+        3 => Some(DecodeError::invalid_ip_address(size)),
+        4 => Some(DecodeError::invalid_number(wanted, size)),
+        5 => Some(DecodeError::nla_buffer_too_small(size, wanted)),
+        6 => Some(DecodeError::nla_length_mismatch(size, wanted)),
+        7 => Some(DecodeError::nla_invalid_length(size, wanted)),
+        8 => Some(DecodeError::buffer_too_small(size, wanted)),
+        9 => Some(DecodeError::frame_short(size, inside)),
+        10 if wanted <= u32::MAX as usize => {
+            Some(DecodeError::frame_cut(wanted as u32, size, inside))
+        }
+        11 if wanted <= u32::MAX as usize => Some(DecodeError::frame_length(wanted as u32, inside)),
+        12 => Some(DecodeError::done_short(size, inside)),
+        13 => Some(DecodeError::error_short(size, inside)),
+        15 => Some(DecodeError::TooLong),
+        16 => Some(DecodeError::OutOfMemory),
+        _ => None,
+    }
+}
