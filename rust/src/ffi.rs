@@ -1,0 +1,92 @@
+//! The calls of the library, as c/include/netlink_packet.h declares them.
+
+#[repr(C)]
+#[derive(Clone, Copy, Default)]
+pub struct Fault {
+    pub cause: u32,
+    pub inside: u32,
+    pub size: usize,
+    pub wanted: usize,
+}
+
+#[repr(C)]
+#[derive(Clone, Copy, Default)]
+pub struct Part {
+    pub offset: usize,
+    pub size: usize,
+}
+
+#[repr(C)]
+#[derive(Clone, Copy, Default)]
+pub struct Header {
+    pub length: u32,
+    pub message_type: u16,
+    pub flags: u16,
+    pub sequence_number: u32,
+    pub port_number: u32,
+}
+
+#[repr(C)]
+#[derive(Clone, Copy, Default)]
+pub struct Attr {
+    pub kind: u16,
+    pub offset: usize,
+    pub size: usize,
+}
+
+#[repr(C)]
+#[derive(Clone, Copy, Default)]
+pub struct ErrorBody {
+    pub code: i32,
+    pub request: Part,
+    pub attributes: Part,
+}
+
+type In = *const u8;
+type Out = *mut u8;
+
+extern "C" {
+    pub fn nlp_frame_header(bytes: In, len: usize, header: *mut Header, fault: *mut Fault) -> u32;
+    pub fn nlp_frame_payload(bytes: In, len: usize, payload: *mut Part, fault: *mut Fault) -> u32;
+    pub fn nlp_error_body(bytes: In, len: usize, flags: u16, body: *mut ErrorBody, fault: *mut Fault) -> u32;
+    pub fn nlp_done_body(bytes: In, len: usize, code: *mut i32, rest: *mut Part, fault: *mut Fault) -> u32;
+    pub fn nlp_frames_next(bytes: In, len: usize, cursor: *mut usize, item: *mut Part, fault: *mut Fault) -> u32;
+    pub fn nlp_attrs_next(bytes: In, len: usize, cursor: *mut usize, item: *mut Attr, fault: *mut Fault) -> u32;
+    pub fn nlp_frame_put(
+        buffer: Out,
+        capacity: usize,
+        cursor: *mut usize,
+        header: *const Header,
+        fixed: In,
+        fixed_len: usize,
+    ) -> u32;
+    pub fn nlp_frame_end(buffer: Out, capacity: usize, cursor: usize, start: usize) -> u32;
+    pub fn nlp_attr_put(buffer: Out, capacity: usize, cursor: *mut usize, kind: u16, value: In, len: usize) -> u32;
+    pub fn nlp_attr_put_u8(buffer: Out, capacity: usize, cursor: *mut usize, kind: u16, value: u8) -> u32;
+    pub fn nlp_attr_put_u16(buffer: Out, capacity: usize, cursor: *mut usize, kind: u16, value: u16) -> u32;
+    pub fn nlp_attr_put_u32(buffer: Out, capacity: usize, cursor: *mut usize, kind: u16, value: u32) -> u32;
+    pub fn nlp_attr_put_u64(buffer: Out, capacity: usize, cursor: *mut usize, kind: u16, value: u64) -> u32;
+    pub fn nlp_attr_put_str(buffer: Out, capacity: usize, cursor: *mut usize, kind: u16, text: In, len: usize) -> u32;
+    pub fn nlp_nest_begin(buffer: Out, capacity: usize, cursor: *mut usize, kind: u16) -> u32;
+    pub fn nlp_nest_end(buffer: Out, capacity: usize, cursor: usize, start: usize) -> u32;
+    pub fn nlp_attr_write(block: Out, block_len: usize, index: usize, value: In, len: usize) -> u32;
+    pub fn nlp_attrs_is_canonical(bytes: In, len: usize) -> bool;
+    pub fn nlp_attrs_normalize(
+        bytes: In,
+        len: usize,
+        buffer: Out,
+        capacity: usize,
+        size: *mut usize,
+        fault: *mut Fault,
+    ) -> u32;
+    pub fn nlp_frame_is_canonical(bytes: In, len: usize, canonical: *mut u32, fault: *mut Fault) -> u32;
+    pub fn nlp_frame_normalize(
+        bytes: In,
+        len: usize,
+        buffer: Out,
+        capacity: usize,
+        size: *mut usize,
+        fault: *mut Fault,
+    ) -> u32;
+    pub fn nlp_fault_text(fault: *const Fault, buffer: Out, capacity: usize, size: *mut usize) -> u32;
+}

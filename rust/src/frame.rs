@@ -1,0 +1,98 @@
+//! A frame in place.
+
+use crate::fault::{Fault, OK};
+use crate::ffi;
+
+/// The five fields of a header.
+#[derive(Clone, Copy, Debug, Default, PartialEq, Eq)]
+pub struct Header {
+    /// The size of the message in bytes, this header included. It is not looked at in writing.
+    pub length: u32,
+    pub message_type: u16,
+    pub flags: u16,
+    pub sequence_number: u32,
+    pub port_number: u32,
+}
+
+/// The body of an error message.
+#[derive(Clone, Copy, Debug, PartialEq, Eq)]
+pub struct ErrorBody<'a> {
+    /// 0 for an acknowledgement, else the negated number of an error.
+    pub code: i32,
+    /// The header of the message that is answered, and what follows of it.
+    pub request: &'a [u8],
+    /// The attributes of the extended acknowledgement.
+    pub attributes: &'a [u8],
+}
+
+/// The body of a done message.
+#[derive(Clone, Copy, Debug, PartialEq, Eq)]
+pub struct DoneBody<'a> {
+    /// 0, or the negated number of an error.
+    pub code: i32,
+    /// What stands behind the code.
+    pub rest: &'a [u8],
+}
+
+pub(crate) fn part(bytes: &[u8], part: ffi::Part) -> &[u8] {
+    &bytes[part.offset..part.offset + part.size]
+}
+
+/// The header that the bytes begin with.
+pub fn header(bytes: &[u8]) -> Result<Header, Fault> {
+    let mut fields = ffi::Header::default();
+    let mut fault = ffi::Fault::default();
+    // SAFETY: the slice is live, and so are both structs.
+    let answer = unsafe { ffi::nlp_frame_header(bytes.as_ptr(), bytes.len(), &mut fields, &mut fault) };
+    if answer != OK {
+        return Err(Fault::of(&fault));
+    }
+    Ok(Header {
+        length: fields.length,
+        message_type: fields.message_type,
+        flags: fields.flags,
+        sequence_number: fields.sequence_number,
+        port_number: fields.port_number,
+    })
+}
+
+/// The payload of the frame that the bytes hold whole.
+pub fn payload(bytes: &[u8]) -> Result<&[u8], Fault> {
+    let mut place = ffi::Part::default();
+    let mut fault = ffi::Fault::default();
+    // SAFETY: the slice is live, and so are both structs.
+    let answer = unsafe { ffi::nlp_frame_payload(bytes.as_ptr(), bytes.len(), &mut place, &mut fault) };
+    if answer != OK {
+        return Err(Fault::of(&fault));
+    }
+    Ok(part(bytes, place))
+}
+
+/// The body of an error message whose header has these flags.
+pub fn error_body(payload: &[u8], flags: u16) -> Result<ErrorBody<'_>, Fault> {
+    let mut body = ffi::ErrorBody::default();
+    let mut fault = ffi::Fault::default();
+    // SAFETY: the slice is live, and so are both structs.
+    let answer = unsafe { ffi::nlp_error_body(payload.as_ptr(), payload.len(), flags, &mut body, &mut fault) };
+    if answer != OK {
+        return Err(Fault::of(&fault));
+    }
+    Ok(ErrorBody {
+        code: body.code,
+        request: part(payload, body.request),
+        attributes: part(payload, body.attributes),
+    })
+}
+
+/// The body of a done message.
+pub fn done_body(payload: &[u8]) -> Result<DoneBody<'_>, Fault> {
+    let mut code = 0;
+    let mut rest = ffi::Part::default();
+    let mut fault = ffi::Fault::default();
+    // SAFETY: the slice is live, and so are the three values.
+    let answer = unsafe { ffi::nlp_done_body(payload.as_ptr(), payload.len(), &mut code, &mut rest, &mut fault) };
+    if answer != OK {
+        return Err(Fault::of(&fault));
+    }
+    Ok(DoneBody { code, rest: part(payload, rest) })
+}

@@ -1,0 +1,28 @@
+//! Netlink messages, read and written in place: a safe wrapper over the proved library of `c/`.
+//!
+//! ```
+//! use netlink_packet::{Attributes, Writer};
+//!
+//! let mut buffer = [0u8; 16];
+//! let mut writer = Writer::new(&mut buffer);
+//! writer.text(3, "lo")?;
+//! writer.u32(4, 1400)?;
+//! let kinds: Result<Vec<_>, _> = Attributes::new(writer.written()).map(|a| a.map(|a| a.kind)).collect();
+//! assert_eq!(kinds.unwrap(), [3, 4]);
+//! # Ok::<(), netlink_packet::Refusal>(())
+//! ```
+
+mod fault;
+mod ffi;
+mod frame;
+mod normal;
+mod walk;
+mod write;
+
+pub use fault::{Fault, Refusal};
+pub use frame::{done_body, error_body, header, payload, DoneBody, ErrorBody, Header};
+pub use normal::{
+    attributes_are_canonical, frame_is_canonical, normalize_attributes, normalize_frame, write_value,
+};
+pub use walk::{Attribute, Attributes, Frames};
+pub use write::{Start, Writer};

@@ -1,0 +1,112 @@
+//! The frames of a datagram and the attributes of a block, one after another.
+
+use crate::fault::{Fault, OK};
+use crate::ffi;
+use crate::frame::part;
+
+const END: u32 = 32;
+const KIND_MASK: u16 = 0x3fff;
+const NESTED: u16 = 0x8000;
+
+/// An attribute of a block.
+#[derive(Clone, Copy, Debug, PartialEq, Eq)]
+pub struct Attribute<'a> {
+    /// The kind with its two flag bits.
+    pub kind: u16,
+    /// The bytes of the value.
+    pub value: &'a [u8],
+}
+
+impl<'a> Attribute<'a> {
+    /// The kind without its flag bits.
+    pub fn number(&self) -> u16 {
+        self.kind & KIND_MASK
+    }
+
+    /// Whether the kind has the bit of nested attributes.
+    pub fn is_nested(&self) -> bool {
+        self.kind & NESTED != 0
+    }
+
+    /// The attributes inside.
+    pub fn inside(&self) -> Attributes<'a> {
+        Attributes::new(self.value)
+    }
+
+    /// The text of the value, without the zero that ends it.
+    pub fn text(&self) -> &'a [u8] {
+        self.value.strip_suffix(&[0]).unwrap_or(self.value)
+    }
+
+    /// The number of a value of 4 bytes.
+    pub fn u32(&self) -> Option<u32> {
+        Some(u32::from_ne_bytes(self.value.try_into().ok()?))
+    }
+}
+
+/// The attributes of a block in order. A fault is the last item.
+#[derive(Clone, Debug)]
+pub struct Attributes<'a> {
+    bytes: &'a [u8],
+    cursor: usize,
+}
+
+impl<'a> Attributes<'a> {
+    /// A walk of these bytes.
+    pub fn new(bytes: &'a [u8]) -> Self {
+        Attributes { bytes, cursor: 0 }
+    }
+}
+
+impl<'a> Iterator for Attributes<'a> {
+    type Item = Result<Attribute<'a>, Fault>;
+
+    fn next(&mut self) -> Option<Self::Item> {
+        let mut item = ffi::Attr::default();
+        let mut fault = ffi::Fault::default();
+        // SAFETY: the slice is live, and so are the three values.
+        let answer = unsafe {
+            ffi::nlp_attrs_next(self.bytes.as_ptr(), self.bytes.len(), &mut self.cursor, &mut item, &mut fault)
+        };
+        match answer {
+            OK => Some(Ok(Attribute {
+                kind: item.kind,
+                value: &self.bytes[item.offset..item.offset + item.size],
+            })),
+            END => None,
+            _ => Some(Err(Fault::of(&fault))),
+        }
+    }
+}
+
+/// The frames of a datagram in order, each without its padding. A fault is the last item.
+#[derive(Clone, Debug)]
+pub struct Frames<'a> {
+    bytes: &'a [u8],
+    cursor: usize,
+}
+
+impl<'a> Frames<'a> {
+    /// A walk of this datagram.
+    pub fn new(bytes: &'a [u8]) -> Self {
+        Frames { bytes, cursor: 0 }
+    }
+}
+
+impl<'a> Iterator for Frames<'a> {
+    type Item = Result<&'a [u8], Fault>;
+
+    fn next(&mut self) -> Option<Self::Item> {
+        let mut item = ffi::Part::default();
+        let mut fault = ffi::Fault::default();
+        // SAFETY: the slice is live, and so are the three values.
+        let answer = unsafe {
+            ffi::nlp_frames_next(self.bytes.as_ptr(), self.bytes.len(), &mut self.cursor, &mut item, &mut fault)
+        };
+        match answer {
+            OK => Some(Ok(part(self.bytes, item))),
+            END => None,
+            _ => Some(Err(Fault::of(&fault))),
+        }
+    }
+}

@@ -1,0 +1,137 @@
+//! Frames and attributes, written into a buffer.
+
+use crate::fault::Refusal;
+use crate::ffi;
+use crate::frame::Header;
+
+/// Where a frame or a nest was begun.
+#[derive(Debug)]
+#[must_use = "a frame or a nest is ended by its start"]
+pub struct Start(usize);
+
+/// Writes into a buffer, from its front on. What does not fit changes nothing.
+#[derive(Debug)]
+pub struct Writer<'a> {
+    buffer: &'a mut [u8],
+    cursor: usize,
+}
+
+impl<'a> Writer<'a> {
+    /// A writer at the front of the buffer.
+    pub fn new(buffer: &'a mut [u8]) -> Self {
+        Writer { buffer, cursor: 0 }
+    }
+
+    /// What was written.
+    pub fn written(&self) -> &[u8] {
+        &self.buffer[..self.cursor]
+    }
+
+    /// Begins a frame: its header, and what the sub-protocol has in front of its attributes.
+    pub fn begin_frame(&mut self, header: &Header, fixed: &[u8]) -> Result<Start, Refusal> {
+        let start = Start(self.cursor);
+        let fields = ffi::Header {
+            length: header.length,
+            message_type: header.message_type,
+            flags: header.flags,
+            sequence_number: header.sequence_number,
+            port_number: header.port_number,
+        };
+        // SAFETY: both slices are live, and so are the cursor and the header.
+        Refusal::of(unsafe {
+            ffi::nlp_frame_put(
+                self.buffer.as_mut_ptr(),
+                self.buffer.len(),
+                &mut self.cursor,
+                &fields,
+                fixed.as_ptr(),
+                fixed.len(),
+            )
+        })?;
+        Ok(start)
+    }
+
+    /// Ends a frame: what was written since is its own.
+    pub fn end_frame(&mut self, start: Start) -> Result<(), Refusal> {
+        // SAFETY: the slice is live.
+        Refusal::of(unsafe { ffi::nlp_frame_end(self.buffer.as_mut_ptr(), self.buffer.len(), self.cursor, start.0) })
+    }
+
+    /// Begins a nest of this kind.
+    pub fn begin_nest(&mut self, kind: u16) -> Result<Start, Refusal> {
+        let start = Start(self.cursor);
+        // SAFETY: the slice is live, and so is the cursor.
+        Refusal::of(unsafe {
+            ffi::nlp_nest_begin(self.buffer.as_mut_ptr(), self.buffer.len(), &mut self.cursor, kind)
+        })?;
+        Ok(start)
+    }
+
+    /// Ends a nest: what was written since is its value.
+    pub fn end_nest(&mut self, start: Start) -> Result<(), Refusal> {
+        // SAFETY: the slice is live.
+        Refusal::of(unsafe { ffi::nlp_nest_end(self.buffer.as_mut_ptr(), self.buffer.len(), self.cursor, start.0) })
+    }
+
+    /// An attribute of these bytes, its kind as it is.
+    pub fn attribute(&mut self, kind: u16, value: &[u8]) -> Result<(), Refusal> {
+        // SAFETY: both slices are live, and so is the cursor.
+        Refusal::of(unsafe {
+            ffi::nlp_attr_put(
+                self.buffer.as_mut_ptr(),
+                self.buffer.len(),
+                &mut self.cursor,
+                kind,
+                value.as_ptr(),
+                value.len(),
+            )
+        })
+    }
+
+    /// An attribute of a text, with one zero behind it.
+    pub fn text(&mut self, kind: u16, text: &str) -> Result<(), Refusal> {
+        // SAFETY: both slices are live, and so is the cursor.
+        Refusal::of(unsafe {
+            ffi::nlp_attr_put_str(
+                self.buffer.as_mut_ptr(),
+                self.buffer.len(),
+                &mut self.cursor,
+                kind,
+                text.as_ptr(),
+                text.len(),
+            )
+        })
+    }
+
+    /// An attribute of a number of 1 byte.
+    pub fn u8(&mut self, kind: u16, value: u8) -> Result<(), Refusal> {
+        // SAFETY: the slice is live, and so is the cursor.
+        Refusal::of(unsafe {
+            ffi::nlp_attr_put_u8(self.buffer.as_mut_ptr(), self.buffer.len(), &mut self.cursor, kind, value)
+        })
+    }
+
+    /// An attribute of a number of 2 bytes.
+    pub fn u16(&mut self, kind: u16, value: u16) -> Result<(), Refusal> {
+        // SAFETY: the slice is live, and so is the cursor.
+        Refusal::of(unsafe {
+            ffi::nlp_attr_put_u16(self.buffer.as_mut_ptr(), self.buffer.len(), &mut self.cursor, kind, value)
+        })
+    }
+
+    /// An attribute of a number of 4 bytes.
+    pub fn u32(&mut self, kind: u16, value: u32) -> Result<(), Refusal> {
+        // SAFETY: the slice is live, and so is the cursor.
+        Refusal::of(unsafe {
+            ffi::nlp_attr_put_u32(self.buffer.as_mut_ptr(), self.buffer.len(), &mut self.cursor, kind, value)
+        })
+    }
+
+    /// An attribute of a number of 8 bytes.
+    pub fn u64(&mut self, kind: u16, value: u64) -> Result<(), Refusal> {
+        // SAFETY: the slice is live, and so is the cursor.
+        Refusal::of(unsafe {
+            ffi::nlp_attr_put_u64(self.buffer.as_mut_ptr(), self.buffer.len(), &mut self.cursor, kind, value)
+        })
+    }
+}
