@@ -1,4 +1,4 @@
-/* The heap of the library: what its three calls that allocate ask for, over malloc.
+/* The heap of the library: what its four calls that allocate ask for, over malloc.
  *
  * A block of no bytes is one of its alignment's size, so that it has an address of its own. Where
  * there is no memory the pointer is to a byte that is never read, and nothing is owned there. */

@@ -14,7 +14,7 @@
  *
  * Sizes, offsets, cursors and lengths are in bytes. All numbers on the wire are in native order;
  * the library is for little-endian machines with 64 bits. No call keeps a pointer, and none owns
- * anything. No call allocates, but for the three that say so.
+ * anything. No call allocates, but for the four that say so.
  *
  * Answers: NLP_OK, or one of the answers below, or the number of a cause (1 to 16); a cause's
  * other numbers are then in the struct nlp_fault. On NLP_OK the fault is left as it was.

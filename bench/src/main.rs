@@ -1,0 +1,116 @@
+//! Measures one case in one library, so many times.
+//!
+//! `bench CASE LIBRARY SIZE TIMES` does it and prints what it came to, so that the three can be compared;
+//! `bench` alone prints the cases: a line each of name, size, and the libraries that have it.
+//! `run` counts the instructions.
+
+mod libmnl;
+mod ours;
+mod rust_crate;
+
+use std::hint::black_box;
+
+/// The sizes of a frame's payload, in bytes.
+const SIZES: [usize; 4] = [4, 64, 1024, 32768];
+
+/// The numbers of attributes, or of frames in a datagram.
+const COUNTS: [usize; 3] = [10, 1000, 10000];
+
+/// A frame of type 18 with a payload of this size.
+fn frame(size: usize) -> Vec<u8> {
+    let mut bytes = vec![0; 16];
+    bytes[..4].copy_from_slice(&((16 + size) as u32).to_ne_bytes());
+    bytes[4] = 18;
+    bytes.extend((0..size).map(|i| i as u8));
+    bytes
+}
+
+/// A block of so many attributes of 4 bytes.
+fn block(count: usize) -> Vec<u8> {
+    let mut bytes = Vec::new();
+    for i in 0..count {
+        bytes.extend_from_slice(&8u16.to_ne_bytes());
+        bytes.extend_from_slice(&(i as u16 & 0x3fff).to_ne_bytes());
+        bytes.extend_from_slice(&(i as u32).to_ne_bytes());
+    }
+    bytes
+}
+
+/// A datagram of so many frames of 20 bytes.
+fn datagram(count: usize) -> Vec<u8> {
+    (0..count).flat_map(|_| frame(4)).collect()
+}
+
+/// What a case works on: the bytes, and a buffer for what it writes.
+fn input(case: &str, size: usize) -> Vec<u8> {
+    match case {
+        "read" | "view" | "round_trip" => frame(size),
+        "refuse" => {
+            let mut bytes = frame(size);
+            bytes.pop();
+            bytes
+        }
+        "split" => datagram(size),
+        _ => block(size),
+    }
+}
+
+fn once(case: &str, library: &str, size: usize, bytes: &[u8], out: &mut [u8]) -> usize {
+    match (case, library) {
+        ("read", "ours") | ("view", "ours") => ours::read(bytes),
+        ("read", "rust") => rust_crate::read(bytes),
+        ("view", "rust") => rust_crate::view(bytes),
+        ("view", "libmnl") => libmnl::read(bytes),
+        ("round_trip", "ours") => ours::round_trip(bytes, out),
+        ("round_trip", "rust") => rust_crate::round_trip(bytes, out),
+        ("walk", "ours") => ours::walk(bytes),
+        ("walk", "rust") => rust_crate::walk(bytes),
+        ("walk", "libmnl") => libmnl::walk(bytes),
+        ("put", "ours") => ours::put(size, out),
+        ("put", "rust") => rust_crate::put(size, out),
+        ("put", "libmnl") => libmnl::put(size, out),
+        ("normalise", "ours") => ours::normalize(bytes, out),
+        ("normalise", "rust") => rust_crate::normalize(bytes, out),
+        ("normalise", "libmnl") => libmnl::normalize(bytes, out),
+        ("refuse", "ours") => ours::refuse(bytes),
+        ("refuse", "rust") => rust_crate::refuse(bytes),
+        ("refuse", "libmnl") => libmnl::refuse(bytes),
+        ("split", "ours") => ours::split(bytes),
+        ("split", "rust") => rust_crate::split(bytes),
+        ("split", "libmnl") => libmnl::split(bytes),
+        _ => panic!("no such case: {case} {library}"),
+    }
+}
+
+fn print_cases() {
+    for (case, libraries, sizes) in [
+        ("read", "ours rust", &SIZES[..]),
+        ("view", "ours rust libmnl", &SIZES[..]),
+        ("round_trip", "ours rust", &SIZES[..]),
+        ("refuse", "ours rust libmnl", &SIZES[..]),
+        ("walk", "ours rust libmnl", &COUNTS[..]),
+        ("put", "ours rust libmnl", &COUNTS[..]),
+        ("normalise", "ours rust libmnl", &COUNTS[..]),
+        ("split", "ours rust libmnl", &COUNTS[..]),
+    ] {
+        for size in sizes {
+            println!("{case} {size} {libraries}");
+        }
+    }
+}
+
+fn main() {
+    let words: Vec<String> = std::env::args().skip(1).collect();
+    let [case, library, size, times] = &words[..] else {
+        return print_cases();
+    };
+    let (size, times): (usize, usize) = (size.parse().unwrap(), times.parse().unwrap());
+    let bytes = input(case, size);
+    let mut out = vec![0; 32 + bytes.len()];
+    let mut sum = 0usize;
+    let start = std::time::Instant::now();
+    for _ in 0..times {
+        sum = sum.wrapping_add(black_box(once(case, library, size, black_box(&bytes), black_box(&mut out))));
+    }
+    println!("{sum} {}", start.elapsed().as_nanos());
+}
