@@ -26,6 +26,7 @@ pub use Rattle.netlink_attributes.specs.Walk
 pub use Rattle.netlink_attributes.specs.WalkLaws
 pub use Rattle.netlink_bytes.specs.Causes
 pub use Rattle.netlink_bytes.specs.Contexts
+pub use Rattle.netlink_bytes.specs.Fields
 pub use Rattle.netlink_bytes.specs.NonZero
 pub use Rattle.netlink_bytes.specs.NumberLaws
 pub use Rattle.netlink_bytes.specs.Numbers

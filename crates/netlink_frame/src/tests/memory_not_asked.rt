@@ -4,7 +4,7 @@
 //! it makes none.
 
 mod above;
-mod attributes;
+pub(crate) mod attributes;
 mod messages;
 mod numbers;
 mod views;

@@ -10,6 +10,7 @@ use crate::samples::Zeros;
 use crate::tests::attributes::TWO;
 use crate::tests::datagrams::DATAGRAM;
 use crate::tests::lengths::{FOUR_ZEROS, counted};
+use crate::tests::memory_not_asked::attributes::Flag;
 use crate::tests::messages::{
     CODED_DONE, DONE, EMPTY_DONE, Message, NOOP, OVERRUN, PING, PLAIN_DONE, PLAIN_NOOP,
 };
@@ -17,8 +18,8 @@ use crate::tests::refusals::UNKNOWN;
 use crate::text::show_text;
 use netlink_packet_core::{
     DecodeError, DefaultNla, DoneBuffer, DoneMessage, ErrorBuffer, ErrorContext, ErrorMessage,
-    NetlinkBuffer, NlaBuffer, NonZeroI32, Parseable, append_nla, is_canonical_frame, normalize,
-    normalize_nlas, parse_string,
+    NetlinkBuffer, NlaBuffer, NonZeroI32, Parseable, append_nla, copy_of, is_canonical_frame,
+    normalize, normalize_nlas, parse_string, write_nlas,
 };
 use netlink_tree::{TreeFault, append_frame, is_well_formed, read_tree, write_tree};
 use std::alloc::Global;
@@ -123,6 +124,21 @@ fn bodies_are_read_and_copied(rt: HostRuntime) -> Result<(), Fail> {
         Err(_) => assert!(rt; false),
     }
     assert!(rt; error.try_clone(alloc)? == error);
+    Ok(())
+}
+
+#[test]
+fn bytes_are_copied(rt: HostRuntime) -> Result<(), Fail> {
+    assert!(rt; copy_of(rt.alloc(), &TWO)?.as_slice() == TWO.as_slice());
+    Ok(())
+}
+
+#[test]
+fn a_block_is_written(rt: HostRuntime) -> Result<(), Fail> {
+    let block = write_nlas(rt.alloc(), &[Flag(9), Flag(8)])?;
+    assert!(rt;
+        block.as_slice() == [5, 0, 7, 0x40, 9, 0, 0, 0, 5, 0, 7, 0x40, 8, 0, 0, 0].as_slice()
+    );
     Ok(())
 }
 

@@ -11,7 +11,7 @@ use netlink_ethernet::{Comparisons, look_up};
 use netlink_packet_core::{
     DefaultNla, Emitable, EthernetProtocol, Nla, NlaBuffer, Nlas, NlasIterator, Parseable,
     append_nla, emit_nla, is_canonical_nlas, nla_align, nla_buffer_len, nla_find, nla_find_raw,
-    nla_fits, nla_place, nlas_value_mut, normalize_nlas, write_nla_value,
+    nla_fits, nla_place, nlas_value_mut, normalize_nlas, write_nla_value, write_nlas,
 };
 use std::fmt;
 use std::fmt::Write;
@@ -62,7 +62,7 @@ fn fields_of_an_attribute(rt: HostRuntime) {
 
 /// A flag of one byte.
 #[derive(Drop)]
-struct Flag(u8);
+pub(crate) struct Flag(pub(crate) u8);
 
 impl Nla for Flag {
     ghost kind_of = { λ _. 0x4007 };
@@ -104,6 +104,8 @@ fn attributes_are_written(rt: HostRuntime) -> Result<(), Fail> {
     assert!(rt; nlas.buffer_len() == 8);
     nlas.emit(&mut again);
     assert!(rt; again == [5, 0, 7, 0x40, 9, 0, 0, 0, 0x55]);
+    let none: [Flag; 0] = [];
+    assert!(rt; write_nlas(rt.alloc(), &none)?.is_empty());
     Ok(())
 }
 

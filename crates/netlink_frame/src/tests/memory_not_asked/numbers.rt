@@ -3,14 +3,15 @@
 use crate::tests::mark::refuse_from_here;
 use crate::tests::refusals::refuses;
 use netlink_packet_core::{
-    DecodeError, ErrorContext, IpAddr, NonZeroI32, emit_i16, emit_i16_be, emit_i16_le, emit_i32,
-    emit_i32_be, emit_i32_le, emit_i64, emit_i64_be, emit_i64_le, emit_i128, emit_i128_be,
-    emit_i128_le, emit_u16, emit_u16_be, emit_u16_le, emit_u32, emit_u32_be, emit_u32_le, emit_u64,
-    emit_u64_be, emit_u64_le, emit_u128, emit_u128_be, emit_u128_le, parse_i8, parse_i16,
-    parse_i16_be, parse_i16_le, parse_i32, parse_i32_be, parse_i32_le, parse_i64, parse_i64_be,
-    parse_i64_le, parse_i128, parse_i128_be, parse_i128_le, parse_ip, parse_ipv6, parse_mac,
-    parse_string, parse_u8, parse_u16, parse_u16_be, parse_u16_le, parse_u32, parse_u32_be,
-    parse_u32_le, parse_u64, parse_u64_be, parse_u64_le, parse_u128, parse_u128_be, parse_u128_le,
+    DecodeError, ErrorContext, IpAddr, NonZeroI32, copy_of, emit_i16, emit_i16_be, emit_i16_le,
+    emit_i32, emit_i32_be, emit_i32_le, emit_i64, emit_i64_be, emit_i64_le, emit_i128,
+    emit_i128_be, emit_i128_le, emit_u16, emit_u16_be, emit_u16_le, emit_u32, emit_u32_be,
+    emit_u32_le, emit_u64, emit_u64_be, emit_u64_le, emit_u128, emit_u128_be, emit_u128_le, i32_at,
+    parse_i8, parse_i16, parse_i16_be, parse_i16_le, parse_i32, parse_i32_be, parse_i32_le,
+    parse_i64, parse_i64_be, parse_i64_le, parse_i128, parse_i128_be, parse_i128_le, parse_ip,
+    parse_ipv6, parse_mac, parse_string, parse_u8, parse_u16, parse_u16_be, parse_u16_le,
+    parse_u32, parse_u32_be, parse_u32_le, parse_u64, parse_u64_be, parse_u64_le, parse_u128,
+    parse_u128_be, parse_u128_le, put_i32, put_u16, put_u32, u16_at, u32_at,
 };
 use std::process::Abort;
 use std::test::Fail;
@@ -76,6 +77,18 @@ fn sixteen_bytes(rt: &impl Abort) {
 }
 
 #[test]
+fn numbers_at_their_places(rt: HostRuntime) {
+    refuse_from_here(rt.alloc());
+    let mut bytes = [9u8; 12];
+    put_u16(&mut bytes, 1, 0x0201);
+    put_u32(&mut bytes, 3, 0x06050403);
+    put_i32(&mut bytes, 7, -2);
+    assert!(rt; bytes == [9, 1, 2, 3, 4, 5, 6, 0xfe, 0xff, 0xff, 0xff, 9]);
+    assert!(rt; u16_at(&bytes, 1) == 0x0201 && u32_at(&bytes, 3) == 0x06050403);
+    assert!(rt; i32_at(&bytes, 7) == -2);
+}
+
+#[test]
 fn numbers(rt: HostRuntime) {
     refuse_from_here(rt.alloc());
     two_bytes(&rt);
@@ -138,5 +151,6 @@ fn causes_and_empty_texts(rt: HostRuntime) -> Result<(), Fail> {
     assert!(rt; fine.context(alloc, "a line").ok() == Some(7));
     assert!(rt; parse_string(alloc, &[])?.as_str().is_empty());
     assert!(rt; parse_string(alloc, &[0])?.as_str().is_empty());
+    assert!(rt; copy_of(alloc, &[])?.is_empty());
     Ok(())
 }
