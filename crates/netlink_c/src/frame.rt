@@ -120,6 +120,8 @@ pub extern "C" fn nlp_done_body(
     ensures code { result ≡ 0 → code.new ≡ signed 4 (field 0 4 payload.now) }
     ensures rest { result ≡ 0 → (4 ≤ length payload.now)
         × (part_of rest.new payload.now ≡ drop 4 payload.now) }
+    ensures place { result ≡ 0
+        → (rest.new.offset ≡ 4) × (4 + rest.new.size ≡ length payload.now) }
     ensures refuses { result ≢ 0 → Refuses (IsShortDone payload.now) result fault.new
         × (code.new ≡ code.old) × (rest.new ≡ rest.old) }
 {
