@@ -14,126 +14,116 @@ fn not_utf8(rt: &HostRuntime) -> Result<DecodeError, AllocError> {
     })
 }
 
+/// The number and the text of each of them.
+const NUMBERS_AND_TEXTS: [(u8, &str); 26] = [
+    (
+        1,
+        "Invalid buffer x. Expected at least 8 bytes, received 3 bytes",
+    ),
+    (
+        1,
+        "Invalid buffer . Expected at least 1 bytes, received 0 bytes",
+    ),
+    (2, "Invalid MAC address. Expected 6 bytes, received 5 bytes"),
+    (
+        3,
+        "Invalid IP address. Expected 4 or 16 bytes, received 5 bytes",
+    ),
+    (4, "Invalid number. Expected 8 bytes, received 7 bytes"),
+    (5, "buffer has length 1, but an NLA header is 4 bytes"),
+    (6, "buffer has length: 4, but the NLA is 5 bytes"),
+    (7, "NLA has invalid length: 3 (should be at least 4 bytes)"),
+    (8, "Buffer too small: 3 (should be at least 4 bytes"),
+    (
+        9,
+        "invalid netlink buffer length caused by invalid netlink buffer: length is 4 but netlink packets are at least 16 bytes",
+    ),
+    (
+        9,
+        "failed deserializing NetlinkMessage caused by invalid netlink buffer length caused by invalid netlink buffer: length is 4 but netlink packets are at least 16 bytes",
+    ),
+    (
+        10,
+        "invalid netlink buffer length caused by invalid netlink buffer: length field says 40 the buffer is 24 bytes long",
+    ),
+    (
+        10,
+        "failed deserializing NetlinkMessage caused by invalid netlink buffer length caused by invalid netlink buffer: length field says 40 the buffer is 24 bytes long",
+    ),
+    (
+        11,
+        "invalid netlink buffer length caused by invalid netlink buffer: length field says 15 but netlink packets are at least 16 bytes",
+    ),
+    (
+        11,
+        "failed deserializing NetlinkMessage caused by invalid netlink buffer length caused by invalid netlink buffer: length field says 15 but netlink packets are at least 16 bytes",
+    ),
+    (
+        12,
+        "invalid DoneBuffer length caused by invalid DoneBuffer: length is 3 but DoneBuffer are at least 4 bytes",
+    ),
+    (
+        12,
+        "failed to parse NLMSG_DONE caused by invalid DoneBuffer length caused by invalid DoneBuffer: length is 3 but DoneBuffer are at least 4 bytes",
+    ),
+    (
+        13,
+        "invalid ErrorBuffer length caused by invalid ErrorBuffer: length is 0 but ErrorBuffer are at least 4 bytes",
+    ),
+    (
+        13,
+        "failed parsing NLMSG_ERROR caused by invalid ErrorBuffer length caused by invalid ErrorBuffer: length is 0 but ErrorBuffer are at least 4 bytes",
+    ),
+    (14, "c"),
+    (14, ""),
+    (14, "a text"),
+    (15, "message does not fit a 32-bit length"),
+    (16, "out of memory"),
+    (16, "out of memory"),
+    (16, "out of memory"),
+];
+
+/// Each cause by each of its constructors.
+fn causes_by_constructor(alloc: Global, owned: String) -> [DecodeError; 26] {
+    [
+        DecodeError::invalid_buffer(alloc, "x", 3, 8),
+        DecodeError::invalid_buffer(alloc, "", 0, 1),
+        DecodeError::invalid_mac_address(5),
+        DecodeError::invalid_ip_address(5),
+        DecodeError::invalid_number(8, 7),
+        DecodeError::nla_buffer_too_small(1, 4),
+        DecodeError::nla_length_mismatch(4, 5),
+        DecodeError::nla_invalid_length(4, 3),
+        DecodeError::buffer_too_small(3, 4),
+        DecodeError::frame_short(4, false),
+        DecodeError::frame_short(4, true),
+        DecodeError::frame_cut(40, 24, false),
+        DecodeError::frame_cut(40, 24, true),
+        DecodeError::frame_length(15, false),
+        DecodeError::frame_length(15, true),
+        DecodeError::done_short(3, false),
+        DecodeError::done_short(3, true),
+        DecodeError::error_short(0, false),
+        DecodeError::error_short(0, true),
+        DecodeError::from_text(alloc, "c"),
+        DecodeError::from_text(alloc, ""),
+        DecodeError::from(owned),
+        DecodeError::too_long(),
+        DecodeError::out_of_memory(),
+        DecodeError::from(AllocError),
+        DecodeError::from(AllocFailed { value: 7u8 }),
+    ]
+}
+
 #[test]
 fn causes(rt: HostRuntime) -> Result<(), Fail> {
     let alloc = rt.alloc();
     let owned = String::from_str(alloc, "a text")?;
-    let rows = [
-        (
-            DecodeError::invalid_buffer(alloc, "x", 3, 8),
-            1,
-            "Invalid buffer x. Expected at least 8 bytes, received 3 bytes",
-        ),
-        (
-            DecodeError::invalid_buffer(alloc, "", 0, 1),
-            1,
-            "Invalid buffer . Expected at least 1 bytes, received 0 bytes",
-        ),
-        (
-            DecodeError::invalid_mac_address(5),
-            2,
-            "Invalid MAC address. Expected 6 bytes, received 5 bytes",
-        ),
-        (
-            DecodeError::invalid_ip_address(5),
-            3,
-            "Invalid IP address. Expected 4 or 16 bytes, received 5 bytes",
-        ),
-        (
-            DecodeError::invalid_number(8, 7),
-            4,
-            "Invalid number. Expected 8 bytes, received 7 bytes",
-        ),
-        (
-            DecodeError::nla_buffer_too_small(1, 4),
-            5,
-            "buffer has length 1, but an NLA header is 4 bytes",
-        ),
-        (
-            DecodeError::nla_length_mismatch(4, 5),
-            6,
-            "buffer has length: 4, but the NLA is 5 bytes",
-        ),
-        (
-            DecodeError::nla_invalid_length(4, 3),
-            7,
-            "NLA has invalid length: 3 (should be at least 4 bytes)",
-        ),
-        (
-            DecodeError::buffer_too_small(3, 4),
-            8,
-            "Buffer too small: 3 (should be at least 4 bytes",
-        ),
-        (
-            DecodeError::frame_short(4, false),
-            9,
-            "invalid netlink buffer length caused by invalid netlink buffer: length is 4 but netlink packets are at least 16 bytes",
-        ),
-        (
-            DecodeError::frame_short(4, true),
-            9,
-            "failed deserializing NetlinkMessage caused by invalid netlink buffer length caused by invalid netlink buffer: length is 4 but netlink packets are at least 16 bytes",
-        ),
-        (
-            DecodeError::frame_cut(40, 24, false),
-            10,
-            "invalid netlink buffer length caused by invalid netlink buffer: length field says 40 the buffer is 24 bytes long",
-        ),
-        (
-            DecodeError::frame_cut(40, 24, true),
-            10,
-            "failed deserializing NetlinkMessage caused by invalid netlink buffer length caused by invalid netlink buffer: length field says 40 the buffer is 24 bytes long",
-        ),
-        (
-            DecodeError::frame_length(15, false),
-            11,
-            "invalid netlink buffer length caused by invalid netlink buffer: length field says 15 but netlink packets are at least 16 bytes",
-        ),
-        (
-            DecodeError::frame_length(15, true),
-            11,
-            "failed deserializing NetlinkMessage caused by invalid netlink buffer length caused by invalid netlink buffer: length field says 15 but netlink packets are at least 16 bytes",
-        ),
-        (
-            DecodeError::done_short(3, false),
-            12,
-            "invalid DoneBuffer length caused by invalid DoneBuffer: length is 3 but DoneBuffer are at least 4 bytes",
-        ),
-        (
-            DecodeError::done_short(3, true),
-            12,
-            "failed to parse NLMSG_DONE caused by invalid DoneBuffer length caused by invalid DoneBuffer: length is 3 but DoneBuffer are at least 4 bytes",
-        ),
-        (
-            DecodeError::error_short(0, false),
-            13,
-            "invalid ErrorBuffer length caused by invalid ErrorBuffer: length is 0 but ErrorBuffer are at least 4 bytes",
-        ),
-        (
-            DecodeError::error_short(0, true),
-            13,
-            "failed parsing NLMSG_ERROR caused by invalid ErrorBuffer length caused by invalid ErrorBuffer: length is 0 but ErrorBuffer are at least 4 bytes",
-        ),
-        (DecodeError::from_text(alloc, "c"), 14, "c"),
-        (DecodeError::from_text(alloc, ""), 14, ""),
-        (DecodeError::from(owned), 14, "a text"),
-        (
-            DecodeError::too_long(),
-            15,
-            "message does not fit a 32-bit length",
-        ),
-        (DecodeError::out_of_memory(), 16, "out of memory"),
-        (DecodeError::from(AllocError), 16, "out of memory"),
-        (
-            DecodeError::from(AllocFailed { value: 7u8 }),
-            16,
-            "out of memory",
-        ),
-    ];
-    for (cause, number, text) in &rows {
-        assert_eq!(rt; cause.number(), *number, "{text}");
-        assert_eq!(rt; cause.is_out_of_memory(), *number == 16, "{text}");
-        assert_eq!(rt; cause.to_string(alloc)?.as_str(), *text);
+    let causes = causes_by_constructor(alloc, owned);
+    for (cause, (number, text)) in causes.iter().zip(NUMBERS_AND_TEXTS) {
+        assert_eq!(rt; cause.number(), number, "{text}");
+        assert_eq!(rt; cause.is_out_of_memory(), number == 16, "{text}");
+        assert_eq!(rt; cause.to_string(alloc)?.as_str(), text);
     }
     let refused = not_utf8(&rt)?;
     assert_eq!(rt; refused.number(), 14);

@@ -7,14 +7,19 @@ use std::test::Fail;
 
 const SHORT: &str = "a caused by buffer has length 1, but an NLA header is 4 bytes";
 
+const CHAIN: &str = "b caused by a caused by c";
+
 /// C5 of 1 and 4.
 fn short() -> DecodeError {
     DecodeError::nla_buffer_too_small(1, 4)
 }
 
-/// The same as a result.
-fn refused() -> Result<u8, DecodeError> {
-    Err(short())
+/// The error of a result, or one that no row expects.
+fn error_of(answer: Result<u8, DecodeError>) -> DecodeError {
+    match answer {
+        Ok(_) => DecodeError::too_long(),
+        Err(error) => error,
+    }
 }
 
 fn owned(alloc: Global, text: &str) -> Result<String, AllocError> {
@@ -22,117 +27,84 @@ fn owned(alloc: Global, text: &str) -> Result<String, AllocError> {
 }
 
 #[test]
-fn contexts(rt: HostRuntime) -> Result<(), Fail> {
+fn on_an_error(rt: HostRuntime) -> Result<(), Fail> {
     let alloc = rt.alloc();
-    let first: Result<u8, DecodeError> = Err(DecodeError::from_text(alloc, "c"));
-    let second: Result<u8, DecodeError> = Err(DecodeError::from_text(alloc, "c"));
-    let rows = [
-        (
-            Some(
-                DecodeError::from_text(alloc, "c")
-                    .context(alloc, "a")
-                    .context(alloc, "b"),
-            ),
-            "b caused by a caused by c",
-        ),
-        (
-            Some(
-                DecodeError::from_text(alloc, "c")
-                    .context(alloc, owned(alloc, "a")?)
-                    .context(alloc, owned(alloc, "b")?),
-            ),
-            "b caused by a caused by c",
-        ),
-        (
-            first.context(alloc, "a").context(alloc, "b").err(),
-            "b caused by a caused by c",
-        ),
-        (
-            second
-                .context(alloc, owned(alloc, "a")?)
-                .context(alloc, owned(alloc, "b")?)
-                .err(),
-            "b caused by a caused by c",
-        ),
-        (Some(short().context(alloc, "a")), SHORT),
-        (Some(short().context(alloc, owned(alloc, "a")?)), SHORT),
-        (refused().context(alloc, "a").err(), SHORT),
-        (refused().context(alloc, owned(alloc, "a")?).err(), SHORT),
-    ];
-    for (error, text) in &rows {
-        match error {
-            Some(e) => {
-                assert_eq!(rt; e.number(), 14);
-                assert_eq!(rt; e.to_string(alloc)?.as_str(), *text);
-            }
-            None => assert!(rt; false, "{text}"),
-        }
-    }
-    assert!(rt;
-        DecodeError::out_of_memory()
-            .context(alloc, "a")
-            .is_out_of_memory()
+    let b = owned(alloc, "b")?;
+    let error = DecodeError::from_text(alloc, "c").context(alloc, "a");
+    let error = error.context(alloc, b);
+    assert_eq!(rt; error.number(), 14);
+    assert_eq!(rt; error.to_string(alloc)?.as_str(), CHAIN);
+    let error = short().context(alloc, "a");
+    assert_eq!(rt; error.number(), 14);
+    assert_eq!(rt; error.to_string(alloc)?.as_str(), SHORT);
+    let a = owned(alloc, "a")?;
+    let wanting = DecodeError::out_of_memory().context(alloc, "b");
+    assert!(rt; wanting.context(alloc, a).is_out_of_memory());
+    contexts_chain();
+    Ok(())
+}
+
+#[test]
+fn on_a_result(rt: HostRuntime) -> Result<(), Fail> {
+    let alloc = rt.alloc();
+    let b = owned(alloc, "b")?;
+    let refused: Result<u8, DecodeError> = Err(DecodeError::from_text(alloc, "c"));
+    let error = error_of(refused.context(alloc, "a").context(alloc, b));
+    assert_eq!(rt; error.number(), 14);
+    assert_eq!(rt; error.to_string(alloc)?.as_str(), CHAIN);
+    let a = owned(alloc, "a")?;
+    let refused: Result<u8, DecodeError> = Err(short());
+    assert_eq!(rt;
+        error_of(refused.context(alloc, a))
+            .to_string(alloc)?
+            .as_str(),
+        SHORT
     );
+    let a = owned(alloc, "a")?;
     let wanting: Result<u8, DecodeError> = Err(DecodeError::out_of_memory());
-    assert!(rt;
-        wanting
-            .context(alloc, "a")
-            .is_err_and(|e| e.is_out_of_memory())
-    );
-    assert!(rt;
-        DecodeError::out_of_memory()
-            .context(alloc, owned(alloc, "a")?)
-            .is_out_of_memory()
-    );
-    let wanting: Result<u8, DecodeError> = Err(DecodeError::out_of_memory());
-    assert!(rt;
-        wanting
-            .context(alloc, owned(alloc, "a")?)
-            .is_err_and(|e| e.is_out_of_memory())
-    );
+    assert!(rt; error_of(wanting.context(alloc, "b").context(alloc, a)).is_out_of_memory());
     let fine: Result<u8, DecodeError> = Ok(7);
     assert_eq!(rt; fine.context(alloc, "a").ok(), Some(7));
-    contexts_chain();
     Ok(())
 }
 
 #[test]
 fn the_closure_is_called_once(rt: HostRuntime) -> Result<(), Fail> {
     let alloc = rt.alloc();
-    let line = owned(alloc, "a")?;
-    let other = owned(alloc, "a")?;
     let mut calls = 0u8;
-    let of_text = short().with_context(alloc, || {
+    let error = short().with_context(alloc, || {
         calls = calls.saturating_add(1);
         "a"
     });
-    assert_eq!(rt; calls, 1);
-    let of_string = short().with_context(alloc, || {
+    assert_eq!(rt; error.to_string(alloc)?.as_str(), SHORT);
+    let line = owned(alloc, "a")?;
+    let error = short().with_context(alloc, || {
         calls = calls.saturating_add(1);
         line
     });
+    assert_eq!(rt; error.to_string(alloc)?.as_str(), SHORT);
     assert_eq!(rt; calls, 2);
-    let at_result = refused().with_context(alloc, || {
+    Ok(())
+}
+
+#[test]
+fn the_closure_is_called_once_at_a_result(rt: HostRuntime) -> Result<(), Fail> {
+    let alloc = rt.alloc();
+    let mut calls = 0u8;
+    let refused: Result<u8, DecodeError> = Err(short());
+    let error = error_of(refused.with_context(alloc, || {
         calls = calls.saturating_add(1);
         "a"
-    });
-    assert_eq!(rt; calls, 3);
-    let string_at_result = refused().with_context(alloc, || {
+    }));
+    assert_eq!(rt; error.to_string(alloc)?.as_str(), SHORT);
+    let line = owned(alloc, "a")?;
+    let refused: Result<u8, DecodeError> = Err(short());
+    let error = error_of(refused.with_context(alloc, || {
         calls = calls.saturating_add(1);
-        other
-    });
-    assert_eq!(rt; calls, 4);
-    for error in [
-        Some(of_text),
-        Some(of_string),
-        at_result.err(),
-        string_at_result.err(),
-    ] {
-        match error {
-            Some(e) => assert_eq!(rt; e.to_string(alloc)?.as_str(), SHORT),
-            None => assert!(rt; false),
-        }
-    }
+        line
+    }));
+    assert_eq!(rt; error.to_string(alloc)?.as_str(), SHORT);
+    assert_eq!(rt; calls, 2);
     Ok(())
 }
 
