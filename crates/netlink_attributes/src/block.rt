@@ -11,9 +11,8 @@ ghost use Rattle.netlink_attributes.specs.Walk.{Walk};
 use crate::align::nla_align;
 use crate::canonical::is_canonical_nlas;
 use crate::constants::NLA_HEADER_SIZE;
-use crate::default::copied;
 use crate::iterator::NlasIterator;
-use netlink_bytes::DecodeError;
+use netlink_bytes::{DecodeError, copy_of};
 use std::alloc::{AllocError, Global};
 
 /// The canonical block of bytes: the attributes that they walk as, each with its kind as it is and with its padding of zeros.
@@ -37,7 +36,7 @@ pub fn normalize_nlas(alloc: Global, bytes: &[u8]) -> Result<Vec<u8>, DecodeErro
     ensures unchanged { IfOk result (λ v. (v.items ≡ bytes.now) ↔ IsCanonicalBlock bytes.now) }
 {
     if is_canonical_nlas(bytes) {
-        return copied(alloc, bytes);
+        return Ok(copy_of(alloc, bytes)?);
     }
     check_walk(bytes)?;
     rewritten(alloc, bytes)

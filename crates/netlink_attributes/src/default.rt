@@ -7,7 +7,7 @@ ghost use Rattle.netlink_attributes.specs.Views.{attribute_of, shown, HoldsAttri
 
 use crate::buffer::NlaBuffer;
 use crate::nla::{Nla, emit_nla, nla_buffer_len};
-use netlink_bytes::{DecodeError, Emitable, Parseable};
+use netlink_bytes::{DecodeError, Emitable, Parseable, copy_of};
 use std::alloc::Global;
 
 /// An attribute of any kind, its value as bytes. The kind keeps its two flag bits.
@@ -36,21 +36,9 @@ impl DefaultNla {
     {
         Ok(DefaultNla {
             kind: self.kind,
-            value: copied(alloc, self.value.as_slice())?,
+            value: copy_of(alloc, &self.value)?,
         })
     }
-}
-
-/// A copy of the bytes, of their exact size. An empty input asks for no memory.
-pub(crate) fn copied(alloc: Global, bytes: &[u8]) -> Result<Vec<u8>, DecodeError>
-    ensures ok { IfOk result (λ copy. copy.items ≡ bytes.now) }
-    ensures memory { IfErr result (λ e. e ≡ DecodeError.OutOfMemory) }
-    ensures empty { bytes.now ≡ [] → IsOk result }
-{
-    if bytes.is_empty() {
-        return Ok(Vec::new(alloc));
-    }
-    Ok(Vec::from_slice(alloc, bytes)?)
 }
 
 impl Nla for DefaultNla {
@@ -102,7 +90,7 @@ impl<'a> Parseable<NlaBuffer<&'a [u8]>> for DefaultNla {
     fn parse(alloc: Global, buf: &NlaBuffer<&'a [u8]>) -> Result<Self, DecodeError> {
         Ok(DefaultNla {
             kind: buf.raw_kind(),
-            value: copied(alloc, buf.value())?,
+            value: copy_of(alloc, buf.value())?,
         })
     }
 }

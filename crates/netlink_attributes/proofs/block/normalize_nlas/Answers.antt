@@ -1,21 +1,29 @@
+use Rattle.std.proofs.Common.{Global, List, Ok, Result, Vec, refl, ℕ}
 use Rattle.std.proofs.lemmas.Result.{err_from_is_err_and}
-use Rattle.netlink_attributes.proofs.Normalizing.{no_fault, same_fault, no_canonical_fault, empty_canonical, answer_copied, answer_ok, answer_err, answer_writes, answer_fixed, answer_canonical, answer_unchanged}
+use Rattle.netlink_bytes.specs.declared.error.DecodeError.{DecodeError}
+use Rattle.netlink_attributes.proofs.Normalizing.{IsAnswer, no_fault, same_fault, no_canonical_fault, empty_canonical, answer_copied, answer_ok, answer_err, answer_writes, answer_fixed, answer_canonical, answer_unchanged}
 use Rattle.netlink_attributes.proofs.block.normalize_nlas.Goals as goal
 
 pub returns-then-is_canonical_nlas : goal.returns-then-is_canonical_nlas
 returns-then-is_canonical_nlas c =
+    let bytes : List ℕ = c.args.bytes.now in
+    let result : Result (Vec ℕ Global) DecodeError = Ok c.in_ok-copy_of.field-0 in
     let canonical = c.is_canonical_nlas.ensures.canonical.0 c.if-is_canonical_nlas.true in
-    let answer = answer_copied _ _ canonical c.copied.ensures.ok c.copied.ensures.memory in
+    let answer : IsAnswer bytes result = answer_copied bytes result canonical c.in_ok-copy_of.ensures.same tt in
     record {
-      ok = answer_ok _ _ answer;
-      err = answer_err _ _ answer;
-      writes = answer_writes _ _ answer;
+      ok = answer_ok bytes result answer;
+      err = answer_err bytes result answer;
+      writes = answer_writes bytes result answer;
       fault = λ all fault walk. absurd (no_canonical_fault _ all fault walk canonical);
-      empty = c.copied.ensures.empty;
-      fixed = answer_fixed _ _ answer;
-      canonical = answer_canonical _ _ answer;
-      unchanged = answer_unchanged _ _ answer;
+      empty = λ none. refl;
+      fixed = answer_fixed bytes result answer;
+      canonical = answer_canonical bytes result answer;
+      unchanged = answer_unchanged bytes result answer;
     }
+
+pub returns-in_err-copy_of-clause-fault : goal.returns-in_err-copy_of-clause-fault
+returns-in_err-copy_of-clause-fault c = λ all fault walk.
+    absurd (no_canonical_fault _ all fault walk (c.is_canonical_nlas.ensures.canonical.0 c.if-is_canonical_nlas.true))
 
 pub returns-in_err-check_walk-clause-writes : goal.returns-in_err-check_walk-clause-writes
 returns-in_err-check_walk-clause-writes c = λ all walk.
@@ -24,7 +32,7 @@ returns-in_err-check_walk-clause-writes c = λ all walk.
 
 pub returns-in_err-check_walk-clause-fault : goal.returns-in_err-check_walk-clause-fault
 returns-in_err-check_walk-clause-fault c = λ all fault walk.
-    let answer = err_from_is_err_and c.from_residual.result c.from_residual.ensures.1 in
+    let answer = err_from_is_err_and c.from_residual-in_err-check_walk.result c.from_residual-in_err-check_walk.ensures.1 in
     let known = c.in_err-check_walk.ensures in
     let same = same_fault _ _ _ _ _ known.1 walk in
     rw (answer.1, answer.2) cc
