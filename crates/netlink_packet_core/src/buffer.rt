@@ -8,10 +8,9 @@ ghost use Rattle.netlink_bytes.specs.Storage.{put_at};
 ghost use Rattle.netlink_packet_core.specs.Header.{field, header_of, payload_of, HoldsFrame, IsHeader};
 ghost use Rattle.netlink_packet_core.specs.Refusal.{IsFrameFault};
 
-use crate::bytes::{put_u16, put_u32, u16_at, u32_at};
 use crate::constants::NETLINK_HEADER_LEN;
 use crate::header::NetlinkHeader;
-use netlink_bytes::{DecodeError, Storage, StorageMut};
+use netlink_bytes::{DecodeError, Storage, StorageMut, put_u16, put_u32, u16_at, u32_at};
 
 /// The bytes of a message (`struct nlmsghdr` of linux/netlink.h, and what follows it), looked at in place.
 ///
@@ -124,7 +123,7 @@ impl<T: StorageMut> NetlinkBuffer<T> {
         ensures bytes { T.held self.new.buffer ≡ put_at (T.held self.old.buffer) 0 (text_le value 4) }
         ensures same_storage { self.new.buffer ≡ T.holding self.old.buffer (put_at (T.held self.old.buffer) 0 (text_le value 4)) }
     {
-        put_u32(self.buffer.part_mut(0, 4), value);
+        put_u32(self.buffer.bytes_mut(), 0, value);
     }
 
     /// Sets the message type, and changes nothing else. The storage has to hold 6 bytes at least.
@@ -134,7 +133,7 @@ impl<T: StorageMut> NetlinkBuffer<T> {
         ensures bytes { T.held self.new.buffer ≡ put_at (T.held self.old.buffer) 4 (text_le value 2) }
         ensures same_storage { self.new.buffer ≡ T.holding self.old.buffer (put_at (T.held self.old.buffer) 4 (text_le value 2)) }
     {
-        put_u16(self.buffer.part_mut(4, 6), value);
+        put_u16(self.buffer.bytes_mut(), 4, value);
     }
 
     /// Sets the flags, and changes nothing else. The storage has to hold 8 bytes at least.
@@ -144,7 +143,7 @@ impl<T: StorageMut> NetlinkBuffer<T> {
         ensures bytes { T.held self.new.buffer ≡ put_at (T.held self.old.buffer) 6 (text_le value 2) }
         ensures same_storage { self.new.buffer ≡ T.holding self.old.buffer (put_at (T.held self.old.buffer) 6 (text_le value 2)) }
     {
-        put_u16(self.buffer.part_mut(6, 8), value);
+        put_u16(self.buffer.bytes_mut(), 6, value);
     }
 
     /// Sets the sequence number, and changes nothing else. The storage has to hold 12 bytes at least.
@@ -154,7 +153,7 @@ impl<T: StorageMut> NetlinkBuffer<T> {
         ensures bytes { T.held self.new.buffer ≡ put_at (T.held self.old.buffer) 8 (text_le value 4) }
         ensures same_storage { self.new.buffer ≡ T.holding self.old.buffer (put_at (T.held self.old.buffer) 8 (text_le value 4)) }
     {
-        put_u32(self.buffer.part_mut(8, 12), value);
+        put_u32(self.buffer.bytes_mut(), 8, value);
     }
 
     /// Sets the port number, and changes nothing else. The storage has to hold 16 bytes at least.
@@ -164,7 +163,7 @@ impl<T: StorageMut> NetlinkBuffer<T> {
         ensures bytes { T.held self.new.buffer ≡ put_at (T.held self.old.buffer) 12 (text_le value 4) }
         ensures same_storage { self.new.buffer ≡ T.holding self.old.buffer (put_at (T.held self.old.buffer) 12 (text_le value 4)) }
     {
-        put_u32(self.buffer.part_mut(12, 16), value);
+        put_u32(self.buffer.bytes_mut(), 12, value);
     }
 
     /// The payload, lent for writing: the bytes from 16 up to the length become what is written, and

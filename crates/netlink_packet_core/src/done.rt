@@ -8,8 +8,10 @@ ghost use Rattle.netlink_bytes.specs.Storage.{put_at};
 ghost use Rattle.netlink_packet_core.specs.Header.{field};
 ghost use Rattle.netlink_packet_core.specs.Payload.{code_text};
 
-use crate::bytes::{code_at, copied, put_code, put_i32, split_code};
-use netlink_bytes::{DecodeError, Emitable, Parseable, Storage, StorageMut};
+use crate::bytes::{put_code, split_code};
+use netlink_bytes::{
+    DecodeError, Emitable, Parseable, Storage, StorageMut, copy_of, i32_at, put_i32,
+};
 use std::alloc::Global;
 
 /// The body of a message of type `NLMSG_DONE`, looked at in place: a code in 4 bytes, in native order, and what
@@ -68,7 +70,7 @@ impl<T: Storage> DoneBuffer<T> {
         requires field { 4 ≤ length (T.held self.now.buffer) }
         ensures number { result ≡ signed 4 (field 0 4 (T.held self.now.buffer)) }
     {
-        code_at(self.buffer.bytes())
+        i32_at(self.buffer.bytes(), 0)
     }
 }
 
@@ -92,7 +94,7 @@ impl<T: StorageMut> DoneBuffer<T> {
         ensures bytes { T.held self.new.buffer ≡ put_at (T.held self.old.buffer) 0 (code_text code) }
         ensures same_storage { self.new.buffer ≡ T.holding self.old.buffer (put_at (T.held self.old.buffer) 0 (code_text code)) }
     {
-        put_i32(self.buffer.part_mut(0, 4), code);
+        put_i32(self.buffer.bytes_mut(), 0, code);
     }
 
     /// The bytes behind the code, lent for writing; no others change. The storage has to hold 4 bytes
@@ -141,7 +143,7 @@ impl DoneMessage {
     {
         Ok(DoneMessage {
             code: self.code,
-            extended_ack: copied(alloc, &self.extended_ack)?,
+            extended_ack: copy_of(alloc, &self.extended_ack)?,
         })
     }
 
@@ -168,7 +170,7 @@ impl DoneMessage {
         ensures copied { OnErr result (4 < length bytes.now) }
     {
         let (code, rest) = split_code(bytes);
-        let extended_ack = copied(alloc, rest)?;
+        let extended_ack = copy_of(alloc, rest)?;
         Ok(DoneMessage { code, extended_ack })
     }
 }

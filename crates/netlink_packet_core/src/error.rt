@@ -9,8 +9,10 @@ ghost use Rattle.netlink_bytes.specs.Storage.{put_at};
 ghost use Rattle.netlink_packet_core.specs.Header.{field};
 ghost use Rattle.netlink_packet_core.specs.Payload.{code_text, errno_text, raw_code};
 
-use crate::bytes::{code_at, copied, put_code, put_i32, split_code};
-use netlink_bytes::{DecodeError, Emitable, NonZeroI32, Parseable, Storage, StorageMut};
+use crate::bytes::{put_code, split_code};
+use netlink_bytes::{
+    DecodeError, Emitable, NonZeroI32, Parseable, Storage, StorageMut, copy_of, i32_at, put_i32,
+};
 use std::alloc::Global;
 use std::fmt;
 
@@ -70,7 +72,7 @@ impl<T: Storage> ErrorBuffer<T> {
         requires field { 4 ≤ length (T.held self.now.buffer) }
         ensures number { MatchOption result (signed 4 (field 0 4 (T.held self.now.buffer)) ≡ pos 0) (λ code. number_of code ≡ signed 4 (field 0 4 (T.held self.now.buffer))) }
     {
-        NonZeroI32::new(code_at(self.buffer.bytes()))
+        NonZeroI32::new(i32_at(self.buffer.bytes(), 0))
     }
 }
 
@@ -95,7 +97,7 @@ impl<T: StorageMut> ErrorBuffer<T> {
         ensures bytes { T.held self.new.buffer ≡ put_at (T.held self.old.buffer) 0 (code_text code) }
         ensures same_storage { self.new.buffer ≡ T.holding self.old.buffer (put_at (T.held self.old.buffer) 0 (code_text code)) }
     {
-        put_i32(self.buffer.part_mut(0, 4), code);
+        put_i32(self.buffer.bytes_mut(), 0, code);
     }
 
     /// The bytes behind the code: the header of the message that is answered, and what follows it, lent
@@ -163,7 +165,7 @@ impl ErrorMessage {
     {
         Ok(ErrorMessage {
             code: self.code,
-            header: copied(alloc, &self.header)?,
+            header: copy_of(alloc, &self.header)?,
         })
     }
 
@@ -187,7 +189,7 @@ impl ErrorMessage {
         ensures copied { OnErr result (4 < length bytes.now) }
     {
         let (code, rest) = split_code(bytes);
-        let header = copied(alloc, rest)?;
+        let header = copy_of(alloc, rest)?;
         Ok(ErrorMessage {
             code: NonZeroI32::new(code),
             header,

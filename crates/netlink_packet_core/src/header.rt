@@ -3,9 +3,8 @@
 ghost use Rattle.std.specs.Prelude.{◌≡◌, ◌≤◌, length, true};
 
 use crate::buffer::{NetlinkBuffer, read_header};
-use crate::bytes::{put_u16, put_u32};
 use crate::constants::NETLINK_HEADER_LEN;
-use netlink_bytes::{DecodeError, Emitable, Parseable};
+use netlink_bytes::{DecodeError, Emitable, Parseable, put_u16, put_u32};
 use std::alloc::Global;
 
 /// The header of a message (`struct nlmsghdr`), 16 bytes on the wire, all numbers in native order.
@@ -43,11 +42,11 @@ impl NetlinkHeader {
         requires { length buffer.old ≡ 16 }
         ensures { buffer.new ≡ header_text self.now }
     {
-        put_u32(&mut buffer[0..4], self.length);
-        put_u16(&mut buffer[4..6], self.message_type);
-        put_u16(&mut buffer[6..8], self.flags);
-        put_u32(&mut buffer[8..12], self.sequence_number);
-        put_u32(&mut buffer[12..16], self.port_number);
+        put_u32(buffer, 0, self.length);
+        put_u16(buffer, 4, self.message_type);
+        put_u16(buffer, 6, self.flags);
+        put_u32(buffer, 8, self.sequence_number);
+        put_u32(buffer, 12, self.port_number);
     }
 }
 

@@ -5,13 +5,13 @@ ghost use Rattle.netlink_packet_core.specs.Frame.{Body};
 ghost use Rattle.netlink_packet_core.specs.Payload.{PayloadInRange, payload_text, payload_type};
 ghost use Rattle.netlink_packet_core.specs.Refusal.{IsBodyFault, IsInnerFault, refusal_text};
 
-use crate::bytes::{copied, put_code};
+use crate::bytes::put_code;
 use crate::constants::{NLMSG_DONE, NLMSG_ERROR, NLMSG_NOOP, NLMSG_OVERRUN};
 use crate::done::DoneMessage;
 use crate::error::ErrorMessage;
 use crate::header::NetlinkHeader;
 use crate::traits::{NetlinkDeserializable, NetlinkSerializable};
-use netlink_bytes::DecodeError;
+use netlink_bytes::{DecodeError, copy_of};
 use std::alloc::{AllocError, Global};
 use std::error::Error;
 use std::fmt::Write;
@@ -120,7 +120,7 @@ pub(crate) fn read_payload<I: NetlinkDeserializable>(
         NLMSG_NOOP => Ok(NetlinkPayload::Noop),
         NLMSG_ERROR => Ok(NetlinkPayload::Error(ErrorMessage::of_payload(alloc, payload)?)),
         NLMSG_DONE => Ok(NetlinkPayload::Done(DoneMessage::of_payload(alloc, payload)?)),
-        NLMSG_OVERRUN => Ok(NetlinkPayload::Overrun(copied(alloc, payload)?)),
+        NLMSG_OVERRUN => Ok(NetlinkPayload::Overrun(copy_of(alloc, payload)?)),
         _ => Ok(NetlinkPayload::InnerMessage(read_inner(alloc, header, payload)?)),
     }
 }
