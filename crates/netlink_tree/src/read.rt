@@ -9,8 +9,8 @@ ghost use Rattle.netlink_tree.specs.Reading.{Trees, IsRead};
 use crate::fault::TreeFault;
 use crate::tree::{GREATEST_DEPTH, NlaTree};
 use netlink_packet_core::laws::walk_total;
-use netlink_packet_core::{NlaBuffer, NlasIterator};
-use std::alloc::{AllocError, Global};
+use netlink_packet_core::{NlaBuffer, NlasIterator, copy_of};
+use std::alloc::Global;
 
 /// The trees of a block: an attribute whose kind has the bit `NLA_F_NESTED` is a nest of the block
 /// that is its value, any other is a leaf.
@@ -67,18 +67,7 @@ fn read_attribute(alloc: Global, nla: NlaBuffer<&[u8]>, levels: usize) -> Result
         let children = read_block(alloc, nla.value(), levels)?;
         Ok(NlaTree::Nest { kind, children })
     } else {
-        let value = copied(alloc, nla.value())?;
+        let value = copy_of(alloc, nla.value())?;
         Ok(NlaTree::Leaf { kind, value })
     }
-}
-
-/// A copy of the bytes, of their exact size. An empty input asks for no memory.
-fn copied(alloc: Global, bytes: &[u8]) -> Result<Vec<u8>, AllocError>
-    ensures ok { IfOk result (λ copy. copy.items ≡ bytes.now) }
-    ensures empty { bytes.now ≡ [] → IsOk result }
-{
-    if bytes.is_empty() {
-        return Ok(Vec::new(alloc));
-    }
-    Vec::from_slice(alloc, bytes)
 }
