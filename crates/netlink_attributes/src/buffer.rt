@@ -10,7 +10,7 @@ ghost use Rattle.netlink_attributes.specs.Views.{length_field, raw_kind, masked,
 ghost use Rattle.netlink_attributes.specs.Walk.{IsFault};
 
 use crate::constants::{NLA_F_NESTED, NLA_F_NET_BYTEORDER, NLA_HEADER_SIZE, NLA_TYPE_MASK};
-use netlink_bytes::{DecodeError, Storage, StorageMut};
+use netlink_bytes::{DecodeError, Storage, StorageMut, put_u16, u16_at};
 
 /// The bytes of an attribute (`struct nlattr` of linux/netlink.h), looked at in place.
 ///
@@ -94,7 +94,7 @@ impl<T: Storage> NlaBuffer<T> {
         requires field { 2 ≤ length (T.held (storage_of self.now)) }
         ensures number { result ≡ length_field (T.held (storage_of self.now)) }
     {
-        length_at(self.buffer.bytes())
+        u16_at(self.buffer.bytes(), 0)
     }
 
     /// The kind with its two flag bits, as it stands in the field (`nla_type`). The storage has at
@@ -104,7 +104,7 @@ impl<T: Storage> NlaBuffer<T> {
         requires field { 4 ≤ length (T.held (storage_of self.now)) }
         ensures number { result ≡ raw_kind (T.held (storage_of self.now)) }
     {
-        kind_at(self.buffer.bytes())
+        u16_at(self.buffer.bytes(), 2)
     }
 
     /// The kind without its two flag bits. The storage has at least 4 bytes.
@@ -148,17 +148,13 @@ impl<T: Storage> NlaBuffer<T> {
 
 impl<T: StorageMut> NlaBuffer<T> {
     /// Sets the length field (`nla_len`), and no other byte. The storage has at least 2 bytes.
-    #[tactic(auto, unfolding(netlink_bytes::specs::Numbers::text_le))]
     #[inline]
     pub fn set_length(&mut self, value: u16)
         requires field { 2 ≤ length (T.held (storage_of self.old)) }
         ensures bytes { T.held (storage_of self.new) ≡ with_length (T.held (storage_of self.old)) value }
         ensures same_storage { storage_of self.new ≡ T.holding (storage_of self.old) (with_length (T.held (storage_of self.old)) value) }
     {
-        let bytes = self.buffer.bytes_mut();
-        let [low, high] = value.to_le_bytes();
-        bytes[0] = low;
-        bytes[1] = high;
+        put_u16(self.buffer.bytes_mut(), 0, value);
     }
 
     /// Sets the kind without its flag bits, so that both are cleared, and no byte outside the kind
@@ -198,17 +194,13 @@ impl<T: StorageMut> NlaBuffer<T> {
 
     /// Sets the kind as it is given, its two flag bits with it, and no byte outside the kind field.
     /// The storage has at least 4 bytes.
-    #[tactic(auto, unfolding(netlink_bytes::specs::Numbers::text_le))]
     #[inline]
     pub fn set_raw_kind(&mut self, kind: u16)
         requires field { 4 ≤ length (T.held (storage_of self.old)) }
         ensures bytes { T.held (storage_of self.new) ≡ with_kind (T.held (storage_of self.old)) kind }
         ensures same_storage { storage_of self.new ≡ T.holding (storage_of self.old) (with_kind (T.held (storage_of self.old)) kind) }
     {
-        let bytes = self.buffer.bytes_mut();
-        let [low, high] = kind.to_le_bytes();
-        bytes[2] = low;
-        bytes[3] = high;
+        put_u16(self.buffer.bytes_mut(), 2, kind);
     }
 
     /// The value, lent for writing: the bytes from 4 up to the length. The storage holds a whole
@@ -253,26 +245,6 @@ pub(crate) fn is_network_kind(kind: u16) -> bool
     kind & !NLA_F_NESTED >= NLA_F_NET_BYTEORDER
 }
 
-/// The length field of an attribute's bytes.
-#[tactic(auto, using(crate::specs::FieldLaws::by_item))]
-#[inline(always)]
-fn length_at(bytes: &[u8]) -> u16
-    requires { 2 ≤ length bytes.now }
-    ensures { result ≡ length_field bytes.now }
-{
-    u16::from_le_bytes([bytes[0], bytes[1]])
-}
-
-/// The kind field of an attribute's bytes.
-#[tactic(auto, using(crate::specs::FieldLaws::by_item))]
-#[inline(always)]
-fn kind_at(bytes: &[u8]) -> u16
-    requires { 4 ≤ length bytes.now }
-    ensures { result ≡ raw_kind bytes.now }
-{
-    u16::from_le_bytes([bytes[2], bytes[3]])
-}
-
 /// The length field of bytes that hold a whole attribute, or their fault.
 #[inline(always)]
 pub(crate) fn checked_length(bytes: &[u8]) -> Result<u16, DecodeError>
@@ -287,7 +259,7 @@ pub(crate) fn checked_length(bytes: &[u8]) -> Result<u16, DecodeError>
             nla_len: NLA_HEADER_SIZE,
         });
     }
-    let length = length_at(bytes);
+    let length = u16_at(bytes, 0);
     if length as usize > size {
         return Err(DecodeError::NlaLengthMismatch {
             buffer_len: size,
