@@ -1,8 +1,9 @@
 -- What bytes that start with an attribute say of it.
-use Rattle.std.proofs.Common.{◌≡◌, ℕ, ◌+◌, ◌-◌, ◌%◌, ◌<◌, ◌≤◌, ◌⊎◌, min, List, [], ◌++◌, length, take, drop, ap, sym, ◌∙◌, inl, inr, arith, append_assoc, length-append, length-drop}
+use Rattle.std.proofs.Common.{◌≡◌, ℕ, ◌+◌, ◌-◌, ◌%◌, ◌<◌, ◌≤◌, ◌⊎◌, min, List, [], ◌++◌, length, take, drop, ap, sym, subst, ◌∙◌, inl, inr, arith, append_assoc, length-append, length-drop}
 use Rattle.std.proofs.lemmas.List.{length-take, drop_at, drop_all}
 use Rattle.std.proofs.lemmas.Bool.{cases_lt}
 use Rattle.netlink_bytes.specs.Numbers.{IsBytes}
+use Rattle.netlink_bytes.specs.NumberLaws.{IsBytes-drop}
 use Rattle.netlink_bytes.specs.declared.error.DecodeError.{DecodeError}
 use Rattle.netlink_bytes.specs.declared.error.DecodeError.TheVariants.{NlaBufferTooSmall, NlaLengthMismatch, NlaInvalidLength}
 use Rattle.netlink_attributes.specs.Attribute.{Attribute, attribute_text, padding, padded_size}
@@ -39,6 +40,12 @@ starts-rest bytes a rest starts =
       | inl full ↦ sym (ap (drop (padded_size a)) (starts.whole ∙ sym (append_assoc (attribute_text a) starts.gap rest)) ∙ drop_at (attribute_text a ++ starts.gap) rest (padded_size a) (omega arith))
       | inr short ↦ (let none : length rest ≡ 0 = ap length short.1 in short.1 ∙ sym (drop_all (padded_size a) bytes (omega arith)))
     ]
+
+-- and it is bytes where the whole is
+pub starts_bytes : (bytes : List ℕ) (a : Attribute) (rest : List ℕ) → Starts bytes a rest
+    → IsBytes bytes → IsBytes rest
+starts_bytes bytes a rest starts each =
+    subst IsBytes (sym (starts-rest bytes a rest starts)) (IsBytes-drop (padded_size a) bytes each)
 
 pub nothing_starts : (bytes : List ℕ) (a : Attribute) (rest : List ℕ) → bytes ≡ []
     → Starts bytes a rest → ⊥

@@ -1,6 +1,7 @@
 -- What bytes are as attributes one after another.
 use Rattle.std.specs.Prelude.{ℕ, ◌<◌, ◌≤◌, ◌≡◌, ◌≢◌, ◌⊎◌, List, [], ◌∷◌, ◌++◌, length, Option, Some, None, Result, Ok, Err}
 use denote.Ref.{Bor}
+use Rattle.netlink_bytes.specs.Walks.{WalksAs}
 use Rattle.netlink_bytes.specs.declared.error.DecodeError.{DecodeError}
 use Rattle.netlink_bytes.specs.declared.error.DecodeError.TheVariants.{NlaBufferTooSmall, NlaLengthMismatch, NlaInvalidLength}
 use Rattle.netlink_attributes.specs.Attribute.{Attribute, FitsAttribute, attribute_text, padding}
@@ -24,9 +25,7 @@ pub record Starts (bytes : List ℕ) (a : Attribute) (rest : List ℕ) : Type 0 
 
 -- the bytes are these attributes one after another, and then nothing or one fault
 abbrev pub Walk : List ℕ → List Attribute → Option DecodeError → Type 0
-Walk bytes [] None = bytes ≡ []
-Walk bytes [] (Some fault) = (bytes ≢ []) × IsFault bytes fault
-Walk bytes (a ∷ more) fault = (rest : List ℕ) × Starts bytes a rest × Walk rest more fault
+Walk = WalksAs Starts IsFault
 
 -- an item of a walk: a view of all that was unread, or a fault
 abbrev pub Item : Type 0

@@ -10,3 +10,4 @@ pub mod Storage
 pub mod StorageLaws
 pub mod Text
 pub mod Traits
+pub mod Walks
