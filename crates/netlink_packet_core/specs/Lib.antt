@@ -1,5 +1,9 @@
 pub mod Canonical
 pub mod Frame
+pub mod FramePassing
+pub mod FrameStartLaws
+pub mod FrameWalk
+pub mod FrameWalkLaws
 pub mod Header
 pub mod Payload
 pub mod Protocol
@@ -27,11 +31,14 @@ pub use Rattle.netlink_attributes.specs.WalkLaws
 pub use Rattle.netlink_bytes.specs.Causes
 pub use Rattle.netlink_bytes.specs.Contexts
 pub use Rattle.netlink_bytes.specs.Fields
+pub use Rattle.netlink_bytes.specs.Lending
 pub use Rattle.netlink_bytes.specs.NonZero
 pub use Rattle.netlink_bytes.specs.NumberLaws
 pub use Rattle.netlink_bytes.specs.Numbers
 pub use Rattle.netlink_bytes.specs.Storage
+pub use Rattle.netlink_bytes.specs.StorageLaws
 pub use Rattle.netlink_bytes.specs.Text
 pub use Rattle.netlink_bytes.specs.Traits
+pub use Rattle.netlink_bytes.specs.Walks
 pub use Rattle.netlink_bytes.specs.declared.error.DecodeError
 pub use Rattle.netlink_ethernet.specs.Table

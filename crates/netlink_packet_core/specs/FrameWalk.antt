@@ -1,0 +1,38 @@
+-- What a datagram is as frames one after another.
+use Rattle.std.specs.Prelude.{ℕ, ◌<◌, ◌≤◌, ◌≡◌, ◌⊎◌, List, [], ◌∷◌, ◌++◌, false, length, replicate, take, Option}
+use Rattle.netlink_attributes.specs.Attribute.{padding}
+use Rattle.netlink_bytes.specs.Walks.{WalksAs}
+use Rattle.netlink_bytes.specs.declared.error.DecodeError.{DecodeError}
+use Rattle.netlink_packet_core.specs.Header.{field}
+use Rattle.netlink_packet_core.specs.Refusal.{IsFrameFault}
+
+-- The bytes are the frame, its padding and then the rest. Padding may be anything, and it may be
+-- missing only where the bytes end within it.
+pub record StartsFrame (bytes frame rest : List ℕ) : Type 0 where
+  pub size : field 0 4 frame ≡ length frame
+  pub least : 16 ≤ length frame
+  pub gap : List ℕ
+  pub whole : bytes ≡ frame ++ (gap ++ rest)
+  pub gap_size : (length gap ≡ padding (length frame)) ⊎ ((length gap < padding (length frame)) × (rest ≡ []))
+
+-- the bytes are these frames one after another, and then nothing or one fault
+abbrev pub FrameWalk : List ℕ → List (List ℕ) → Option DecodeError → Type 0
+FrameWalk = WalksAs StartsFrame (IsFrameFault false)
+
+-- the frame that the bytes begin with, where they hold a whole one
+abbrev pub frame_of : List ℕ → List ℕ
+frame_of bytes = take (field 0 4 bytes) bytes
+
+-- the bytes are a frame and nothing more: they are as long as they say
+pub record IsWholeFrame (frame : List ℕ) : Type 0 where
+  pub size : field 0 4 frame ≡ length frame
+  pub least : 16 ≤ length frame
+
+-- the frame as it stands in a datagram, with its padding of zeros
+abbrev pub padded_frame : List ℕ → List ℕ
+padded_frame frame = frame ++ replicate (padding (length frame)) 0
+
+-- the frames as they are written, one after another, each with its padding of zeros
+abbrev pub datagram_of : List (List ℕ) → List ℕ
+datagram_of [] = []
+datagram_of (frame ∷ more) = padded_frame frame ++ datagram_of more
