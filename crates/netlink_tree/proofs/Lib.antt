@@ -1,5 +1,4 @@
 pub mod FrameAppends
-pub mod FrameStarts
 pub mod FrameWalks
 pub mod TreeEqual
 pub mod TreeOnce

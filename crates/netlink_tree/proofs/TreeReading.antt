@@ -1,10 +1,9 @@
 -- What a reading comes to, from its parts.
 use Rattle.std.proofs.Common.{◌≡◌, ◌≢◌, ◌⊎◌, ℕ, zero, suc, ◌+◌, ◌-◌, List, [], ◌∷◌, ◌++◌, length, drop, refl, sym, ap, subst, ◌∙◌, inl, inr, arith, Option, Some, None, Result, Ok, Err, Vec, Global, IfOk, MatchResult, append_assoc, append-nil}
-use Rattle.std.proofs.lemmas.List.{drop_at, get_or-drop}
-use Rattle.netlink_packet_core.specs.Attribute.{Attribute, attribute_text}
+use Rattle.netlink_packet_core.specs.Attribute.{Attribute}
 use Rattle.netlink_packet_core.specs.DecodeError.{DecodeError}
 use Rattle.netlink_packet_core.specs.DecodeError.TheVariants.{OutOfMemory}
-use Rattle.netlink_packet_core.specs.Numbers.{IsBytes}
+use Rattle.netlink_packet_core.specs.Passing.{Passes, passes_walks}
 use Rattle.netlink_packet_core.specs.Views.{is_nested}
 use Rattle.netlink_packet_core.specs.Walk.{Starts, Walk, IsFault}
 use Rattle.netlink_tree.specs.Tree.{Tree, leaf, nest, Forest, no_trees, grow, AreWellFormed, views}
@@ -13,34 +12,6 @@ use Rattle.netlink_tree.specs.declared.fault.TreeFault.{TreeFault}
 use Rattle.netlink_tree.specs.declared.fault.TreeFault.TheVariants.{TooDeep, Decode}
 use Rattle.netlink_tree.specs.declared.tree.NlaTree.{NlaTree}
 use Rattle.netlink_tree.proofs.TreeViews.{grown}
-
--- ---- attributes that are passed
-
--- the bytes are these attributes one after another, and then the rest
-abbrev pub Passes : List ℕ → List Attribute → List ℕ → Type 0
-Passes bytes [] rest = bytes ≡ rest
-Passes bytes (a ∷ more) rest = (middle : List ℕ) × Starts bytes a middle × Passes middle more rest
-
-pub passes_push : (bytes : List ℕ) (done : List Attribute) (middle : List ℕ) (a : Attribute) (rest : List ℕ) → Passes bytes done middle → Starts middle a rest → Passes bytes (done ++ (a ∷ [])) rest
-passes_push bytes [] middle a rest same starts = (rest, subst (λ (b : List ℕ). Starts b a rest) (sym same) starts, refl)
-passes_push bytes (first ∷ done) middle a rest p starts = (p.0, p.1, passes_push p.0 done middle a rest p.2 starts)
-
-walk_after : (bytes : List ℕ) (done : List Attribute) (rest : List ℕ) (all : List Attribute) (fault : Option DecodeError) → Passes bytes done rest → Walk rest all fault → Walk bytes (done ++ all) fault
-walk_after bytes [] rest all fault same walk = subst (λ (b : List ℕ). Walk b all fault) (sym same) walk
-walk_after bytes (first ∷ done) rest all fault p walk = (p.0, p.1, walk_after p.0 done rest all fault p.2 walk)
-
-regrouped : (a b c : List ℕ) → a ++ (b ++ c) ≡ (a ++ b) ++ c
-regrouped a b c = sym (append_assoc a b c)
-
-pub starts_bytes : (bytes : List ℕ) (a : Attribute) (rest : List ℕ) → Starts bytes a rest → IsBytes bytes → IsBytes rest
-starts_bytes bytes a rest starts each i =
-    let front : List ℕ = attribute_text a ++ starts.gap in
-    let behind : drop (length front) bytes ≡ rest = ap (drop (length front)) (starts.whole ∙ regrouped (attribute_text a) starts.gap rest) ∙ drop_at front rest (length front) refl in
-    rw (← behind, get_or-drop) (each (length front + i))
-
-pub passes_bytes : (bytes : List ℕ) (done : List Attribute) (rest : List ℕ) → Passes bytes done rest → IsBytes bytes → IsBytes rest
-passes_bytes bytes [] rest same each = subst IsBytes same each
-passes_bytes bytes (a ∷ done) rest p each = passes_bytes p.0 done rest p.2 (starts_bytes bytes a p.0 p.1 each)
 
 -- ---- what they come to
 
@@ -93,7 +64,7 @@ trees_of (suc n) bytes all fault outcome some walk along =
 -- the end of the walk
 pub trees_end : (n : ℕ) (bytes : List ℕ) (done : List Attribute) (rest : List ℕ) (ts : Forest) → n ≢ 0 → Passes bytes done rest → rest ≡ [] → AreRead (Trees (n - 1)) done ts → Trees n bytes (Ok ts)
 trees_end n bytes done rest ts some passes none are =
-    trees_of n bytes _ None (Ok ts) some (walk_after bytes done rest [] None passes none)
+    trees_of n bytes _ None (Ok ts) some (passes_walks bytes done rest [] None passes none)
     (subst (λ (all : List Attribute). Along (Trees (n - 1)) all None (Ok ts)) (sym (append-nil done)) (along_done (Trees (n - 1)) done ts are))
 
 -- what a proof of these cases needs
@@ -102,7 +73,7 @@ pub ruleset block_ends = (trees_none, trees_deep, trees_end)
 -- its fault
 pub trees_fault : (n : ℕ) (bytes : List ℕ) (done : List Attribute) (rest : List ℕ) (ts : Forest) (e : DecodeError) → n ≢ 0 → Passes bytes done rest → rest ≢ [] → IsFault rest e → AreRead (Trees (n - 1)) done ts → Trees n bytes (Err (Decode e))
 trees_fault n bytes done rest ts e some passes left is are =
-    trees_of n bytes _ (Some e) (Err (Decode e)) some (walk_after bytes done rest [] (Some e) passes (left, is)) (along_fault (Trees (n - 1)) done [] ts (Some e) (Decode e) are refl)
+    trees_of n bytes _ (Some e) (Err (Decode e)) some (passes_walks bytes done rest [] (Some e) passes (left, is)) (along_fault (Trees (n - 1)) done [] ts (Some e) (Decode e) are refl)
 
 -- a fault inside an attribute, or want of memory; what stands behind the attribute walks somehow
 pub trees_inside : (n : ℕ) (bytes : List ℕ) (done : List Attribute) (middle : List ℕ) (a : Attribute) (rest : List ℕ) (ts : Forest) (e : TreeFault) → n ≢ 0 → Passes bytes done middle → Starts middle a rest
@@ -110,7 +81,7 @@ pub trees_inside : (n : ℕ) (bytes : List ℕ) (done : List Attribute) (middle 
     → (e ≡ Decode OutOfMemory) ⊎ IsRead (Trees (n - 1)) a (Err e) → AreRead (Trees (n - 1)) done ts → (e ≡ Decode OutOfMemory) ⊎ Trees n bytes (Err e)
 trees_inside n bytes done middle a rest ts e some passes starts later (inl memory) are = inl memory
 trees_inside n bytes done middle a rest ts e some passes starts later (inr inside) are = inr
-    (trees_of n bytes _ later.1 (Err e) some (walk_after bytes done middle (a ∷ later.0) later.1 passes (rest, starts, later.2))
+    (trees_of n bytes _ later.1 (Err e) some (passes_walks bytes done middle (a ∷ later.0) later.1 passes (rest, starts, later.2))
     (along_fault (Trees (n - 1)) done (a ∷ later.0) ts later.1 e are (inl inside)))
 
 -- ---- what is read is well formed

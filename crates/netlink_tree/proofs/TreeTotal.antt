@@ -5,12 +5,12 @@ use Rattle.netlink_packet_core.specs.Attribute.{Attribute, attribute_text}
 use Rattle.netlink_packet_core.specs.DecodeError.{DecodeError}
 use Rattle.netlink_packet_core.specs.Numbers.{IsBytes, text_le}
 use Rattle.netlink_packet_core.specs.Views.{is_nested}
+use Rattle.netlink_packet_core.specs.StartLaws.{starts_bytes}
 use Rattle.netlink_packet_core.specs.Walk.{Starts, Walk}
 use Rattle.netlink_tree.specs.Tree.{Tree, leaf, nest, no_trees, grow}
 use Rattle.netlink_tree.specs.Reading.{Outcome, IsRead, Along, Trees}
 use Rattle.netlink_tree.specs.declared.fault.TreeFault.{TreeFault}
 use Rattle.netlink_tree.specs.declared.fault.TreeFault.TheVariants.{TooDeep, Decode}
-use Rattle.netlink_tree.proofs.TreeReading.{starts_bytes}
 
 -- every byte list walks
 abbrev pub Walks : Type 0

@@ -5,7 +5,7 @@ use Rattle.std.specs.Iterator.{Drains}
 use Rattle.netlink_packet_core.specs.DecodeError.{DecodeError}
 use Rattle.netlink_packet_core.specs.Header.{HoldsFrame}
 use Rattle.netlink_packet_core.specs.Refusal.{IsFrameFault}
-use Rattle.netlink_tree.specs.FrameWalk.{FrameWalk, StartsFrame}
+use Rattle.netlink_packet_core.specs.FrameWalk.{FrameWalk, StartsFrame}
 use Rattle.netlink_tree.specs.declared.frames.Frames.{Frames}
 
 -- the bytes that are still to be walked

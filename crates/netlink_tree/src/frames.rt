@@ -5,7 +5,7 @@ ghost use Rattle.std.specs.Iterator.{at_most};
 ghost use Rattle.netlink_packet_core.specs.Header.{field, HoldsFrame};
 ghost use Rattle.netlink_packet_core.specs.Refusal.{IsFrameFault};
 ghost use Rattle.netlink_tree.specs.FrameSteps.{unread_frames, frame_steps, frame_bound, GivesFrames};
-ghost use Rattle.netlink_tree.specs.FrameWalk.{StartsFrame, FrameWalk, frame_of, padded_frame};
+ghost use Rattle.netlink_packet_core.specs.FrameWalk.{StartsFrame, FrameWalk, frame_of, padded_frame};
 
 use netlink_packet_core::{DecodeError, NetlinkBuffer, nla_align};
 use std::alloc::{AllocError, Global};

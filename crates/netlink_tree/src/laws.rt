@@ -6,7 +6,7 @@ ghost use Rattle.netlink_packet_core.specs.DecodeError.{DecodeError};
 ghost use Rattle.netlink_packet_core.specs.Header.{HoldsFrame};
 ghost use Rattle.netlink_packet_core.specs.Numbers.{IsBytes};
 ghost use Rattle.netlink_tree.specs.FrameSteps.{FrameItem, GivesFrame, GivesFrames, unread_frames};
-ghost use Rattle.netlink_tree.specs.FrameWalk.{FrameWalk};
+ghost use Rattle.netlink_packet_core.specs.FrameWalk.{FrameWalk};
 ghost use Rattle.netlink_tree.specs.Reading.{Outcome, Trees};
 ghost use Rattle.netlink_tree.specs.Tree.{Forest, view, AreWellFormed, TreesInRange};
 ghost use Rattle.netlink_tree.specs.Writing.{writing, IsCanonicalDeep};

@@ -1,4 +1,4 @@
-use Rattle.netlink_tree.proofs.FrameWalks.{frames_once}
+use Rattle.netlink_packet_core.specs.FrameWalkLaws.{frames_once}
 use Rattle.netlink_tree.proofs.laws.frames_unique.Goals as goal
 
 pub returns : goal.returns

@@ -1,13 +1,15 @@
 use Rattle.std.proofs.Common.{arith, ◌≡◌, ◌⊎◌, Ok, Err, ℕ, ◌-◌, List, [], ◌∷◌, ◌++◌, sym, ap, subst, ◌∙◌, inr}
 use Rattle.std.proofs.lemmas.Result.{err_from_is_err_and}
 use Rattle.netlink_packet_core.specs.DecodeError.TheVariants.{OutOfMemory}
+use Rattle.netlink_packet_core.specs.Passing.{passes_bytes, passes_push}
+use Rattle.netlink_packet_core.specs.StartLaws.{starts_bytes}
 use Rattle.netlink_packet_core.specs.Steps.{unread}
 use Rattle.netlink_packet_core.specs.Views.{attribute_of}
 use Rattle.netlink_tree.specs.Tree.{Forest, view, views}
 use Rattle.netlink_tree.specs.Reading.{Trees, IsRead}
 use Rattle.netlink_tree.specs.declared.fault.TreeFault.{TreeFault}
 use Rattle.netlink_tree.specs.declared.fault.TreeFault.TheVariants.{Decode}
-use Rattle.netlink_tree.proofs.TreeReading.{passes_push, read_push, trees_fault, trees_inside, starts_bytes, passes_bytes, AreRead}
+use Rattle.netlink_tree.proofs.TreeReading.{read_push, trees_fault, trees_inside, AreRead}
 use Rattle.netlink_tree.proofs.TreeViews.{views_push}
 use Rattle.netlink_tree.proofs.read.+reading.Goals as goal
 

@@ -1,9 +1,10 @@
 use Rattle.std.proofs.Common.{◌+◌, ◌*◌, ◌-◌, List}
 use Rattle.netlink_packet_core.specs.Attribute.{Attribute}
+use Rattle.netlink_packet_core.specs.Passing.{Passes}
 use Rattle.netlink_packet_core.specs.Steps.{unread}
 use Rattle.netlink_tree.specs.Tree.{views}
 use Rattle.netlink_tree.specs.Reading.{Trees}
-use Rattle.netlink_tree.proofs.TreeReading.{Passes, AreRead}
+use Rattle.netlink_tree.proofs.TreeReading.{AreRead}
 use Rattle.netlink_tree.proofs.read.+reading.Given as goal
 
 abbrev pub decreases-read_attribute : goal.decreases-read_attribute
