@@ -1,10 +1,13 @@
 -- What trees are written as.
-use Rattle.std.proofs.Common.{◌≡◌, ℕ, ◌≤◌, Bool, true, false, nat_lt, ◌||◌, if◌then◌else◌, List, [], ◌∷◌, ◌++◌, length, refl, sym, ap, ◌∙◌, Ok, Err, All, arith, append_assoc}
+use Rattle.std.proofs.Common.{◌≡◌, ℕ, suc, ◌+◌, ◌-◌, ◌%◌, ◌≤◌, Bool, true, false, nat_lt, ◌||◌, if◌then◌else◌, List, [], ◌∷◌, ◌++◌, length, take, drop, refl, sym, ap, ◌∙◌, Ok, Err, All, arith, append-nil, append_assoc, length-append}
 use Rattle.std.proofs.lemmas.List.Elements.{All-nil, All-cons, All-head, All-tail, All-contains}
 use Rattle.std.specs.Prelude.{replicate}
 use Rattle.netlink_packet_core.specs.Attribute.{Attribute, FitsAttribute, attribute_text, padded, padding}
-use Rattle.netlink_packet_core.specs.AttributeSizes.{length-canonical_block}
+use Rattle.netlink_packet_core.specs.AttributeSizes.{length-canonical_block, length-padded}
 use Rattle.netlink_packet_core.specs.Block.{canonical_block, IsBlockOf}
+use Rattle.netlink_packet_core.specs.Nla.{attribute_with}
+use Rattle.netlink_packet_core.specs.Numbers.{text_le}
+use Rattle.netlink_packet_core.specs.Storage.{put_at}
 use Rattle.netlink_packet_core.specs.Views.{is_nested}
 use Rattle.netlink_tree.specs.Tree.{Tree, leaf, nest, Forest, no_trees, grow, IsWellFormed, AreWellFormed, levels, TreeInRange, TreesInRange}
 use Rattle.netlink_tree.specs.Writing.{written, attributes_of, tree_text, is_long, is_too_long, are_too_long, writing, IsCanonicalDeep, deep}
@@ -19,6 +22,43 @@ short v e = grind arith
 
 -- what a proof of a size needs
 pub ruleset text_sizes = (length-canonical_block)
+
+-- ---- a nest whose size is counted once its inside is there
+
+text_aligned : (ts : Forest) → length (tree_text ts) % 4 ≡ 0
+text_aligned no_trees = refl
+text_aligned (grow t ts) = let first = length-canonical_block (written t) (attributes_of ts) in let later = text_aligned ts in omega arith
+
+put_behind : (front rest text : List ℕ) → put_at (front ++ rest) (length front) text ≡ front ++ put_at rest 0 text
+put_behind [] rest text = refl
+put_behind (b ∷ front) rest text =
+    let whole : List ℕ = b ∷ (front ++ rest) in
+    let place : suc (length front) + length text ≡ suc (length front + length text) = omega arith in
+    ap (λ (n : ℕ). take (suc (length front)) whole ++ (text ++ drop n whole)) place ∙ ap (λ (l : List ℕ). b ∷ l) (put_behind front rest text)
+
+counted : (kind : ℕ) (inner : List ℕ) → length inner % 4 ≡ 0 → put_at (padded (attribute_with kind []) ++ inner) 0 (text_le (4 + length inner) 2) ≡ padded (attribute_with kind inner)
+unfolding text_le
+counted kind inner aligned =
+    let text : List ℕ = attribute_text (attribute_with kind inner) in
+    let none : padding (length inner) ≡ 0 = omega arith in
+    sym (ap (λ (n : ℕ). text ++ replicate n 0) none ∙ append-nil text)
+
+pub nest_length : (old one two : List ℕ) (kind : ℕ) (ts : Forest) → one ≡ old ++ padded (attribute_with kind []) → two ≡ one ++ tree_text ts → length two ≡ length old + (4 + length (tree_text ts))
+nest_length old one two kind ts first second =
+    let a = ap length first ∙ length-append old (padded (attribute_with kind [])) in
+    let b = ap length second ∙ length-append one (tree_text ts) in
+    let c = length-padded (attribute_with kind []) in
+    omega arith
+
+pub nest_counted : (old one two new : List ℕ) (kind start : ℕ) (ts : Forest) → start ≡ length old → one ≡ old ++ padded (attribute_with kind []) → two ≡ one ++ tree_text ts
+    → new ≡ put_at two start (text_le (length two - start) 2) → new ≡ old ++ padded (attribute_with kind (tree_text ts))
+nest_counted old one two new kind start ts at first second third =
+    let header : List ℕ = padded (attribute_with kind []) in
+    let size : length two - length old ≡ 4 + length (tree_text ts) = let all = nest_length old one two kind ts first second in omega arith in
+    let whole : two ≡ old ++ (header ++ tree_text ts) = second ∙ ap (λ (l : List ℕ). l ++ tree_text ts) first ∙ append_assoc old header (tree_text ts) in
+    third ∙ ap (λ (n : ℕ). put_at two n (text_le (length two - n) 2)) at ∙ ap (λ (n : ℕ). put_at two (length old) (text_le n 2)) size ∙ ap (λ (l : List ℕ). put_at l (length old) (text_le (4 + length (tree_text ts)) 2)) whole
+    ∙ put_behind old (header ++ tree_text ts) (text_le (4 + length (tree_text ts)) 2)
+    ∙ ap (λ (l : List ℕ). old ++ l) (counted kind (tree_text ts) (text_aligned ts))
 
 -- ---- attributes that fit
 

@@ -1,16 +1,19 @@
 //! Trees written as bytes.
 
-ghost use Rattle.std.specs.Prelude.{◌≡◌, ◌≤◌, ◌⊎◌, ◌++◌, ◌||◌, [], true, false, Ok, Err, MatchResult, MatchOption, OnOk, IfOk, IfErr, IsOk, nat_lt, length};
+ghost use Rattle.std.specs.Prelude.{◌≡◌, ◌+◌, ◌-◌, ◌≤◌, ◌⊎◌, ◌++◌, ◌||◌, [], true, false, Ok, Err, MatchResult, MatchOption, OnOk, IfOk, IfErr, IsOk, min, nat_lt, length};
 ghost use Rattle.netlink_packet_core.specs.Attribute.{padded};
+ghost use Rattle.netlink_packet_core.specs.Nla.{attribute_with};
 ghost use Rattle.netlink_packet_core.specs.DecodeError.{DecodeError};
-ghost use Rattle.netlink_tree.specs.Tree.{view, views, levels, AreWellFormed, TreeInRange, TreesInRange};
+ghost use Rattle.netlink_packet_core.specs.Numbers.{text_le};
+ghost use Rattle.netlink_packet_core.specs.Storage.{put_at};
+ghost use Rattle.netlink_tree.specs.Tree.{view, views, levels, AreWellFormed, TreesInRange};
 ghost use Rattle.netlink_tree.specs.Reading.{Trees};
 ghost use Rattle.netlink_tree.specs.Writing.{written, tree_text, is_long, is_too_long, are_too_long, writing, IsCanonicalDeep};
 
 use crate::fault::TreeFault;
 use crate::tree::{GREATEST_DEPTH, NlaTree};
 use netlink_packet_core::laws::written_walks;
-use netlink_packet_core::{NLA_HEADER_SIZE, append_nla, nla_align};
+use netlink_packet_core::{NLA_HEADER_SIZE, append_nla, nla_align, put_u16};
 use std::alloc::Global;
 
 /// The most bytes of a value: the length field has 16 bits and counts the header.
@@ -22,8 +25,8 @@ const LONGEST_VALUE: usize = 65531;
 ///
 /// Where an attribute stands deeper than 16, the outer ones having depth 1, the answer is `TooDeep`;
 /// otherwise, where a value or the block inside a nest is above 65531 bytes, it is `TooLong`.
-/// Neither asks for memory. Otherwise `Decode` of C16 says that a request for memory was refused;
-/// an empty list asks for none.
+/// Neither asks for memory. Otherwise there is one request, of the block's size, and `Decode` of C16
+/// says that it was refused; an empty list asks for none.
 pub fn write_tree(alloc: Global, trees: &[NlaTree]) -> Result<Vec<u8>, TreeFault>
     requires formed { AreWellFormed (views trees.now) }
     ensures text { MatchResult result
@@ -37,11 +40,13 @@ pub fn write_tree(alloc: Global, trees: &[NlaTree]) -> Result<Vec<u8>, TreeFault
     if is_too_deep(trees, GREATEST_DEPTH) {
         return Err(TreeFault::TooDeep);
     }
-    if are_too_long(trees) {
-        return Err(TreeFault::TooLong);
+    match whole_size(trees) {
+        None => Err(TreeFault::TooLong),
+        Some(size) => {
+            written_walks();
+            text_of(alloc, trees, size)
+        }
     }
-    written_walks();
-    text_of(alloc, trees)
 }
 
 /// Whether attributes stand more than so many levels deep.
@@ -61,16 +66,19 @@ fn is_too_deep(trees: &[NlaTree], limit: usize) -> bool
     false
 }
 
-/// Whether a value, or the text inside a nest, is too long.
-fn are_too_long(trees: &[NlaTree]) -> bool
-    ensures { result ≡ are_too_long (views trees.now) }
+/// The size of the text of trees, or the greatest number below it that there is; none where a value,
+/// or the text inside a nest, is too long.
+#[tactic(auto, using(std::proofs::lemmas::Grind::common_steps, crate::proofs::TreeWriting::text_sizes))]
+fn whole_size(trees: &[NlaTree]) -> Option<usize>
+    ensures { MatchOption result
+        (are_too_long (views trees.now) ≡ true)
+        (λ n. (are_too_long (views trees.now) ≡ false) × (n ≡ min (length (tree_text (views trees.now))) usize.MAX)) }
 {
+    let mut size: usize = 0;
     for tree in trees {
-        if value_size(tree).is_none() {
-            return true;
-        }
+        size = size.saturating_add(nla_align(value_size(tree)? + NLA_HEADER_SIZE));
     }
-    false
+    Some(size)
 }
 
 /// The size of the value that a tree is written with; none where it or a value inside is too long.
@@ -104,35 +112,65 @@ fn text_size(trees: &[NlaTree]) -> Option<usize>
     Some(size)
 }
 
-/// The text of trees.
-#[cycle(writing)]
-fn text_of(alloc: Global, trees: &[NlaTree]) -> Result<Vec<u8>, TreeFault>
-    requires { are_too_long (views trees.now) ≡ false }
+/// The text of trees, in a block that is asked for so many bytes at once.
+fn text_of(alloc: Global, trees: &[NlaTree], size: usize) -> Result<Vec<u8>, TreeFault>
+    requires short { are_too_long (views trees.now) ≡ false }
+    requires size { trees.now ≡ [] → size ≡ 0 }
     ensures text { MatchResult result (λ v. v.items ≡ tree_text (views trees.now)) (λ e. e ≡ TreeFault.Decode DecodeError.OutOfMemory) }
     ensures in_range { OnOk result (TreesInRange (views trees.now)) }
     ensures empty { trees.now ≡ [] → IsOk result }
 {
-    let mut block = Vec::new(alloc);
-    for tree in trees {
-        append_tree(alloc, &mut block, tree)?;
-    }
+    let mut block = Vec::with_capacity(alloc, size)?;
+    append_trees(alloc, &mut block, trees)?;
     Ok(block)
 }
 
-/// Adds the text of a tree to a block.
+/// Adds the text of trees to a block.
 #[cycle(writing)]
-fn append_tree(alloc: Global, block: &mut Vec<u8>, tree: &NlaTree) -> Result<(), TreeFault>
-    requires { is_too_long (view tree.now) ≡ false }
-    ensures ok { OnOk result (block.new.items ≡ block.old.items ++ padded (written (view tree.now))) }
-    ensures in_range { OnOk result (TreeInRange (view tree.now)) }
+fn append_trees(alloc: Global, block: &mut Vec<u8>, trees: &[NlaTree]) -> Result<(), TreeFault>
+    requires { are_too_long (views trees.now) ≡ false }
+    ensures ok { OnOk result (block.new.items ≡ block.old.items ++ tree_text (views trees.now)) }
+    ensures in_range { OnOk result (TreesInRange (views trees.now)) }
     ensures err { IfErr result (λ e. e ≡ TreeFault.Decode DecodeError.OutOfMemory) }
+    ensures empty { trees.now ≡ [] → IsOk result }
 {
-    match tree {
-        NlaTree::Leaf { kind, value } => append_nla(alloc, block, *kind, value)?,
-        NlaTree::Nest { kind, children } => {
-            let inside = text_of(alloc, children)?;
-            append_nla(alloc, block, *kind, &inside)?
+    for tree in trees {
+        match tree {
+            NlaTree::Leaf { kind, value } => append_nla(alloc, block, *kind, value)?,
+            NlaTree::Nest { kind, children } => append_nest(alloc, block, *kind, children)?,
         }
     }
     Ok(())
+}
+
+/// Adds the text of a nest to a block: its header, and behind it what is inside, whose size the
+/// header counts once it is there.
+#[cycle(writing)]
+fn append_nest(
+    alloc: Global,
+    block: &mut Vec<u8>,
+    kind: u16,
+    children: &[NlaTree],
+) -> Result<(), TreeFault>
+    requires inside { are_too_long (views children.now) ≡ false }
+    requires fits { length (tree_text (views children.now)) ≤ 65531 }
+    ensures ok { OnOk result (block.new.items ≡ block.old.items ++ padded (attribute_with kind (tree_text (views children.now)))) }
+    ensures in_range { OnOk result (TreesInRange (views children.now)) }
+    ensures err { IfErr result (λ e. e ≡ TreeFault.Decode DecodeError.OutOfMemory) }
+{
+    let start = block.len();
+    append_nla(alloc, block, kind, &[])?;
+    append_trees(alloc, block, children)?;
+    count_from(block, start);
+    Ok(())
+}
+
+/// Writes into the two bytes at a place how many bytes stand from there on.
+fn count_from(block: &mut Vec<u8>, start: usize)
+    requires inside { start + 4 ≤ length block.old.items }
+    requires fits { length block.old.items ≤ start + 65535 }
+    ensures { block.new.items ≡ put_at block.old.items start (text_le (length block.old.items - start) 2) }
+{
+    let size = block.len() - start;
+    put_u16(block, start, size as u16);
 }

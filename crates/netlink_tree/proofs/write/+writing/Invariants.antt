@@ -3,9 +3,9 @@ use Rattle.netlink_tree.specs.Tree.{views, TreesInRange}
 use Rattle.netlink_tree.specs.Writing.{are_too_long, tree_text}
 use Rattle.netlink_tree.proofs.write.+writing.Given as goal
 
--- the trees so far are in range, and their text is written
-abbrev pub invariant-text_of-loop-tree : goal.invariant-text_of-loop-tree
-invariant-text_of-loop-tree l =
+-- the trees so far are in range, and their text is added
+abbrev pub invariant-append_trees-loop-tree : goal.invariant-append_trees-loop-tree
+invariant-append_trees-loop-tree l =
     (are_too_long (views (drop l.tree-index l.trees)) ≡ false)
     × (TreesInRange (views (drop l.tree-index l.trees)) → TreesInRange (views l.trees))
-    × (l.block.items ++ tree_text (views (drop l.tree-index l.trees)) ≡ tree_text (views l.trees))
+    × (l.block.items ++ tree_text (views (drop l.tree-index l.trees)) ≡ l.fn.block.items ++ tree_text (views l.trees))

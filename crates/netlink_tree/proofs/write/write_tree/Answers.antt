@@ -3,11 +3,11 @@ use Rattle.netlink_tree.specs.Tree.{views}
 use Rattle.netlink_tree.proofs.TreeTrips.{text_reads_back, text_is_deep}
 use Rattle.netlink_tree.proofs.write.write_tree.Goals as goal
 
-pub returns-clause-reads_back : goal.returns-clause-reads_back
-returns-clause-reads_back c =
+pub returns-in-Some-clause-reads_back : goal.returns-in-Some-clause-reads_back
+returns-in-Some-clause-reads_back c =
     text_reads_back c.written_walks.ensures.walk (views c.args.trees.now) c.text_of.result c.requires.formed
-    (sym c.is_too_deep.ensures ∙ c.if-is_too_deep.false) (sym c.are_too_long.ensures ∙ c.if-are_too_long.false) c.text_of.ensures.in_range c.text_of.ensures.text
+    (sym c.is_too_deep.ensures ∙ c.if-is_too_deep.false) c.in-Some.ensures.0 c.text_of.ensures.in_range c.text_of.ensures.text
 
-pub returns-clause-canonical : goal.returns-clause-canonical
-returns-clause-canonical c =
-    text_is_deep (views c.args.trees.now) c.text_of.result c.requires.formed (sym c.are_too_long.ensures ∙ c.if-are_too_long.false) c.text_of.ensures.in_range c.text_of.ensures.text
+pub returns-in-Some-clause-canonical : goal.returns-in-Some-clause-canonical
+returns-in-Some-clause-canonical c =
+    text_is_deep (views c.args.trees.now) c.text_of.result c.requires.formed c.in-Some.ensures.0 c.text_of.ensures.in_range c.text_of.ensures.text
