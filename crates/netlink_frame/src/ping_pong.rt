@@ -7,7 +7,7 @@ ghost use Rattle.netlink_frame.specs.PingPongLaws.{equal_pairs, reading_is_lawfu
 use netlink_packet_core::{
     NetlinkDeserializable, NetlinkHeader, NetlinkProtocol, NetlinkSerializable,
 };
-use std::alloc::Global;
+use std::alloc::{AllocError, Global};
 use std::error::Error;
 use std::fmt;
 
@@ -70,6 +70,23 @@ impl NetlinkSerializable for PingPongMessage {
         match self {
             PingPongMessage::Ping(bytes) | PingPongMessage::Pong(bytes) => {
                 buffer.copy_from_slice(bytes);
+            }
+        }
+    }
+
+    fn append(&self, frame: &mut Vec<u8>) -> Result<(), AllocError> {
+        match self {
+            PingPongMessage::Ping(bytes) | PingPongMessage::Pong(bytes) => {
+                frame.extend_from_slice(bytes)
+            }
+        }
+    }
+
+    /// Asks for no memory.
+    fn is_text(&self, _alloc: Global, bytes: &[u8]) -> Result<bool, AllocError> {
+        match self {
+            PingPongMessage::Ping(text) | PingPongMessage::Pong(text) => {
+                Ok(bytes == text.as_slice())
             }
         }
     }

@@ -18,8 +18,8 @@ use crate::tests::refusals::UNKNOWN;
 use crate::text::show_text;
 use netlink_packet_core::{
     DecodeError, DefaultNla, DoneBuffer, DoneMessage, ErrorBuffer, ErrorContext, ErrorMessage,
-    NetlinkBuffer, NlaBuffer, NonZeroI32, Parseable, append_nla, copy_of, is_canonical_frame,
-    normalize, normalize_nlas, parse_string, write_nlas,
+    NetlinkBuffer, NetlinkSerializable, NlaBuffer, NonZeroI32, Parseable, append_nla, copy_of,
+    is_canonical_frame, normalize, normalize_nlas, parse_string, write_nlas,
 };
 use netlink_tree::{TreeFault, append_frame, is_well_formed, read_tree, write_tree};
 use std::alloc::Global;
@@ -206,6 +206,11 @@ fn frames_are_normalised(rt: HostRuntime) -> Result<(), Fail> {
     let ping = Message::from_inner(PingPongMessage::Ping([0u8, 1, 2, 3].to_vec(alloc)?));
     assert!(rt; ping.into_frame(alloc)?.as_slice() == PING.as_slice());
     assert!(rt; is_canonical_frame::<PingPongMessage>(alloc, &PING)?);
+    let mut text = Vec::new(alloc);
+    Zeros(4).append(&mut text)?;
+    PingPongMessage::Ping([5u8].to_vec(alloc)?).append(&mut text)?;
+    assert!(rt; text.as_slice() == [0, 0, 0, 0, 5].as_slice());
+    assert!(rt; Zeros(4).is_text(alloc, &text[..4])? && !Zeros(5).is_text(alloc, &text)?);
     Ok(())
 }
 

@@ -7,8 +7,8 @@ use crate::tests::mark::refuse_from_here;
 use crate::tests::messages::{CODED_DONE, EMPTY_DONE, ERROR, Message, NOOP, PING};
 use crate::tests::refusals::{UNKNOWN, refuses};
 use netlink_packet_core::{
-    Emitable, NetlinkBuffer, NetlinkHeader, NetlinkMessage, NetlinkPayload, Parseable,
-    is_canonical_frame, normalize,
+    Emitable, NetlinkBuffer, NetlinkHeader, NetlinkMessage, NetlinkPayload, NetlinkSerializable,
+    Parseable, is_canonical_frame, normalize,
 };
 use std::test::Fail;
 
@@ -17,7 +17,10 @@ fn a_message_is_written(rt: HostRuntime) -> Result<(), Fail> {
     let alloc = rt.alloc();
     let bytes = [0u8, 1, 2, 3].to_vec(alloc)?;
     refuse_from_here(alloc);
-    let mut message = Message::from_inner(PingPongMessage::Ping(bytes));
+    let ping = PingPongMessage::Ping(bytes);
+    assert!(rt; ping.is_text(alloc, &PING[16..]).ok() == Some(true));
+    assert!(rt; ping.is_text(alloc, &PING[17..]).ok() == Some(false));
+    let mut message = Message::from_inner(ping);
     assert!(rt; message.fits());
     message.finalize();
     assert!(rt; message.buffer_len() == 20);
