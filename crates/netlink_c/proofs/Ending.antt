@@ -1,6 +1,6 @@
 -- What stands in a buffer where a nest or a frame is begun or ended.
-use Rattle.std.proofs.Common.{◌≡◌, ℕ, ◌+◌, ◌-◌, ◌<◌, ◌≤◌, ◌^◌, ◌%◌, List, [], ◌∷◌, ◌++◌, length, take, drop, refl, ap, sym, subst, ◌∙◌, inl, inr, arith, append_assoc, append-nil, length-append, length-drop}
-use Rattle.std.proofs.lemmas.List.{drop_at, drop_all, drop-append-le, drop-drop, length-replicate, length-take, length-take-le, take-append-drop, take-take, take_at}
+use Rattle.std.proofs.Common.{◌≡◌, ℕ, ◌+◌, ◌-◌, ◌<◌, ◌≤◌, ◌^◌, List, [], ◌++◌, length, take, drop, refl, ap, sym, ◌∙◌, inl, arith, append_assoc, append-nil, length-append, length-drop}
+use Rattle.std.proofs.lemmas.List.{drop_at, drop_all, drop-drop, length-replicate, length-take-le, take-append-drop, take-take}
 use Rattle.std.specs.Prelude.{replicate, slice_range}
 use Rattle.netlink_packet_core.specs.Attribute.{Attribute, padding}
 use Rattle.netlink_packet_core.specs.Header.{field, header_text}

@@ -1,12 +1,11 @@
 -- What stands in a buffer behind what was put.
-use Rattle.std.proofs.Common.{◌≡◌, ℕ, ◌+◌, ◌-◌, ◌<◌, ◌≤◌, ◌^◌, ◌%◌, List, [], ◌∷◌, ◌++◌, length, take, drop, refl, ap, sym, ◌∙◌, inl, inr, arith, append_assoc, append-nil, length-append, length-drop}
+use Rattle.std.proofs.Common.{◌≡◌, ℕ, ◌+◌, ◌-◌, ◌<◌, ◌≤◌, ◌^◌, List, [], ◌∷◌, ◌++◌, length, take, drop, ap, sym, ◌∙◌, inl, arith, append_assoc, append-nil, length-append, length-drop}
 use Rattle.std.proofs.lemmas.List.{drop_at, drop_all, drop-append-le, drop-drop, drop-take, length-replicate, length-take, length-take-le, take_at}
 use Rattle.std.specs.Prelude.{replicate, slice_range}
 use borrow.Rule.Slice.PartMut.{put_mid}
 use Rattle.netlink_packet_core.specs.Attribute.{Attribute, attribute_text, padded, padded_size, padding}
 use Rattle.netlink_packet_core.specs.AttributeSizes.{length-padded, length-written}
 use Rattle.netlink_packet_core.specs.Block.{canonical_block}
-use Rattle.netlink_packet_core.specs.Nla.{attribute_with}
 use Rattle.netlink_packet_core.specs.Storage.{put_at}
 use Rattle.netlink_packet_core.specs.Walk.{Starts}
 

@@ -1,7 +1,7 @@
 -- Each cause has a number that is not 0, and what is copied out is there.
-use Rattle.std.proofs.Common.{◌≡◌, ℕ, ◌<◌, ◌≤◌, ◌⊎◌, List, length, take, ap, sym, subst, ◌∙◌, inl, inr, arith}
+use Rattle.std.proofs.Common.{◌≡◌, ℕ, ◌<◌, List, length, take, sym, subst, ◌∙◌, inl, inr, arith}
 use Rattle.netlink_packet_core.specs.Canonical.{canonical_frame}
-use Rattle.netlink_packet_core.specs.Causes.{cause_number, cause_text}
+use Rattle.netlink_packet_core.specs.Causes.{cause_number}
 use Rattle.netlink_packet_core.specs.DecodeError.{DecodeError}
 use Rattle.netlink_packet_core.specs.DecodeError.TheVariants.{InvalidBuffer, InvalidMacAddress, InvalidIpAddress, InvalidNumber, NlaBufferTooSmall, NlaLengthMismatch, NlaInvalidLength, BufferTooSmall, FrameShort, FrameCut, FrameLength, DoneShort, ErrorShort, Message, TooLong, OutOfMemory}
 use Rattle.netlink_packet_core.specs.Frame.{Frame}

@@ -1,5 +1,5 @@
 -- Numbers of a cause tell it.
-use Rattle.std.proofs.Common.{◌≡◌, ℕ, ◌<◌, ◌^◌, Bool, true, false, List, refl, ap, sym, subst, ◌∙◌, arith, Option, Some}
+use Rattle.std.proofs.Common.{◌≡◌, ℕ, true, false, List, refl, ap, sym, subst, ◌∙◌, arith, Option, Some}
 use Rattle.netlink_packet_core.specs.DecodeError.{DecodeError}
 use Rattle.netlink_packet_core.specs.DecodeError.TheVariants.{InvalidBuffer, InvalidMacAddress, InvalidIpAddress, InvalidNumber, NlaBufferTooSmall, NlaLengthMismatch, NlaInvalidLength, BufferTooSmall, FrameShort, FrameCut, FrameLength, DoneShort, ErrorShort, Message, TooLong, OutOfMemory}
 use Rattle.netlink_c.specs.Fault.{numbers_of}

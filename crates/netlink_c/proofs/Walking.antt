@@ -1,6 +1,6 @@
 -- Where the attributes of a block and the frames of a datagram lie.
 use denote.Ref.{Bor}
-use Rattle.std.proofs.Common.{◌≡◌, ℕ, ◌+◌, ◌-◌, ◌<◌, ◌≤◌, List, [], ◌++◌, length, take, drop, refl, ap, sym, subst, ◌∙◌, inl, inr, arith, Option, Some, Ok, append_assoc, length-append, length-drop}
+use Rattle.std.proofs.Common.{◌≡◌, ℕ, ◌+◌, ◌-◌, ◌<◌, ◌≤◌, List, ◌++◌, length, take, drop, refl, ap, sym, subst, ◌∙◌, inl, inr, arith, Some, Ok, append_assoc, length-append, length-drop}
 use Rattle.std.proofs.lemmas.List.{drop_at, drop_all, take_at, drop-drop, length-take-le}
 use Rattle.std.specs.Prelude.{slice_range}
 use Rattle.netlink_packet_core.specs.Attribute.{Attribute, attribute_text, padding, padded_size}

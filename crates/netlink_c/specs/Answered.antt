@@ -1,5 +1,5 @@
 -- What an error message answers.
-use Rattle.std.specs.Prelude.{◌≡◌, ◌⊎◌, ℕ, ◌+◌, ◌/◌, ◌%◌, ◌<◌, ◌≤◌, List, length, drop, nat_lt, if◌then◌else◌}
+use Rattle.std.specs.Prelude.{◌≡◌, ℕ, ◌+◌, ◌/◌, ◌%◌, ◌<◌, ◌≤◌, List, length, drop, nat_lt, if◌then◌else◌}
 use Rattle.netlink_packet_core.specs.Attribute.{padding}
 use Rattle.netlink_packet_core.specs.Header.{field}
 

@@ -1,5 +1,5 @@
 -- The protocol of any bytes: each message type from 16 on, with any payload.
-use Rattle.std.specs.Prelude.{◌&&◌, ◌^◌, ◌==◌, ℕ, Bool, true, false, List, Option, Some, None, codes, nat_le, nat_lt, if◌then◌else◌}
+use Rattle.std.specs.Prelude.{◌&&◌, ◌^◌, ℕ, Bool, true, false, List, Option, Some, None, codes, nat_le, nat_lt, if◌then◌else◌}
 use Rattle.netlink_packet_core.specs.Protocol.{Encoding, Decoding}
 use Rattle.netlink_packet_core.specs.declared.header.NetlinkHeader.{NetlinkHeader}
 use Rattle.netlink_c.specs.declared.any.AnyMessage.{AnyMessage}

@@ -1,6 +1,7 @@
 //! Nests and frames, begun and ended in a caller's buffer.
 
-ghost use Rattle.std.specs.Prelude.{◌≡◌, ◌≢◌, ◌+◌, ◌-◌, ◌<◌, ◌≤◌, ◌++◌, ◌^◌, ◌%◌, ◌↔◌, IsTrue, drop, length, replicate, slice_range};
+ghost use Rattle.std.specs.Prelude.{◌≡◌, ◌≢◌, ◌+◌, ◌-◌, ◌<◌, ◌≤◌, ◌++◌, ◌^◌, ◌%◌, ◌↔◌};
+ghost use Rattle.std.specs.Prelude.{IsTrue, drop, length, replicate, slice_range};
 ghost use Rattle.netlink_packet_core.specs.Attribute.{padding};
 ghost use Rattle.netlink_packet_core.specs.Header.{header_text};
 ghost use Rattle.netlink_packet_core.specs.Nla.{attribute_with};
@@ -8,7 +9,8 @@ ghost use Rattle.netlink_packet_core.specs.Numbers.{text_le};
 ghost use Rattle.netlink_packet_core.specs.Storage.{put_at};
 ghost use Rattle.netlink_packet_core.specs.Views.{attribute_of, raw_kind, HoldsAttribute};
 ghost use Rattle.netlink_tree.specs.FrameWalk.{StartsFrame};
-ghost use Rattle.netlink_c.specs.Ends.{AnswersEnd, AnswersPutFrame, IsStretch, PutsFrame, begun_size, frame_text};
+ghost use Rattle.netlink_c.specs.Ends.{AnswersEnd, AnswersPutFrame, IsStretch, PutsFrame};
+ghost use Rattle.netlink_c.specs.Ends.{begun_size, frame_text};
 
 use crate::answers::{NO_PLACE, NO_ROOM, OK, TOO_LONG};
 use crate::frame::HeaderFields;

@@ -1,10 +1,12 @@
 //! Normal forms: what is canonical, and the canonical form of bytes, written into a caller's
 //! buffer.
 
-ghost use Rattle.std.specs.Prelude.{◌≡◌, ◌↔◌, ◌⊎◌, ◌≢◌, ◌≤◌, List, None, Some, [], IsTrue, take, length};
+ghost use Rattle.std.specs.Prelude.{◌≡◌, ◌↔◌, ◌⊎◌, ◌≢◌, ◌≤◌, [], List, None, Some, IsTrue, take};
+ghost use Rattle.std.specs.Prelude.{length};
 ghost use Rattle.netlink_packet_core.specs.Attribute.{Attribute};
 ghost use Rattle.netlink_packet_core.specs.Block.{canonical_block, IsCanonicalBlock};
-ghost use Rattle.netlink_packet_core.specs.Canonical.{Fits, IsCanonicalFrame, IsNormalizeFault, canonical_frame};
+ghost use Rattle.netlink_packet_core.specs.Canonical.{Fits, IsCanonicalFrame, canonical_frame};
+ghost use Rattle.netlink_packet_core.specs.Canonical.{IsNormalizeFault};
 ghost use Rattle.netlink_packet_core.specs.DecodeError.{DecodeError};
 ghost use Rattle.netlink_packet_core.specs.Frame.{Frame};
 ghost use Rattle.netlink_packet_core.specs.Walk.{Walk};

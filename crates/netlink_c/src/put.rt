@@ -29,7 +29,8 @@ pub extern "C" fn nlp_attr_put(
 ) -> u32
     ensures answers { AnswersPut (attribute_with kind value.now) buffer.old cursor.old result }
     ensures written { result ≡ 0
-        → PutsAttribute (attribute_with kind value.now) buffer.old cursor.old buffer.new cursor.new }
+        → PutsAttribute (attribute_with kind value.now) buffer.old cursor.old buffer.new
+        cursor.new }
     ensures block { result ≡ 0
         → GrowsBlock (attribute_with kind value.now) buffer.old cursor.old buffer.new cursor.new }
     ensures reads_back { result ≡ 0
@@ -53,7 +54,8 @@ pub extern "C" fn nlp_attr_put_u8(
         → PutsAttribute (attribute_with kind (value ∷ [])) buffer.old cursor.old buffer.new
         cursor.new }
     ensures block { result ≡ 0
-        → GrowsBlock (attribute_with kind (value ∷ [])) buffer.old cursor.old buffer.new cursor.new }
+        → GrowsBlock (attribute_with kind (value ∷ [])) buffer.old cursor.old buffer.new
+        cursor.new }
     ensures reads_back { result ≡ 0
         → Starts (drop cursor.old buffer.new) (attribute_with kind (value ∷ []))
         (drop cursor.new buffer.new) }
@@ -218,7 +220,8 @@ fn put<T: Nla>(buffer: &mut [u8], cursor: &mut usize, nla: &T) -> u32
 #[tactic(auto, using(crate::proofs::Putting::put_sizes))]
 fn emit_at<T: Nla>(nla: &T, buffer: &mut [u8], at: usize, size: usize)
     requires fits { length (T.value_of nla.now) ≤ 65531 }
-    requires size { size ≡ length (padded (attribute_with (T.kind_of nla.now) (T.value_of nla.now))) }
+    requires size { size
+        ≡ length (padded (attribute_with (T.kind_of nla.now) (T.value_of nla.now))) }
     requires room { at + size ≤ length buffer.old }
     ensures written { buffer.new
         ≡ put_at buffer.old at (padded (attribute_with (T.kind_of nla.now) (T.value_of nla.now))) }
