@@ -45,6 +45,7 @@ pub extern "C" fn nlp_error_body(
         × IsRequestEnd flags payload.now (4 + body.new.request.size) }
     ensures attributes { result ≡ 0 → (body.new.attributes.offset ≡ 4 + body.new.request.size)
         × (body.new.attributes.offset + body.new.attributes.size ≡ length payload.now) }
+    ensures unfaulted { result ≡ 0 → fault.new ≡ fault.old }
     ensures refuses { result ≢ 0 → Refuses (IsShortError payload.now) result fault.new
         × (body.new ≡ body.old) }
 {

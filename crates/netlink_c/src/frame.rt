@@ -44,6 +44,7 @@ pub struct HeaderFields {
 #[unsafe(no_mangle)]
 pub extern "C" fn nlp_frame_check(bytes: &[u8], fault: &mut FaultNumbers) -> u32
     ensures whole { result ≡ 0 → HoldsFrame bytes.now }
+    ensures unfaulted { result ≡ 0 → fault.new ≡ fault.old }
     ensures refuses { result ≢ 0 → Refuses (IsFrameFault false bytes.now) result fault.new }
 {
     match NetlinkBuffer::new_checked(bytes) {
@@ -62,6 +63,7 @@ pub extern "C" fn nlp_frame_header(
 ) -> u32
     ensures fields { result ≡ 0 → (16 ≤ length bytes.now)
         × (header.new ≡ fields_of (header_of bytes.now)) }
+    ensures unfaulted { result ≡ 0 → fault.new ≡ fault.old }
     ensures refuses { result ≢ 0 → Refuses (IsShortHeader bytes.now) result fault.new
         × (header.new ≡ header.old) }
 {
@@ -92,6 +94,7 @@ pub extern "C" fn nlp_frame_payload(
         × (part_of payload.new bytes.now ≡ payload_of bytes.now) }
     ensures place { result ≡ 0 → (payload.new.offset ≡ 16)
         × (16 + payload.new.size ≡ field 0 4 bytes.now) }
+    ensures unfaulted { result ≡ 0 → fault.new ≡ fault.old }
     ensures refuses { result ≢ 0 → Refuses (IsFrameFault false bytes.now) result fault.new
         × (payload.new ≡ payload.old) }
 {
@@ -122,6 +125,7 @@ pub extern "C" fn nlp_done_body(
         × (part_of rest.new payload.now ≡ drop 4 payload.now) }
     ensures place { result ≡ 0
         → (rest.new.offset ≡ 4) × (4 + rest.new.size ≡ length payload.now) }
+    ensures unfaulted { result ≡ 0 → fault.new ≡ fault.old }
     ensures refuses { result ≢ 0 → Refuses (IsShortDone payload.now) result fault.new
         × (code.new ≡ code.old) × (rest.new ≡ rest.old) }
 {

@@ -48,9 +48,11 @@ pub extern "C" fn nlp_attrs_normalize(
 ) -> u32
     ensures writes { (all : List Attribute) → Walk bytes.now all None
         → CopiesOut (canonical_block all) buffer.old buffer.new size.new result
-        ⊎ (IsOutOfMemory result fault.new × (buffer.new ≡ buffer.old)) }
+        ⊎ (IsOutOfMemory result fault.new × (buffer.new ≡ buffer.old) × (size.new ≡ size.old)) }
     ensures refuses { (all : List Attribute) (e : DecodeError) → Walk bytes.now all (Some e)
-        → (result ≡ cause_number e) × (fault.new ≡ numbers_of e) × (buffer.new ≡ buffer.old) }
+        → (result ≡ cause_number e) × (fault.new ≡ numbers_of e) × (buffer.new ≡ buffer.old)
+        × (size.new ≡ size.old) }
+    ensures unfaulted { result ≡ 0 → fault.new ≡ fault.old }
     ensures canonical { result ≡ 0 → IsCanonicalBlock (take size.new buffer.new) }
     ensures unchanged { result ≡ 0 → (take size.new buffer.new ≡ bytes.now)
         ↔ IsCanonicalBlock bytes.now }
@@ -74,7 +76,9 @@ pub extern "C" fn nlp_frame_is_canonical(
 ) -> u32
     ensures yes { result ≡ 0 → (canonical.new ≡ 1) ↔ IsCanonicalFrame any_decoding bytes.now }
     ensures no { result ≡ 0 → (canonical.new ≡ 1) ⊎ (canonical.new ≡ 0) }
-    ensures memory { result ≢ 0 → IsOutOfMemory result fault.new }
+    ensures memory { result ≢ 0 → IsOutOfMemory result fault.new
+        × (canonical.new ≡ canonical.old) }
+    ensures unfaulted { result ≡ 0 → fault.new ≡ fault.old }
 {
     match is_canonical_frame::<AnyMessage>(alloc, bytes) {
         Ok(yes) => {
@@ -101,7 +105,8 @@ pub extern "C" fn nlp_frame_normalize(
 ) -> u32
     ensures answers { FrameCopiedOut bytes.now buffer.old buffer.new size.new result
         ⊎ (Refuses (IsNormalizeFault any_encoding any_decoding wants_memory bytes.now) result
-        fault.new × (buffer.new ≡ buffer.old)) }
+        fault.new × (buffer.new ≡ buffer.old) × (size.new ≡ size.old)) }
+    ensures unfaulted { result ≡ 0 → fault.new ≡ fault.old }
     ensures fixed { IsCanonicalFrame any_decoding bytes.now
         → CopiesOut bytes.now buffer.old buffer.new size.new result
         ⊎ IsOutOfMemory result fault.new }
@@ -119,7 +124,8 @@ pub extern "C" fn nlp_frame_normalize(
 
 /// Puts the bytes in front where there is room, and tells their size.
 pub(crate) fn copy_out(bytes: &[u8], buffer: &mut [u8], size: &mut usize) -> u32
-    ensures { CopiesOut bytes.now buffer.old buffer.new size.new result }
+    ensures copies { CopiesOut bytes.now buffer.old buffer.new size.new result }
+    ensures answers { (result ≡ 0) ⊎ (result ≡ 8) }
 {
     *size = bytes.len();
     if bytes.len() > buffer.len() {

@@ -1,8 +1,9 @@
 //! The text of a cause, written into a caller's buffer.
 
-ghost use Rattle.std.specs.Prelude.{◌≡◌, ◌≢◌};
+ghost use Rattle.std.specs.Prelude.{◌≡◌, ◌≢◌, None, Some};
 ghost use Rattle.netlink_packet_core.specs.DecodeError.{DecodeError};
 ghost use Rattle.netlink_c.specs.Fault.{numbers_of};
+ghost use Rattle.netlink_c.specs.declared.answers.TheConstants.{NO_MEMORY, NO_PLACE};
 ghost use Rattle.netlink_c.specs.Texts.{HasNumbersAlone, IsTextOut, cause_from};
 
 use crate::answers::{NO_MEMORY, NO_PLACE};
@@ -26,7 +27,11 @@ pub extern "C" fn nlp_fault_text(
 ) -> u32
     ensures text { (e : DecodeError) → HasNumbersAlone e → fault.now ≡ numbers_of e
         → IsTextOut e buffer.old buffer.new size.new result }
+    ensures told { (e : DecodeError) → cause_from fault.now ≡ Some e
+        → IsTextOut e buffer.old buffer.new size.new result }
+    ensures none { cause_from fault.now ≡ None → (result ≡ NO_PLACE) × (size.new ≡ size.old) }
     ensures unchanged { result ≢ 0 → buffer.new ≡ buffer.old }
+    ensures memory { result ≡ NO_MEMORY → size.new ≡ size.old }
 {
     let Some(cause) = cause_of(fault) else {
         return NO_PLACE;
@@ -38,6 +43,7 @@ pub extern "C" fn nlp_fault_text(
 fn text_out(alloc: Global, cause: &DecodeError, buffer: &mut [u8], size: &mut usize) -> u32
     ensures text { IsTextOut cause.now buffer.old buffer.new size.new result }
     ensures unchanged { result ≢ 0 → buffer.new ≡ buffer.old }
+    ensures memory { result ≡ NO_MEMORY → size.new ≡ size.old }
 {
     match cause.to_string(alloc) {
         Ok(text) => copy_out(text.as_str().as_bytes(), buffer, size),

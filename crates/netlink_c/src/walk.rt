@@ -1,6 +1,6 @@
 //! The frames of a datagram and the attributes of a block, one after another, by a cursor.
 
-ghost use Rattle.std.specs.Prelude.{◌≡◌, ◌≢◌, ◌↔◌, ◌+◌, ◌≤◌, ◌<◌, length, drop, false};
+ghost use Rattle.std.specs.Prelude.{◌≡◌, ◌≢◌, ◌↔◌, ◌⊎◌, ◌+◌, ◌≤◌, ◌<◌, length, drop, false};
 ghost use Rattle.netlink_packet_core.specs.Attribute.{padding};
 ghost use Rattle.netlink_packet_core.specs.Refusal.{IsFrameFault};
 ghost use Rattle.netlink_packet_core.specs.Walk.{IsFault};
@@ -44,6 +44,8 @@ pub extern "C" fn nlp_frames_next(
     ensures refuses { result ≢ 0 → result ≢ 32
         → Refuses (IsFrameFault false (drop cursor.old bytes.now)) result fault.new
         × (cursor.new ≡ length bytes.now) }
+    ensures kept { result ≢ 0 → item.new ≡ item.old }
+    ensures unfaulted { (result ≡ 0) ⊎ (result ≡ 32) → fault.new ≡ fault.old }
 {
     let at = *cursor;
     if at >= bytes.len() {
@@ -83,6 +85,8 @@ pub extern "C" fn nlp_attrs_next(
     ensures refuses { result ≢ 0 → result ≢ 32
         → Refuses (IsFault (drop cursor.old bytes.now)) result fault.new
         × (cursor.new ≡ length bytes.now) }
+    ensures kept { result ≢ 0 → item.new ≡ item.old }
+    ensures unfaulted { (result ≡ 0) ⊎ (result ≡ 32) → fault.new ≡ fault.old }
 {
     let at = *cursor;
     if at >= bytes.len() {
