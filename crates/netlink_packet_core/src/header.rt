@@ -48,6 +48,15 @@ impl NetlinkHeader {
         put_u32(buffer, 8, self.sequence_number);
         put_u32(buffer, 12, self.port_number);
     }
+
+    /// The five fields as they are written.
+    pub(crate) fn text(&self) -> [u8; NETLINK_HEADER_LEN]
+        ensures { result ≡ header_text self.now }
+    {
+        let mut text = [0; NETLINK_HEADER_LEN];
+        self.write(&mut text);
+        text
+    }
 }
 
 impl Default for NetlinkHeader {

@@ -182,8 +182,9 @@ impl<I: NetlinkSerializable + Drop> NetlinkMessage<I> {
             return Err(DecodeError::TooLong);
         }
         self.finalize();
-        let mut frame = vec![in alloc; 0u8; self.buffer_len()]?;
-        self.serialize(&mut frame);
+        let mut frame = Vec::with_capacity(alloc, self.buffer_len())?;
+        frame.extend_from_slice(&self.header.text())?;
+        self.payload.append(&mut frame)?;
         Ok(frame)
     }
 }

@@ -1,11 +1,11 @@
 //! What a message carries.
 
-ghost use Rattle.std.specs.Prelude.{◌≡◌, ◌≤◌, ◌<◌, ◌^◌, ◌↔◌, List, ℕ, Some, IfOk, IfErr, IsTrue, length, string_bytes};
+ghost use Rattle.std.specs.Prelude.{◌≡◌, ◌+◌, ◌≤◌, ◌<◌, ◌^◌, ◌↔◌, ◌++◌, List, ℕ, Some, IfOk, IfErr, IsTrue, OnOk, length, string_bytes, vec_len};
 ghost use Rattle.netlink_packet_core.specs.Frame.{Body};
 ghost use Rattle.netlink_packet_core.specs.Payload.{PayloadInRange, payload_text, payload_type};
 ghost use Rattle.netlink_packet_core.specs.Refusal.{IsBodyFault, IsInnerFault, refusal_text};
 
-use crate::bytes::put_code;
+use crate::bytes::{append_code, put_code};
 use crate::constants::{NLMSG_DONE, NLMSG_ERROR, NLMSG_NOOP, NLMSG_OVERRUN};
 use crate::done::DoneMessage;
 use crate::error::ErrorMessage;
@@ -103,6 +103,25 @@ impl<I: NetlinkSerializable> NetlinkPayload<I> {
             NetlinkPayload::Noop => {}
             NetlinkPayload::Overrun(bytes) => buffer.copy_from_slice(bytes),
             NetlinkPayload::InnerMessage(message) => message.serialize(buffer),
+        }
+    }
+
+    /// Adds the payload's text at the end of a frame.
+    #[tactic(auto, using(crate::specs::Sizes::text_sizes))]
+    pub(crate) fn append(&self, frame: &mut Vec<u8>) -> Result<(), AllocError>
+        requires { vec_len frame.old + length (payload_text I.encoding self.now) < 2 ^ 64 }
+        ensures { OnOk result (frame.new.items ≡ frame.old.items ++ payload_text I.encoding self.now) }
+    {
+        match self {
+            NetlinkPayload::Done(message) => {
+                append_code(frame, message.code, &message.extended_ack)
+            }
+            NetlinkPayload::Error(message) => {
+                append_code(frame, message.raw_code(), &message.header)
+            }
+            NetlinkPayload::Noop => Ok(()),
+            NetlinkPayload::Overrun(bytes) => frame.extend_from_slice(bytes),
+            NetlinkPayload::InnerMessage(message) => message.append(frame),
         }
     }
 }

@@ -1,11 +1,11 @@
 //! What a sub-protocol brings.
 
-ghost use Rattle.std.specs.Prelude.{◌≡◌, ◌↔◌, ℕ, Bool, true, false, List, Some, None, length, IfOk, IfErr, IsTrue};
+ghost use Rattle.std.specs.Prelude.{◌≡◌, ◌↔◌, ◌+◌, ◌<◌, ◌≤◌, ◌^◌, ◌++◌, ℕ, Bool, true, false, List, Some, None, length, IfOk, IfErr, IsOk, IsTrue, OnOk, vec_len, vec_capacity};
 ghost use Rattle.netlink_packet_core.specs.declared.header.NetlinkHeader.{NetlinkHeader};
 ghost use Rattle.netlink_packet_core.specs.Protocol.{Encoding, Decoding, IsLawful};
 
 use crate::header::NetlinkHeader;
-use std::alloc::Global;
+use std::alloc::{AllocError, Global};
 use std::error::Error;
 
 /// A sub-protocol's message that can be written.
@@ -25,6 +25,23 @@ pub trait NetlinkSerializable {
     fn serialize(&self, buffer: &mut [u8])
         requires size { length buffer.old ≡ length (encoding.text_of self.now) }
         ensures text { buffer.new ≡ encoding.text_of self.now };
+
+    /// Adds the value's text at the end of a vector, which has fewer than 2^64 bytes with it. Where
+    /// the vector has room the answer is Ok; otherwise its allocator is asked, and an error says
+    /// that it refused.
+    ///
+    /// This body makes room of zeros and fills it by `serialize`; a protocol that has its text at hand
+    /// does better to copy it once.
+    fn append(&self, frame: &mut Vec<u8>) -> Result<(), AllocError>
+        requires fits { vec_len frame.old + length (encoding.text_of self.now) < 2 ^ 64 }
+        ensures text { OnOk result (frame.new.items ≡ frame.old.items ++ encoding.text_of self.now) }
+        ensures room { vec_len frame.old + length (encoding.text_of self.now) ≤ vec_capacity frame.old → IsOk result }
+    {
+        let start = frame.len();
+        frame.resize(start + self.buffer_len(), 0)?;
+        self.serialize(&mut frame[start..]);
+        Ok(())
+    }
 }
 
 /// A sub-protocol's message that can be read.

@@ -181,5 +181,9 @@ fn a_message_that_does_not_fit(rt: HostRuntime) -> Result<(), Fail> {
     let short = NetlinkMessage::from_inner(Zeros { count: 2 });
     let wanted = bytes_of(rt.alloc(), 18, 16, &[0, 0])?;
     assert_eq!(rt; short.into_frame(rt.alloc())?.as_slice(), wanted.as_slice());
+    let two = Zeros { count: 2 };
+    let mut frame = [7u8].to_vec(rt.alloc())?;
+    two.append(&mut frame)?;
+    assert_eq!(rt; frame.as_slice(), [7, 0, 0].as_slice());
     Ok(())
 }
