@@ -12,9 +12,9 @@ use crate::buffer::read_header;
 use crate::constants::{NETLINK_HEADER_LEN, NLMSG_DONE, NLMSG_ERROR, NLMSG_NOOP, NLMSG_OVERRUN};
 use crate::header::NetlinkHeader;
 use crate::message::NetlinkMessage;
-use crate::traits::{NetlinkProtocol, NetlinkSerializable};
+use crate::traits::NetlinkProtocol;
 use netlink_bytes::DecodeError;
-use std::alloc::{AllocError, Global};
+use std::alloc::Global;
 
 /// Reads the message whose frame the bytes begin with, and writes its one canonical frame.
 ///
@@ -43,7 +43,7 @@ pub fn normalize<I: NetlinkProtocol>(alloc: Global, bytes: &[u8]) -> Result<Vec<
 ///
 /// What `NetlinkMessage::deserialize` refuses for another cause than want of memory is not canonical.
 /// The only error is C16, and it comes only where the type is the protocol's own: memory is asked
-/// for the protocol's reading, and for a value's text of the payload's size.
+/// for the protocol's reading, and by `is_text` for a value's text of the payload's size.
 pub fn is_canonical_frame<I: NetlinkProtocol>(
     alloc: Global,
     bytes: &[u8],
@@ -81,23 +81,12 @@ fn reads_as_itself<I: NetlinkProtocol>(
 {
     match I::deserialize(alloc, header, payload) {
         Ok(value) => {
-            if value.message_type() != header.message_type || value.buffer_len() != payload.len() {
+            if value.message_type() != header.message_type {
                 return Ok(false);
             }
-            let text = text_of(alloc, &value)?;
-            Ok(text.as_slice() == payload)
+            Ok(value.is_text(alloc, payload)?)
         }
         Err(error) if I::is_out_of_memory(&error) => Err(DecodeError::OutOfMemory),
         Err(_) => Ok(false),
     }
-}
-
-/// The text of a value, in a buffer of its exact size.
-fn text_of<I: NetlinkSerializable>(alloc: Global, value: &I) -> Result<Vec<u8>, AllocError>
-    ensures { IfOk result (λ text. text.items ≡ I.encoding.text_of value.now) }
-{
-    let size = value.buffer_len();
-    let mut text = vec![in alloc; 0u8; size]?;
-    value.serialize(&mut text);
-    Ok(text)
 }

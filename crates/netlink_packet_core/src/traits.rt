@@ -1,6 +1,6 @@
 //! What a sub-protocol brings.
 
-ghost use Rattle.std.specs.Prelude.{◌≡◌, ◌↔◌, ◌+◌, ◌<◌, ◌≤◌, ◌^◌, ◌++◌, ℕ, Bool, true, false, List, Some, None, length, IfOk, IfErr, IsOk, IsTrue, OnOk, vec_len, vec_capacity};
+ghost use Rattle.std.specs.Prelude.{◌≡◌, ◌↔◌, ◌+◌, ◌<◌, ◌≤◌, ◌^◌, ◌++◌, ℕ, Bool, true, false, List, Some, None, length, IfOk, IfErr, IsOk, IsTrue, OnErr, OnOk, vec_len, vec_capacity};
 ghost use Rattle.netlink_packet_core.specs.declared.header.NetlinkHeader.{NetlinkHeader};
 ghost use Rattle.netlink_packet_core.specs.Protocol.{Encoding, Decoding, IsLawful};
 
@@ -41,6 +41,23 @@ pub trait NetlinkSerializable {
         frame.resize(start + self.buffer_len(), 0)?;
         self.serialize(&mut frame[start..]);
         Ok(())
+    }
+
+    /// Whether the bytes are the value's text. An error says that a request for memory was refused;
+    /// bytes of another size than the text's ask for none.
+    ///
+    /// This body writes the text into a buffer of its own; a protocol that has its text at hand does
+    /// better to compare it.
+    fn is_text(&self, alloc: Global, bytes: &[u8]) -> Result<bool, AllocError>
+        ensures says { IfOk result (λ yes. IsTrue yes ↔ (bytes.now ≡ encoding.text_of self.now)) }
+        ensures size { OnErr result (length bytes.now ≡ length (encoding.text_of self.now)) }
+    {
+        if bytes.len() != self.buffer_len() {
+            return Ok(false);
+        }
+        let mut text = Vec::with_capacity(alloc, bytes.len())?;
+        self.append(&mut text)?;
+        Ok(text.as_slice() == bytes)
     }
 }
 

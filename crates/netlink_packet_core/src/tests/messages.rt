@@ -185,5 +185,7 @@ fn a_message_that_does_not_fit(rt: HostRuntime) -> Result<(), Fail> {
     let mut frame = [7u8].to_vec(rt.alloc())?;
     two.append(&mut frame)?;
     assert_eq!(rt; frame.as_slice(), [7, 0, 0].as_slice());
+    assert!(rt; two.is_text(rt.alloc(), &[0, 0])? && !two.is_text(rt.alloc(), &[0, 1])?);
+    assert!(rt; !two.is_text(rt.alloc(), &[0])?);
     Ok(())
 }
