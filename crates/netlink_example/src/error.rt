@@ -1,8 +1,9 @@
 //! The refusals of generic netlink.
 
-ghost use Rattle.std.specs.Prelude.{Some};
+ghost use Rattle.std.specs.Prelude.{◌≡◌, Some};
 ghost use Rattle.netlink_example.specs.Generic.{error_text};
 
+use std::alloc::AllocError;
 use std::error::Error;
 use std::fmt;
 
@@ -39,3 +40,14 @@ impl fmt::Display for GenericError {
 }
 
 impl Error for GenericError {}
+
+impl From<AllocError> for GenericError {
+    ghost use Rattle.netlink_example.specs.declared.error.GenericError.TheVariants.{OutOfMemory};
+
+    ghost from_gives = { λ _ e. e ≡ OutOfMemory };
+
+    /// `OutOfMemory`, so that `?` hands on a refused request for memory.
+    fn from(_refused: AllocError) -> Self {
+        Self::OutOfMemory
+    }
+}

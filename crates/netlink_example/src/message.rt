@@ -2,13 +2,13 @@
 
 ghost use Rattle.std.proofs.Common.{rules};
 ghost use Rattle.std.proofs.lemmas.Grind.{common_steps};
-ghost use Rattle.std.specs.Prelude.{◌≡◌, ◌<◌, length, IfOk, IfErr, OnErr, IsTrue, Some, None, false, refl};
+ghost use Rattle.std.specs.Prelude.{◌≡◌, IfOk, IfErr, IsTrue, Some, None, false, refl};
 ghost use Rattle.netlink_example.specs.Generic.{IsGenericFault, generic_decoding, generic_encoding, wants_memory};
 
 use crate::error::GenericError;
 use crate::family::Family;
 use netlink_packet_core::{
-    NetlinkDeserializable, NetlinkHeader, NetlinkProtocol, NetlinkSerializable,
+    NetlinkDeserializable, NetlinkHeader, NetlinkProtocol, NetlinkSerializable, copy_of,
 };
 use std::alloc::Global;
 
@@ -84,7 +84,7 @@ impl NetlinkDeserializable for GenericMessage {
             family,
             command: payload[0],
             version: payload[1],
-            payload: copied(alloc, &payload[GENL_HDRLEN..])?,
+            payload: copy_of(alloc, &payload[GENL_HDRLEN..])?,
         })
     }
 
@@ -107,19 +107,4 @@ impl NetlinkProtocol for GenericMessage {
     ghost value_is_lawful = { Prim.search (rules, common_steps) };
 
     ghost reading_is_lawful = { Prim.search (rules, common_steps) };
-}
-
-/// A copy of the bytes, of their exact size. An empty input asks for no memory.
-fn copied(alloc: Global, bytes: &[u8]) -> Result<Vec<u8>, GenericError>
-    ensures ok { IfOk result (λ copy. copy.items ≡ bytes.now) }
-    ensures memory { IfErr result (λ e. e ≡ GenericError.OutOfMemory) }
-    ensures empty { OnErr result (0 < length bytes.now) }
-{
-    if bytes.is_empty() {
-        return Ok(Vec::new(alloc));
-    }
-    match Vec::from_slice(alloc, bytes) {
-        Ok(copy) => Ok(copy),
-        Err(_) => Err(GenericError::OutOfMemory),
-    }
 }
