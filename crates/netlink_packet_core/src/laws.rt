@@ -29,7 +29,7 @@ pub use netlink_attributes::laws::{
     older_block_kept, slice_views_equal, value_replaced, views_equal, walk_cut, walk_given,
     walk_join, walk_stops, walk_total, walk_unique, walks_equal, written_reads_back, written_walks,
 };
-pub use netlink_bytes::laws::values_equal;
+pub use netlink_bytes::laws::{causes_equal, values_equal};
 use netlink_bytes::{DecodeError, Storage};
 pub use netlink_ethernet::laws::protocols_equal;
 

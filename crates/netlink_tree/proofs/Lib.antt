@@ -1,3 +1,4 @@
+pub mod FaultsEqual
 pub mod FrameAppends
 pub mod FrameWalks
 pub mod TreeEqual

@@ -1,6 +1,6 @@
--- The text of a fault.
+-- The text of a fault, and which two say the same.
 use Rattle.std.specs.Prelude.{ℕ, List, codes}
-use Rattle.netlink_packet_core.specs.Causes.{cause_text}
+use Rattle.netlink_packet_core.specs.Causes.{SameCause, cause_text}
 use Rattle.netlink_tree.specs.declared.fault.TreeFault.{TreeFault}
 use Rattle.netlink_tree.specs.declared.fault.TreeFault.TheVariants.{TooDeep, TooLong, Decode}
 
@@ -8,3 +8,10 @@ abbrev pub fault_text : TreeFault → List ℕ
 fault_text TooDeep = codes "attributes are nested deeper than 16"
 fault_text TooLong = codes "the value of an attribute is longer than 65531 bytes"
 fault_text (Decode cause) = cause_text cause
+
+-- two faults that nobody can tell apart
+abbrev pub SameFault : TreeFault → TreeFault → Type 0
+SameFault TooDeep TooDeep = Unit {0}
+SameFault TooLong TooLong = Unit {0}
+SameFault (Decode a) (Decode b) = SameCause a b
+SameFault _ _ = ⊥

@@ -9,7 +9,7 @@ use std::error::Error;
 use std::fmt;
 
 /// Why trees are not read, or not written. Only a `Decode` holds memory.
-#[derive(Debug, Drop)]
+#[derive(Debug, Drop, PartialEq, Eq)]
 pub enum TreeFault {
     /// Something stands deeper than 16, where the outer attributes have depth 1.
     TooDeep,

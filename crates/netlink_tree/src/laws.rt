@@ -5,16 +5,19 @@ ghost use denote.Ref.{Bor};
 ghost use Rattle.netlink_packet_core.specs.DecodeError.{DecodeError};
 ghost use Rattle.netlink_packet_core.specs.Header.{HoldsFrame};
 ghost use Rattle.netlink_packet_core.specs.Numbers.{IsBytes};
+ghost use Rattle.netlink_tree.specs.Fault.{SameFault};
 ghost use Rattle.netlink_tree.specs.FrameSteps.{FrameItem, GivesFrame, GivesFrames, unread_frames};
 ghost use Rattle.netlink_packet_core.specs.FrameWalk.{FrameWalk};
 ghost use Rattle.netlink_tree.specs.Reading.{Outcome, Trees};
 ghost use Rattle.netlink_tree.specs.Tree.{Forest, view, AreWellFormed, TreesInRange};
 ghost use Rattle.netlink_tree.specs.Writing.{writing, IsCanonicalDeep};
+ghost use Rattle.netlink_tree.specs.declared.fault.TreeFault.{TreeFault};
 ghost use Rattle.netlink_tree.specs.declared.frames.Frames.{Frames};
 ghost use Rattle.netlink_tree.specs.declared.tree.NlaTree.{NlaTree};
 
+use crate::fault::TreeFault;
 use crate::frames::Frames;
-use netlink_packet_core::laws::{walk_total, walk_unique, written_walks};
+use netlink_packet_core::laws::{causes_equal, walk_total, walk_unique, written_walks};
 
 /// Every byte list is frames one after another, and then nothing or one fault.
 pub fn frames_total()
@@ -45,6 +48,13 @@ pub fn frames_stop()
 pub fn frames_equal()
     ensures equal { (a b : Frames (Bor (List ℕ))) → IsTrue (⟦<Frames<&'static [u8]> as PartialEq>⟧.eq a b) ↔ (unread_frames a ≡ unread_frames b) }
 {}
+
+/// Two faults are equal exactly if they are the same variant, and hold equal causes.
+pub fn faults_equal()
+    ensures equal { (a b : TreeFault) → IsTrue (⟦<TreeFault as PartialEq>⟧.eq a b) ↔ SameFault a b }
+{
+    causes_equal()
+}
 
 /// Every byte list comes to trees or a fault, however many levels are allowed.
 pub fn trees_total()

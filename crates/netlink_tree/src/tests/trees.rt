@@ -1,8 +1,8 @@
 //! Trees read and written.
 
 use crate::laws::{
-    frames_equal, frames_given, frames_hold, frames_stop, frames_total, frames_unique, trees_equal,
-    trees_read_back, trees_total, trees_unique, trees_write_back,
+    faults_equal, frames_equal, frames_given, frames_hold, frames_stop, frames_total,
+    frames_unique, trees_equal, trees_read_back, trees_total, trees_unique, trees_write_back,
 };
 use crate::{NlaTree, TreeFault, is_well_formed, read_tree, write_tree};
 use netlink_packet_core::DecodeError;
@@ -153,7 +153,7 @@ const TOO_DEEP: &str = "attributes are nested deeper than 16";
 
 const TOO_LONG: &str = "the value of an attribute is longer than 65531 bytes";
 
-/// Each fault with its exact text, as it is made of what `?` hands on.
+/// Each fault with its exact text, as it is made of what `?` hands on; and `==` tells them apart.
 #[test]
 fn texts_of_faults(rt: HostRuntime) -> Result<(), Fail> {
     let alloc = rt.alloc();
@@ -170,6 +170,11 @@ fn texts_of_faults(rt: HostRuntime) -> Result<(), Fail> {
     let refused = TreeFault::from(AllocError);
     assert_eq!(rt; refused.to_string(alloc)?.as_str(), "out of memory");
     assert!(rt; matches!(refused, TreeFault::Decode(DecodeError::OutOfMemory)));
+
+    faults_equal();
+    assert!(rt; TreeFault::TooDeep == TreeFault::TooDeep);
+    assert!(rt; TreeFault::TooDeep != TreeFault::TooLong);
+    assert!(rt; refused == TreeFault::from(AllocError) && refused != short);
     Ok(())
 }
 
