@@ -1,11 +1,11 @@
 //! A sub-protocol of two messages, each of some bytes.
 
-ghost use Rattle.std.specs.Prelude.{◌≡◌, ◌<◌, length, IfOk, IfErr, OnErr, refl, Some};
+ghost use Rattle.std.specs.Prelude.{◌≡◌, refl, Some};
 ghost use Rattle.netlink_frame.specs.PingPong.{error_text, ping_pong_decoding, ping_pong_encoding, wants_memory};
 ghost use Rattle.netlink_frame.specs.PingPongLaws.{equal_pairs, reading_is_lawful, value_is_lawful};
 
 use netlink_packet_core::{
-    NetlinkDeserializable, NetlinkHeader, NetlinkProtocol, NetlinkSerializable,
+    NetlinkDeserializable, NetlinkHeader, NetlinkProtocol, NetlinkSerializable, copy_of,
 };
 use std::alloc::{AllocError, Global};
 use std::error::Error;
@@ -49,6 +49,17 @@ impl fmt::Display for DeserializeError {
 }
 
 impl Error for DeserializeError {}
+
+impl From<AllocError> for DeserializeError {
+    ghost use Rattle.netlink_frame.specs.declared.ping_pong.DeserializeError.TheVariants.{OutOfMemory};
+
+    ghost from_gives = { λ _ e. e ≡ OutOfMemory };
+
+    /// `OutOfMemory`, so that `?` hands on a refused request for memory.
+    fn from(_refused: AllocError) -> Self {
+        Self::OutOfMemory
+    }
+}
 
 impl NetlinkSerializable for PingPongMessage {
     ghost encoding = { ping_pong_encoding };
@@ -105,8 +116,8 @@ impl NetlinkDeserializable for PingPongMessage {
         payload: &[u8],
     ) -> Result<Self, DeserializeError> {
         match header.message_type {
-            PING_MESSAGE => Ok(PingPongMessage::Ping(copied(alloc, payload)?)),
-            PONG_MESSAGE => Ok(PingPongMessage::Pong(copied(alloc, payload)?)),
+            PING_MESSAGE => Ok(PingPongMessage::Ping(copy_of(alloc, payload)?)),
+            PONG_MESSAGE => Ok(PingPongMessage::Pong(copy_of(alloc, payload)?)),
             _ => Err(DeserializeError::InvalidType),
         }
     }
@@ -129,19 +140,4 @@ impl NetlinkProtocol for PingPongMessage {
     ghost value_is_lawful = { λ v _. value_is_lawful v };
 
     ghost reading_is_lawful = { reading_is_lawful };
-}
-
-/// A copy of the bytes, of their exact size. An empty input asks for no memory.
-fn copied(alloc: Global, bytes: &[u8]) -> Result<Vec<u8>, DeserializeError>
-    ensures ok { IfOk result (λ copy. copy.items ≡ bytes.now) }
-    ensures memory { IfErr result (λ e. e ≡ DeserializeError.OutOfMemory) }
-    ensures empty { OnErr result (0 < length bytes.now) }
-{
-    if bytes.is_empty() {
-        return Ok(Vec::new(alloc));
-    }
-    match Vec::from_slice(alloc, bytes) {
-        Ok(copy) => Ok(copy),
-        Err(_) => Err(DeserializeError::OutOfMemory),
-    }
 }

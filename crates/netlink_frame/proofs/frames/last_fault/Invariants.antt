@@ -1,6 +1,6 @@
 use Rattle.std.proofs.Common.{List, ℕ}
+use Rattle.netlink_packet_core.specs.FramePassing.{PassesFrames}
 use Rattle.netlink_tree.specs.FrameSteps.{unread_frames}
-use Rattle.netlink_frame.proofs.Datagrams.{PassesFrames}
 use Rattle.netlink_frame.proofs.frames.last_fault.Given as goal
 
 -- some frames are passed

@@ -1,7 +1,7 @@
 use Rattle.std.proofs.Common.{[], ◌∷◌, ◌++◌, rules}
+use Rattle.netlink_packet_core.specs.Passing.{passes_none, passes_push, passes_ends, passes_faults}
 use Rattle.netlink_packet_core.specs.Steps.{unread}
 use Rattle.netlink_packet_core.specs.Views.{attribute_of}
-use Rattle.netlink_frame.proofs.Attributes.{passes_none, passes_push, passes_ends, passes_faults}
 use Rattle.netlink_frame.proofs.nlas.walked_fault.Goals as goal
 
 pub loop-item-init : goal.loop-item-init
