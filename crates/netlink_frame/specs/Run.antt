@@ -5,7 +5,7 @@ use Rattle.netlink_packet_core.specs.Attribute.{Attribute}
 use Rattle.netlink_packet_core.specs.Block.{canonical_block}
 use Rattle.netlink_packet_core.specs.DecodeError.{DecodeError}
 use Rattle.netlink_packet_core.specs.DecodeError.TheVariants.{OutOfMemory}
-use Rattle.netlink_packet_core.specs.Causes.{cause_text}
+use Rattle.netlink_packet_core.specs.Causes.{SameCause, cause_text}
 use Rattle.netlink_packet_core.specs.Canonical.{Fits, IsNormalizeFault, canonical_frame}
 use Rattle.netlink_packet_core.specs.Frame.{Frame}
 use Rattle.netlink_packet_core.specs.Refusal.{IsRefusal, SameRefusal}
@@ -49,6 +49,13 @@ abbrev pub Answers : {A : Type 0} → Command → List ℕ → Option (List ℕ)
 Answers command input old new (Ok done) = Wrote command input old new None
 Answers command input old new (Err (Decode e)) = e ≢ OutOfMemory → Wrote command input old new (Some e)
 Answers command input old new (Err fault) = Unit {0}
+
+-- two faults of runs that nobody can tell apart
+abbrev pub IsSameFault : Fault → Fault → Type 0
+IsSameFault Read Read = Unit {0}
+IsSameFault Write Write = Unit {0}
+IsSameFault (Decode a) (Decode b) = SameCause a b
+IsSameFault _ _ = ⊥
 
 -- a fault before anything was written
 abbrev pub IsEarly : Fault → Type 0

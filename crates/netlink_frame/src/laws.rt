@@ -1,12 +1,14 @@
 //! What the program's definitions decide, for those who read its contracts.
 
-ghost use Rattle.std.specs.Prelude.{◌≡◌, ℕ, List, Option};
+ghost use Rattle.std.specs.Prelude.{◌≡◌, ◌↔◌, ℕ, List, Option, IsTrue};
 ghost use Rattle.netlink_packet_core.specs.DecodeError.{DecodeError};
-ghost use Rattle.netlink_frame.specs.Run.{Makes, SameFault};
+ghost use Rattle.netlink_frame.specs.Run.{IsSameFault, Makes, SameFault};
 ghost use Rattle.netlink_frame.specs.declared.command.Command.{Command};
+ghost use Rattle.netlink_frame.specs.declared.run.Fault.{Fault};
 
 use crate::ping_pong::PingPongMessage;
-use netlink_packet_core::laws::{frame_unique, refusal_unique, walk_unique};
+use crate::run::Fault;
+use netlink_packet_core::laws::{causes_equal, frame_unique, refusal_unique, walk_unique};
 use netlink_tree::laws::frames_unique;
 
 /// A command writes one output for an input and ends with one fault, a refusing protocol's own words aside.
@@ -18,4 +20,11 @@ pub fn makes_once()
     refusal_unique::<PingPongMessage>();
     walk_unique();
     frames_unique();
+}
+
+/// Two faults of runs are equal exactly if they are the same variant, and hold equal causes.
+pub fn faults_equal()
+    ensures equal { (a b : Fault) → IsTrue (⟦<Fault as PartialEq>⟧.eq a b) ↔ IsSameFault a b }
+{
+    causes_equal()
 }

@@ -16,7 +16,7 @@ use std::io::{Read, Write};
 use std::{fmt, io};
 
 /// Why a run did not end well.
-#[derive(Debug, Drop)]
+#[derive(Debug, Drop, PartialEq, Eq)]
 pub enum Fault {
     /// The reader failed, or did not end within its bound of calls.
     Read,

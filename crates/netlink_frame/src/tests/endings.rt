@@ -2,6 +2,7 @@
 
 use crate::command::Command;
 use crate::ending::{Ending, asked, ended};
+use crate::laws::faults_equal;
 use crate::run::Fault;
 use crate::tests::messages::PING;
 use netlink_packet_core::DecodeError;
@@ -101,6 +102,11 @@ fn each_ending_has_its_status_and_its_text(rt: HostRuntime) -> Result<(), Fail> 
         assert!(rt; ending.report(&said) == ExitCode::from(status));
         assert_eq!(rt; said.text.into_inner().as_str(), text);
     }
+
+    faults_equal();
+    let refused = Fault::Decode(DecodeError::OutOfMemory);
+    assert!(rt; refused == Fault::Decode(DecodeError::OutOfMemory) && refused != Fault::Read);
+    assert!(rt; Fault::Read == Fault::Read && Fault::Read != Fault::Write);
     Ok(())
 }
 
