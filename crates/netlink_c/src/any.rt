@@ -9,7 +9,7 @@ use crate::protocol_type::ProtocolType;
 use netlink_packet_core::{
     NetlinkDeserializable, NetlinkHeader, NetlinkProtocol, NetlinkSerializable,
 };
-use std::alloc::Global;
+use std::alloc::{AllocError, Global};
 use std::error::Error;
 use std::fmt;
 
@@ -55,6 +55,15 @@ impl NetlinkSerializable for AnyMessage {
 
     fn serialize(&self, buffer: &mut [u8]) {
         buffer.copy_from_slice(&self.bytes);
+    }
+
+    fn append(&self, frame: &mut Vec<u8>) -> Result<(), AllocError> {
+        frame.extend_from_slice(&self.bytes)
+    }
+
+    /// Asks for no memory.
+    fn is_text(&self, _alloc: Global, bytes: &[u8]) -> Result<bool, AllocError> {
+        Ok(bytes == self.bytes.as_slice())
     }
 }
 
