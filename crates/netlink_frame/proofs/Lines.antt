@@ -12,15 +12,13 @@ more_digits (b ∷ bytes) (suc i) less =
     ap (λ (more : List ℕ). hex_digit (b / 16) ∷ (hex_digit (b % 16) ∷ more)) (more_digits bytes i (omega arith))
 
 -- two digits more behind a text and the digits of the bytes so far
-pub two_digits : (front bytes old new newer a b : List ℕ) (i : ℕ) → i < length bytes → old ≡ front ++ hex_digits (take i bytes) → new ≡ old ++ a → newer ≡ new ++ b → a ≡ hex_digit (slice_index bytes i / 16) ∷ [] → b ≡ hex_digit (slice_index bytes i % 16) ∷ [] → newer ≡ front ++ hex_digits (take (i + 1) bytes)
-two_digits front bytes old new newer a b i less so_far first second one two =
+pub two_digits : (front bytes old new pair : List ℕ) (i : ℕ) → i < length bytes → old ≡ front ++ hex_digits (take i bytes) → new ≡ old ++ pair
+    → pair ≡ hex_digit (slice_index bytes i / 16) ∷ (hex_digit (slice_index bytes i % 16) ∷ []) → new ≡ front ++ hex_digits (take (i + 1) bytes)
+two_digits front bytes old new pair i less so_far added is =
     let digits : List ℕ = hex_digits (take i bytes) in
-    let high : List ℕ = hex_digit (slice_index bytes i / 16) ∷ [] in
-    let low : List ℕ = hex_digit (slice_index bytes i % 16) ∷ [] in
-    let added : newer ≡ ((front ++ digits) ++ high) ++ low =
-    second ∙ ap (λ (t : List ℕ). t ++ b) (first ∙ ap (λ (t : List ℕ). t ++ a) so_far ∙ ap (λ (t : List ℕ). (front ++ digits) ++ t) one)
-    ∙ ap (λ (t : List ℕ). ((front ++ digits) ++ high) ++ t) two in
-    rw (add-one, more_digits bytes i less) (added ∙ append_assoc (front ++ digits) high low ∙ append_assoc front digits (high ++ low))
+    let both : List ℕ = hex_digit (slice_index bytes i / 16) ∷ (hex_digit (slice_index bytes i % 16) ∷ []) in
+    rw (add-one, more_digits bytes i less)
+    (added ∙ ap (λ (t : List ℕ). t ++ pair) so_far ∙ ap (λ (t : List ℕ). (front ++ digits) ++ t) is ∙ append_assoc front digits both)
 
 -- the parts of an attribute's line, added one after another
 line_joins : (t0 t1 t2 t3 t4 kind size value : List ℕ) → t1 ≡ t0 ++ kind → t2 ≡ t1 ++ (32 ∷ (size ++ (32 ∷ []))) → t3 ≡ t2 ++ value → t4 ≡ t3 ++ (10 ∷ [])

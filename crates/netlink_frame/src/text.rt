@@ -1,6 +1,6 @@
 //! What the program shows of a message.
 
-ghost use Rattle.std.specs.Prelude.{◌≡◌, ◌<◌, [], ◌∷◌, ◌++◌, IfOk, IfErr, OnOk, codes, string_bytes};
+ghost use Rattle.std.specs.Prelude.{◌≡◌, ◌/◌, ◌%◌, [], ◌∷◌, ◌++◌, IfOk, IfErr, OnOk, codes, string_bytes};
 ghost use Rattle.std.specs.Fmt.{signed_decimal};
 ghost use Rattle.netlink_frame.specs.Lines.{header_lines, hex_digit, hex_digits, message_lines, number_line, payload_words, shown};
 
@@ -124,33 +124,27 @@ pub(crate) fn push_digits(text: &mut String, bytes: &[u8]) -> Result<(), AllocEr
 {
     text.reserve(bytes.len().saturating_mul(2))?;
     for byte in bytes {
-        text.push_str(digit(*byte / 16))?;
-        text.push_str(digit(*byte % 16))?;
+        text.push_str(pair(*byte))?;
     }
     Ok(())
 }
 
-/// A hexadecimal digit.
-fn digit(n: u8) -> &'static str
-    requires { n < 16 }
-    ensures { result.now ≡ hex_digit n ∷ [] }
+/// The two digits of a byte.
+#[inline(always)]
+fn pair(byte: u8) -> &'static str
+    ensures { result.now ≡ hex_digit (byte / 16) ∷ (hex_digit (byte % 16) ∷ []) }
 {
-    match n {
-        0 => "0",
-        1 => "1",
-        2 => "2",
-        3 => "3",
-        4 => "4",
-        5 => "5",
-        6 => "6",
-        7 => "7",
-        8 => "8",
-        9 => "9",
-        10 => "a",
-        11 => "b",
-        12 => "c",
-        13 => "d",
-        14 => "e",
-        _ => "f",
-    }
+    let start = usize::from(byte) * 2;
+    &PAIRS[start..start + 2]
 }
+
+/// The two digits of each byte, one after another.
+const PAIRS: &str = "\
+000102030405060708090a0b0c0d0e0f101112131415161718191a1b1c1d1e1f\
+202122232425262728292a2b2c2d2e2f303132333435363738393a3b3c3d3e3f\
+404142434445464748494a4b4c4d4e4f505152535455565758595a5b5c5d5e5f\
+606162636465666768696a6b6c6d6e6f707172737475767778797a7b7c7d7e7f\
+808182838485868788898a8b8c8d8e8f909192939495969798999a9b9c9d9e9f\
+a0a1a2a3a4a5a6a7a8a9aaabacadaeafb0b1b2b3b4b5b6b7b8b9babbbcbdbebf\
+c0c1c2c3c4c5c6c7c8c9cacbcccdcecfd0d1d2d3d4d5d6d7d8d9dadbdcdddedf\
+e0e1e2e3e4e5e6e7e8e9eaebecedeeeff0f1f2f3f4f5f6f7f8f9fafbfcfdfeff";

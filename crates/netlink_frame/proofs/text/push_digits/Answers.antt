@@ -9,5 +9,5 @@ loop-byte-init c = c.in_ok-reserve.ensures.bytes ∙ sym (append-nil (string_byt
 
 pub loop-byte-preserved : goal.loop-byte-preserved
 loop-byte-preserved c =
-    two_digits (string_bytes c.args.text.now) c.args.bytes.now _ _ _ _ _ c.loop-byte.byte-index (omega arith) c.loop-byte.invariant
-    c.in_ok-push_str.ensures.bytes c.in_ok-push_str-2.ensures.bytes c.digit.ensures c.digit-in-loop-byte.ensures
+    two_digits (string_bytes c.args.text.now) c.args.bytes.now _ _ _ c.loop-byte.byte-index (omega arith) c.loop-byte.invariant
+    c.in_ok-push_str.ensures.bytes c.pair.ensures
