@@ -17,7 +17,25 @@
  * anything. No call allocates, but for the four that say so.
  *
  * Answers: NLP_OK, or one of the answers below, or the number of a cause (1 to 16); a cause's
- * other numbers are then in the struct nlp_fault. On NLP_OK the fault is left as it was.
+ * other numbers are then in the struct nlp_fault. Proved of each call: on NLP_OK (and NLP_END) the
+ * fault is left as it was; on any other answer all else that is to be written is left so, but for the
+ * cursor of a walk and the `*size` of NLP_NO_ROOM.
+ *
+ * For those who know libmnl:
+ *
+ *   mnl_nlmsg_ok, mnl_nlmsg_next         nlp_frames_next
+ *   nlh->nlmsg_type, nlh->nlmsg_flags    nlp_frame_header
+ *   mnl_nlmsg_get_payload                nlp_frame_payload
+ *   mnl_attr_for_each                    nlp_attrs_next, from behind the sub-protocol's struct on
+ *   mnl_attr_for_each_nested             nlp_attrs_next over block + attr.offset, attr.size
+ *   mnl_attr_get_type                    attr.kind & NLP_KIND_MASK
+ *   mnl_attr_get_payload, _payload_len   block + attr.offset, attr.size
+ *   mnl_attr_validate, mnl_attr_get_u32  attr.size == 4, and then nlp_u32(block + attr.offset)
+ *   mnl_attr_get_str                     the bytes of the value, which may lack the zero behind them
+ *   mnl_nlmsg_put_header, _extra_header  nlp_frame_put, and nlp_frame_end once all is put
+ *   mnl_attr_put_check, _u32_check, ..   nlp_attr_put, nlp_attr_put_u32, ..
+ *   mnl_attr_nest_start, _end, _cancel   nlp_nest_begin, nlp_nest_end, the old cursor again
+ *   mnl_cb_run                           the loop below; sequence and port numbers are the caller's to compare
  */
 #ifndef NETLINK_PACKET_H
 #define NETLINK_PACKET_H
@@ -64,9 +82,9 @@ struct nlp_fault {
     size_t wanted;   /* what a length field says or what is wanted, or 0 */
 };
 
-/* A part of the bytes that were given. */
+/* A part of the bytes that this call was given. */
 struct nlp_part {
-    size_t offset; /* from their start */
+    size_t offset; /* from the start of those bytes */
     size_t size;
 };
 
@@ -82,7 +100,7 @@ struct nlp_header {
 /* An attribute of a block. */
 struct nlp_attr {
     uint16_t kind; /* with its flag bits */
-    size_t offset; /* where its value starts, from the start of the block */
+    size_t offset; /* where its value starts, from the start of the block (not from the cursor) */
     size_t size;   /* the size of its value */
 };
 
@@ -127,6 +145,22 @@ uint32_t nlp_done_body(const uint8_t *bytes, size_t len, int32_t *code, struct n
 
 /* ---- iterate --------------------------------------------------------------------------------- */
 
+/* A datagram of route netlink, from its frames to the attributes behind a struct ifinfomsg (16 bytes):
+ *
+ *     while (nlp_frames_next(bytes, len, &next, &frame, &fault) == NLP_OK) {
+ *         const uint8_t *message = bytes + frame.offset;
+ *         nlp_frame_header(message, frame.size, &header, &fault);    // NLP_OK, since this is a whole frame
+ *         nlp_frame_payload(message, frame.size, &payload, &fault);  // and so is this
+ *         const uint8_t *body = message + payload.offset;
+ *         if (header.message_type != RTM_NEWLINK || payload.size < 16)
+ *             continue;
+ *         size_t at = 0;
+ *         while (nlp_attrs_next(body + 16, payload.size - 16, &at, &attr, &fault) == NLP_OK)
+ *             use(attr.kind & NLP_KIND_MASK, body + 16 + attr.offset, attr.size);
+ *     }
+ *
+ * Bytes need no alignment. c/examples/addresses.c is such a program whole. */
+
 /* The frame at the cursor of a datagram, which begins at 0: NLP_OK with the frame in `item`, padding
  * left out, and the cursor behind its padding; NLP_END; or NLP_FRAME_SHORT, _CUT or _LENGTH, once, with the
  * cursor at the end.
@@ -137,11 +171,8 @@ uint32_t nlp_frames_next(const uint8_t *bytes, size_t len, size_t *cursor, struc
 
 /* The attribute at the cursor of a block, which begins at 0: NLP_OK with the attribute in `item` and the
  * cursor behind its padding; NLP_END; or NLP_ATTR_SHORT, _CUT or _LENGTH, once, with the cursor at the end.
- * A nest is walked by the same call on its value.
- *
- *     size_t at = 0;
- *     while (nlp_attrs_next(block, len, &at, &attr, &fault) == NLP_OK)
- *         use(attr.kind & NLP_KIND_MASK, block + attr.offset, attr.size);
+ * A nest is walked by the same call on its value. Where all attributes count, look at the answer that
+ * ended the loop: NLP_END, or a fault.
  *
  * Proved: from the cursor on the bytes are that attribute, its padding, and what the new cursor
  * shows; NLP_END exactly where the cursor is at the end or past it; a fault is that of the bytes from the cursor on. */
@@ -222,11 +253,14 @@ uint32_t nlp_frame_normalize(const uint8_t *bytes, size_t len, uint8_t *buffer, 
 /* The text of a cause by its numbers, into the buffer, with no zero behind it: NLP_OK, and it is the first `*size`
  * bytes; NLP_NO_ROOM, and `*size` is what is wanted; NLP_NO_PLACE where the numbers are of no cause, or of one
  * with words of its own (1, 14); or NLP_NO_MEMORY: it allocates the text.
- * Proved: the text is the library's text of that cause; only NLP_OK changes the buffer. */
+ * Proved: the text is the library's text of that cause; NLP_NO_PLACE for all other numbers; only NLP_OK
+ * changes the buffer. */
 uint32_t nlp_fault_text(const struct nlp_fault *fault, uint8_t *buffer, size_t capacity, size_t *size);
 
 /* ---- numbers of values: plain C, not proved ---------------------------------------------------- */
 
+/* The number that the 2, 4 or 8 bytes of a value are, in native order. The size is not looked at: test
+ * attr.size first. */
 static inline uint16_t nlp_u16(const uint8_t *value)
 {
     return (uint16_t)(value[0] | (uint16_t)value[1] << 8);

@@ -1,0 +1,64 @@
+/* The walk of libmnl's rtnl-addr-dump over a dump in files: interface, address and prefix of each address. */
+#include "netlink_packet.h"
+
+#include <stdio.h>
+
+enum { NLMSG_ERROR = 2, NLMSG_DONE = 3, RTM_NEWADDR = 20, IFADDRMSG = 8, IFA_ADDRESS = 1 };
+
+/* One message: what libmnl's callback does with mnl_attr_for_each. */
+static int print_address(const uint8_t *payload, size_t len)
+{
+    if (len < IFADDRMSG)
+        return -1;
+    const uint8_t *block = payload + IFADDRMSG;
+    size_t at = 0;
+    struct nlp_attr attr;
+    struct nlp_fault fault;
+    uint32_t answer;
+    while ((answer = nlp_attrs_next(block, len - IFADDRMSG, &at, &attr, &fault)) == NLP_OK) {
+        if ((attr.kind & NLP_KIND_MASK) != IFA_ADDRESS)
+            continue;
+        printf("%u ", (unsigned)nlp_u32(payload + 4));
+        for (size_t i = 0; i < attr.size; i++)
+            printf("%02x", (unsigned)block[attr.offset + i]);
+        printf("/%u\n", (unsigned)payload[1]);
+    }
+    return answer == NLP_END ? 0 : -1;
+}
+
+/* The frames of a datagram: what mnl_cb_run does. 1 where there is more to come, 0 behind the last, or -1. */
+static int run(const uint8_t *bytes, size_t len)
+{
+    size_t at = 0;
+    struct nlp_part frame, payload;
+    struct nlp_header header;
+    struct nlp_fault fault;
+    uint32_t answer;
+    while ((answer = nlp_frames_next(bytes, len, &at, &frame, &fault)) == NLP_OK) {
+        const uint8_t *message = bytes + frame.offset;
+        nlp_frame_header(message, frame.size, &header, &fault);
+        nlp_frame_payload(message, frame.size, &payload, &fault);
+        if (header.message_type == NLMSG_DONE)
+            return 0;
+        if (header.message_type == NLMSG_ERROR)
+            return -1;
+        if (header.message_type == RTM_NEWADDR && print_address(message + payload.offset, payload.size) != 0)
+            return -1;
+    }
+    return answer == NLP_END ? 1 : -1;
+}
+
+int main(int count, char **names)
+{
+    static uint8_t bytes[1 << 16];
+    int more = 1;
+    for (int i = 1; i < count && more == 1; i++) {
+        FILE *file = fopen(names[i], "rb");
+        if (file == NULL)
+            return 1;
+        size_t len = fread(bytes, 1, sizeof bytes, file);
+        fclose(file);
+        more = run(bytes, len);
+    }
+    return more == 0 ? 0 : 1;
+}

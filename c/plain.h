@@ -1,0 +1,43 @@
+/* What heap.c, the tests and the examples use of C's own headers, for x86-64 Linux: it stands for each of
+ * them where the compiler is the toolchain's clang, which has none. */
+#ifndef PLAIN_H
+#define PLAIN_H
+
+typedef unsigned char uint8_t;
+typedef unsigned short uint16_t;
+typedef unsigned int uint32_t;
+typedef unsigned long uint64_t;
+typedef short int16_t;
+typedef int int32_t;
+typedef long int64_t;
+typedef unsigned long size_t;
+#define SIZE_MAX 0xfffffffffffffffful
+#define PRIu32 "u"
+
+#define bool _Bool
+#define true 1
+#define false 0
+#define NULL ((void *)0)
+
+typedef struct file_of_c FILE;
+extern FILE *stdin, *stdout, *stderr;
+int printf(const char *format, ...);
+int fprintf(FILE *file, const char *format, ...);
+int puts(const char *text);
+void perror(const char *text);
+char *fgets(char *line, int size, FILE *file);
+FILE *fopen(const char *name, const char *mode);
+int fclose(FILE *file);
+size_t fread(void *bytes, size_t size, size_t count, FILE *file);
+size_t fwrite(const void *bytes, size_t size, size_t count, FILE *file);
+
+void *malloc(size_t size);
+void *realloc(void *block, size_t size);
+void free(void *block);
+
+int memcmp(const void *left, const void *right, size_t size);
+void *memcpy(void *to, const void *from, size_t size);
+void *memset(void *bytes, int value, size_t size);
+size_t strlen(const char *text);
+
+#endif
