@@ -2,12 +2,12 @@
 
 ghost use Rattle.std.proofs.Common.{rules};
 ghost use Rattle.std.proofs.lemmas.Grind.{common_steps};
-ghost use Rattle.std.specs.Prelude.{◌≡◌, IfErr, IfOk, Some, refl};
+ghost use Rattle.std.specs.Prelude.{◌≡◌, Some, refl};
 ghost use Rattle.netlink_c.specs.Any.{any_decoding, any_encoding, error_text, wants_memory};
 
 use crate::protocol_type::ProtocolType;
 use netlink_packet_core::{
-    NetlinkDeserializable, NetlinkHeader, NetlinkProtocol, NetlinkSerializable,
+    NetlinkDeserializable, NetlinkHeader, NetlinkProtocol, NetlinkSerializable, copy_of,
 };
 use std::alloc::{AllocError, Global};
 use std::error::Error;
@@ -41,6 +41,17 @@ impl fmt::Display for AnyError {
 }
 
 impl Error for AnyError {}
+
+impl From<AllocError> for AnyError {
+    ghost use Rattle.netlink_c.specs.declared.any.AnyError.TheVariants.{OutOfMemory};
+
+    ghost from_gives = { λ _ e. e ≡ OutOfMemory };
+
+    /// `OutOfMemory`, so that `?` hands on a refused request for memory.
+    fn from(_refused: AllocError) -> Self {
+        Self::OutOfMemory
+    }
+}
 
 impl NetlinkSerializable for AnyMessage {
     ghost encoding = { any_encoding };
@@ -83,7 +94,7 @@ impl NetlinkDeserializable for AnyMessage {
         let Some(kind) = ProtocolType::new(header.message_type) else {
             return Err(AnyError::BelowLeastType);
         };
-        let bytes = copied(alloc, payload)?;
+        let bytes = copy_of(alloc, payload)?;
         Ok(AnyMessage { kind, bytes })
     }
 
@@ -104,18 +115,4 @@ impl NetlinkProtocol for AnyMessage {
     ghost value_is_lawful = { Prim.search (rules, common_steps) };
 
     ghost reading_is_lawful = { Prim.search (rules, common_steps) };
-}
-
-/// A copy of the bytes, of their exact size. An empty input asks for no memory.
-fn copied(alloc: Global, bytes: &[u8]) -> Result<Vec<u8>, AnyError>
-    ensures ok { IfOk result (λ copy. copy.items ≡ bytes.now) }
-    ensures memory { IfErr result (λ e. e ≡ AnyError.OutOfMemory) }
-{
-    if bytes.is_empty() {
-        return Ok(Vec::new(alloc));
-    }
-    match Vec::from_slice(alloc, bytes) {
-        Ok(copy) => Ok(copy),
-        Err(_) => Err(AnyError::OutOfMemory),
-    }
 }

@@ -15,7 +15,7 @@ ghost use Rattle.netlink_c.specs.Ends.{begun_size, frame_text};
 use crate::answers::{NO_PLACE, NO_ROOM, OK, TOO_LONG};
 use crate::frame::HeaderFields;
 use netlink_packet_core::{
-    Emitable, NETLINK_HEADER_LEN, NLA_HEADER_SIZE, NetlinkHeader, emit_u16, emit_u32, nla_align,
+    Emitable, NETLINK_HEADER_LEN, NLA_HEADER_SIZE, NetlinkHeader, nla_align, put_u16, put_u32,
 };
 
 /// Ends a nest: the bytes from behind the header at `start` up to the cursor become its value.
@@ -41,7 +41,7 @@ pub extern "C" fn nlp_nest_end(buffer: &mut [u8], cursor: usize, start: usize) -
     if size > u16::MAX as usize {
         return TOO_LONG;
     }
-    put_u16_at(buffer, start, size as u16);
+    put_u16(buffer, start, size as u16);
     OK
 }
 
@@ -110,7 +110,7 @@ pub extern "C" fn nlp_frame_end(buffer: &mut [u8], cursor: usize, start: usize) 
     if size > u32::MAX as usize {
         return TOO_LONG;
     }
-    put_u32_at(buffer, start, size as u32);
+    put_u32(buffer, start, size as u32);
     OK
 }
 
@@ -120,22 +120,6 @@ fn is_stretch(room: usize, start: usize, cursor: usize, least: usize) -> bool
     ensures { IsTrue result ↔ IsStretch room start cursor least }
 {
     start <= cursor && cursor <= room && cursor - start >= least && (cursor - start) % 4 == 0
-}
-
-/// Writes a number of 2 bytes at a place.
-fn put_u16_at(buffer: &mut [u8], at: usize, value: u16)
-    requires room { at + 2 ≤ length buffer.old }
-    ensures { buffer.new ≡ put_at buffer.old at (text_le value 2) }
-{
-    let _written = emit_u16(&mut buffer[at..at + 2], value);
-}
-
-/// Writes a number of 4 bytes at a place.
-fn put_u32_at(buffer: &mut [u8], at: usize, value: u32)
-    requires room { at + 4 ≤ length buffer.old }
-    ensures { buffer.new ≡ put_at buffer.old at (text_le value 4) }
-{
-    let _written = emit_u32(&mut buffer[at..at + 4], value);
 }
 
 /// Writes a frame of this size with its padding at a place.

@@ -9,5 +9,5 @@ pub returns-clause-reads_back : goal.returns-clause-reads_back
 returns-clause-reads_back c = λ _.
     let stretch : IsStretch (length c.args.buffer.now) c.args.start c.args.cursor 16 = search rules in
     let small : c.args.cursor - c.args.start < 2 ^ 32 = search rules in
-    let written : c.put_u32_at.new.buffer ≡ put_at c.args.buffer.now c.args.start (text_le (c.args.cursor - c.args.start) 4) = search rules in
-    end_reads_back c.args.buffer.now c.put_u32_at.new.buffer c.args.start c.args.cursor stretch small written
+    let written : c.put_u32.new.bytes ≡ put_at c.args.buffer.now c.args.start (text_le (c.args.cursor - c.args.start) 4) = search rules in
+    end_reads_back c.args.buffer.now c.put_u32.new.bytes c.args.start c.args.cursor stretch small written
