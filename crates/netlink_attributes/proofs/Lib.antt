@@ -5,6 +5,7 @@ pub mod Older
 pub mod Normalizing
 pub mod Placing
 pub mod Replacing
+pub mod Sizing
 pub mod Values
 pub mod Walking
 pub mod Writing

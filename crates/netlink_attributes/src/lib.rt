@@ -8,6 +8,7 @@ mod canonical;
 mod constants;
 mod default;
 mod find;
+mod fitting;
 mod iterator;
 pub mod laws;
 mod nla;
@@ -25,6 +26,7 @@ pub use crate::constants::{
 };
 pub use crate::default::DefaultNla;
 pub use crate::find::{nla_find, nla_find_raw};
+pub use crate::fitting::{NLA_BLOCK_MAX, NlaBlock};
 pub use crate::iterator::NlasIterator;
 pub use crate::nla::{Nla, emit_nla, nla_buffer_len, nla_fits};
 pub use crate::nlas::{Nlas, write_nlas};

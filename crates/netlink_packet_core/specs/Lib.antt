@@ -28,6 +28,7 @@ pub use Rattle.netlink_attributes.specs.Steps
 pub use Rattle.netlink_attributes.specs.Views
 pub use Rattle.netlink_attributes.specs.Walk
 pub use Rattle.netlink_attributes.specs.WalkLaws
+pub use Rattle.netlink_attributes.specs.declared.fitting.NlaBlock
 pub use Rattle.netlink_bytes.specs.Causes
 pub use Rattle.netlink_bytes.specs.Contexts
 pub use Rattle.netlink_bytes.specs.Fields

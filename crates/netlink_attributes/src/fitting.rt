@@ -1,0 +1,119 @@
+//! Attributes that fit a message.
+
+ghost use Rattle.std.specs.Prelude.{◌≡◌, ◌↔◌, ◌⊎◌, ◌∷◌, ◌++◌, ◌≤◌, [], All, Err, IfErr, IfSome, IsSome, true, IsErr, IfOk, length};
+ghost use Rattle.std.specs.Cmp.{on_equiv, on_per};
+ghost use Rattle.std.specs.Cmp.Lexicographic.{lists_equiv, lists_per, pointwise};
+ghost use Rattle.netlink_bytes.specs.declared.error.DecodeError.{DecodeError};
+ghost use Rattle.netlink_attributes.specs.Attribute.{FitsAttribute};
+ghost use Rattle.netlink_attributes.specs.Block.{canonical_block};
+ghost use Rattle.netlink_attributes.specs.Nla.{attributes_of, FitBlock};
+
+use crate::nla::{Nla, nla_buffer_len, nla_fits};
+use crate::nlas::Nlas;
+use netlink_bytes::{DecodeError, Emitable};
+
+/// The most bytes of a block that fits a message: 4095 below what a length of 32 bits can say, which
+/// leaves room for the message's header and for a fixed header of the protocol's own.
+pub const NLA_BLOCK_MAX: usize = 4294963200;
+
+/// Attributes that fit a message: each value has at most 65531 bytes, and as a block they have at
+/// most `NLA_BLOCK_MAX`. So a message that holds them can be written, whatever it holds.
+#[derive(Debug, Drop)]
+pub struct NlaBlock<T: Nla> {
+    /// The attributes in order.
+    pub list: Vec<T>,
+    /// The size of the block in bytes.
+    pub size: usize,
+    pub ghost each: { All FitsAttribute (attributes_of T.kind_of T.value_of list.items) },
+    pub ghost counted: { size ≡ length (canonical_block (attributes_of T.kind_of T.value_of list.items)) },
+    pub ghost whole: { size ≤ 4294963200 },
+}
+
+impl<T: Nla + Drop> NlaBlock<T> {
+    /// The block of these attributes; none where a value has more than 65531 bytes, or they all more
+    /// than `NLA_BLOCK_MAX`. Asks for no memory.
+    pub fn new(list: Vec<T>) -> Option<Self>
+        ensures fits { IsSome result ↔ FitBlock T.kind_of T.value_of list.items }
+        ensures list { IfSome result (λ block. block.list ≡ list) }
+    {
+        match block_size(list.as_slice()) {
+            Some(size) => Some(NlaBlock { list, size }),
+            None => None,
+        }
+    }
+
+    /// Adds an attribute behind the others. One whose value has more than 65531 bytes, or with which
+    /// the block would have more than `NLA_BLOCK_MAX`, is refused with C15, whatever memory there
+    /// is; C16 says that a request for memory was refused. The block is then as it was, and the
+    /// attribute is given up.
+    pub fn push(&mut self, nla: T) -> Result<(), DecodeError>
+        ensures ok { IfOk result (λ _. self.new.list.items ≡ self.old.list.items ++ (nla ∷ [])) }
+        ensures too_long { (FitBlock T.kind_of T.value_of (self.old.list.items ++ (nla ∷ [])) → ⊥) → result ≡ Err DecodeError.TooLong }
+        ensures memory { FitBlock T.kind_of T.value_of (self.old.list.items ++ (nla ∷ [])) → IfErr result (λ e. e ≡ DecodeError.OutOfMemory) }
+        ensures unchanged { IfErr result (λ _. self.new.list.items ≡ self.old.list.items) }
+    {
+        if !nla_fits(&nla) {
+            return Err(DecodeError::TooLong);
+        }
+        let more = nla_buffer_len(&nla);
+        if more > NLA_BLOCK_MAX - self.size {
+            return Err(DecodeError::TooLong);
+        }
+        let _width = nla.kind();
+        self.list.push(nla)?;
+        self.size += more;
+        Ok(())
+    }
+}
+
+impl<T: Nla> Emitable for NlaBlock<T> {
+    ghost text = { λ block. canonical_block (attributes_of T.kind_of T.value_of block.list.items) };
+
+    ghost can_emit = { λ _. Unit {0} };
+
+    ghost takes_longer = { true };
+
+    fn buffer_len(&self) -> usize {
+        self.size
+    }
+
+    /// Writes the block at the start of the buffer, and leaves the rest. The buffer has at least
+    /// `buffer_len` bytes.
+    fn emit(&self, buffer: &mut [u8]) {
+        Nlas(self.list.as_slice()).emit(buffer);
+    }
+}
+
+impl<T: Nla + PartialEq> PartialEq for NlaBlock<T> {
+    ghost eq = { λ a b. pointwise T.eq a.list.items b.list.items };
+
+    ghost laws = { on_per (λ block. block.list.items) (lists_per T.PartialEq.laws) };
+
+    fn eq(&self, other: &Self) -> bool {
+        self.list.as_slice() == other.list.as_slice()
+    }
+}
+
+impl<T: Nla + Eq> Eq for NlaBlock<T> {
+    ghost laws = { on_equiv (λ block. block.list.items) (lists_equiv T.Eq.laws) };
+}
+
+/// The size of the block that is written of attributes, where they fit.
+fn block_size<T: Nla>(list: &[T]) -> Option<usize>
+    ensures some { IfSome result (λ size. size ≡ length (canonical_block (attributes_of T.kind_of T.value_of list.now))) }
+    ensures fits { IsSome result ↔ FitBlock T.kind_of T.value_of list.now }
+    ensures each { IfSome result (λ _. All FitsAttribute (attributes_of T.kind_of T.value_of list.now)) }
+{
+    let mut size = 0;
+    for nla in list {
+        let _width = nla.kind();
+        if !nla_fits(nla) {
+            return None;
+        }
+        size += nla_buffer_len(nla);
+        if size > NLA_BLOCK_MAX {
+            return None;
+        }
+    }
+    Some(size)
+}
