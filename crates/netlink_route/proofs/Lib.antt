@@ -1,0 +1,4 @@
+pub mod Headers
+pub mod Reading
+pub mod Sizes
+pub mod Texts

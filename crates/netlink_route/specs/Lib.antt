@@ -1,0 +1,12 @@
+pub mod Error
+pub mod Family
+pub mod Held
+pub mod Link
+pub mod LinkHeader
+pub mod LinkLaws
+pub mod LinkTable
+pub mod Message
+pub mod MessageLaws
+pub mod Typed
+pub mod TypedLaws
+pub mod Value

@@ -1,0 +1,51 @@
+-- The attributes of a link, and the header in front of them.
+use Rattle.std.specs.Prelude.{ℕ, List, [], ◌∷◌, ◌++◌, string_bytes}
+use Rattle.netlink_packet_core.specs.Attribute.{Attribute}
+use Rattle.netlink_packet_core.specs.Nla.{attribute_with}
+use Rattle.netlink_packet_core.specs.Numbers.{text_le}
+use Rattle.netlink_route.specs.LinkTable.{link_row}
+use Rattle.netlink_route.specs.Typed.{ValueReading}
+use Rattle.netlink_route.specs.Value.{reading_by}
+use Rattle.netlink_route.specs.declared.link.LinkAttribute.{LinkAttribute}
+use Rattle.netlink_route.specs.declared.link.LinkAttribute.TheVariants.{Address, Broadcast, IfName, Mtu, Link, Qdisc, Master, TxQueueLen, OperState, IfAlias, Group, ExtMask, Carrier, Other}
+
+-- the kind of an attribute
+abbrev pub kind_of : LinkAttribute → ℕ
+kind_of (Address bytes) = 1
+kind_of (Broadcast bytes) = 2
+kind_of (IfName name) = 3
+kind_of (Mtu number) = 4
+kind_of (Link number) = 5
+kind_of (Qdisc name) = 6
+kind_of (Master number) = 10
+kind_of (TxQueueLen number) = 13
+kind_of (OperState byte) = 16
+kind_of (IfAlias name) = 20
+kind_of (Group number) = 27
+kind_of (ExtMask number) = 29
+kind_of (Carrier byte) = 33
+kind_of (Other other) = other.kind
+
+-- its value
+abbrev pub value_of : LinkAttribute → List ℕ
+value_of (Address bytes) = bytes.items
+value_of (Broadcast bytes) = bytes.items
+value_of (IfName name) = string_bytes name.text ++ (0 ∷ [])
+value_of (Mtu number) = text_le number 4
+value_of (Link number) = text_le number 4
+value_of (Qdisc name) = string_bytes name.text ++ (0 ∷ [])
+value_of (Master number) = text_le number 4
+value_of (TxQueueLen number) = text_le number 4
+value_of (OperState byte) = byte ∷ []
+value_of (IfAlias name) = string_bytes name.text ++ (0 ∷ [])
+value_of (Group number) = text_le number 4
+value_of (ExtMask number) = text_le number 4
+value_of (Carrier byte) = byte ∷ []
+value_of (Other other) = other.value.items
+
+abbrev pub link_attribute : LinkAttribute → Attribute
+link_attribute a = attribute_with (kind_of a) (value_of a)
+
+-- how the value of a kind is read
+abbrev pub link_values : ValueReading
+link_values = reading_by link_row

@@ -1,0 +1,46 @@
+-- The messages of route netlink (linux/rtnetlink.h).
+use Rattle.std.specs.Prelude.{ℕ, ◌==◌, Bool, List, ◌++◌, slice_index, Option, None, if◌then◌else◌}
+use Rattle.netlink_packet_core.specs.Attribute.{Attribute}
+use Rattle.netlink_packet_core.specs.Block.{canonical_block}
+use Rattle.netlink_packet_core.specs.Nla.{attributes_of}
+use Rattle.netlink_packet_core.specs.Protocol.{Encoding, Decoding}
+use Rattle.netlink_packet_core.specs.declared.header.NetlinkHeader.{NetlinkHeader}
+use Rattle.netlink_route.specs.Family.{Family, family_reading}
+use Rattle.netlink_route.specs.Link as link
+use Rattle.netlink_route.specs.LinkHeader as link_header
+use Rattle.netlink_route.specs.declared.message.LinkMessage.{LinkMessage}
+use Rattle.netlink_route.specs.declared.message.RouteMessage.{RouteMessage}
+use Rattle.netlink_route.specs.declared.message.RouteMessage.TheVariants.{Link}
+
+-- links: 16 bytes, the second of which is zero
+abbrev pub links : Family
+links = record { size = 16; is_header = λ head. slice_index head 1 == 0; values = link.link_values }
+
+-- the attributes of a link
+abbrev pub link_attributes : LinkMessage → List Attribute
+link_attributes m = attributes_of link.kind_of link.value_of m.attributes.list.items
+
+abbrev pub link_text : LinkMessage → List ℕ
+link_text m = link_header.header_text m.header ++ canonical_block (link_attributes m)
+
+abbrev pub route_type : RouteMessage → ℕ
+route_type (Link verb m) = link_header.verb_type verb
+
+abbrev pub route_text : RouteMessage → List ℕ
+route_text (Link verb m) = link_text m
+
+-- numbers of headers fit their fields
+abbrev pub route_in_range : RouteMessage → Bool
+route_in_range (Link verb m) = link_header.header_fits m.header
+
+-- what a payload is written as, by its message type
+abbrev pub route_reading : NetlinkHeader → List ℕ → Option (ℕ × List ℕ)
+route_reading h payload =
+    if link_header.is_link_type h.message_type then family_reading links h.message_type payload
+    else None
+
+abbrev pub route_encoding : Encoding RouteMessage
+route_encoding = record { type_of = route_type; text_of = route_text }
+
+abbrev pub route_decoding : Decoding RouteMessage
+route_decoding = record { reading = route_reading; stands_for = λ m. (route_type m, route_text m); in_range = route_in_range }

@@ -1,0 +1,21 @@
+//! Messages about links.
+
+use crate::link::LinkAttribute;
+use crate::link_header::{LinkHeader, LinkVerb};
+use netlink_packet_core::NlaBlock;
+
+/// What a message says of a link: `struct ifinfomsg`, and the attributes behind it.
+#[derive(Debug, Drop, PartialEq, Eq)]
+pub struct LinkMessage {
+    /// The numbers in front.
+    pub header: LinkHeader,
+    /// The attributes.
+    pub attributes: NlaBlock<LinkAttribute>,
+}
+
+/// A message of route netlink.
+#[derive(Debug, Drop, PartialEq, Eq)]
+pub enum RouteMessage {
+    /// A message about a link: what is done, which is the message type, and the link.
+    Link(LinkVerb, LinkMessage),
+}

@@ -1,0 +1,154 @@
+//! Route netlink as a protocol.
+
+ghost use Rattle.std.specs.Prelude.{◌≡◌, ◌↔◌, false, length, ℕ, IfErr, IfOk, IfSome, IsSome, IsTrue, None, Some, refl};
+ghost use Rattle.netlink_route.specs.Error.{wants_memory};
+ghost use Rattle.netlink_route.specs.Family.{family_reading};
+ghost use Rattle.netlink_route.specs.LinkHeader.{header_fits, is_link_type, verb_type};
+ghost use Rattle.netlink_route.specs.MessageLaws.{equal_pairs, reading_is_lawful, value_is_lawful};
+ghost use Rattle.netlink_route.specs.Message.{link_text, links, route_decoding, route_encoding};
+
+use crate::error::RouteError;
+use crate::link_header::{
+    LINK_HEADER_LEN, LinkHeader, LinkVerb, read_link_header, write_link_header,
+};
+use crate::message::{LinkMessage, RouteMessage};
+use crate::typed::read_block;
+use netlink_packet_core::{
+    Emitable, NetlinkDeserializable, NetlinkHeader, NetlinkProtocol, NetlinkSerializable,
+};
+use std::alloc::Global;
+
+impl LinkVerb {
+    /// The message type.
+    pub(crate) fn message_type(self) -> u16
+        ensures { result ≡ verb_type self }
+    {
+        match self {
+            LinkVerb::New => 16,
+            LinkVerb::Del => 17,
+            LinkVerb::Get => 18,
+            LinkVerb::Set => 19,
+        }
+    }
+
+    /// What a message type does with a link; none of another type.
+    pub(crate) fn of_type(message_type: u16) -> Option<Self>
+        ensures some { IfSome result (λ verb. verb_type verb ≡ message_type) }
+        ensures link { IsSome result ↔ IsTrue (is_link_type message_type) }
+    {
+        match message_type {
+            16 => Some(LinkVerb::New),
+            17 => Some(LinkVerb::Del),
+            18 => Some(LinkVerb::Get),
+            19 => Some(LinkVerb::Set),
+            _ => None,
+        }
+    }
+}
+
+impl LinkMessage {
+    /// The size of the message as it is written.
+    #[tactic(auto, using(crate::proofs::Headers::link_sizes))]
+    fn size(&self) -> usize
+        ensures { result ≡ length (link_text self.now) }
+    {
+        LINK_HEADER_LEN + self.attributes.buffer_len()
+    }
+
+    /// Fills the buffer, which has exactly that size, with the message.
+    #[tactic(auto, using(crate::proofs::Headers::link_sizes))]
+    fn write(&self, buffer: &mut [u8])
+        requires { length buffer.old ≡ length (link_text self.now) }
+        ensures { buffer.new ≡ link_text self.now }
+    {
+        let (header, block) = buffer.split_at_mut(LINK_HEADER_LEN);
+        write_link_header(&self.header, header);
+        self.attributes.emit(block);
+    }
+
+    /// The message in a payload.
+    fn read(alloc: Global, payload: &[u8]) -> Result<Self, RouteError>
+        ensures fits { IfOk result (λ m. IsTrue (header_fits m.header)) }
+        ensures reads { IfOk result (λ m. (t : ℕ) → family_reading links t payload.now ≡ Some (t, link_text m)) }
+        ensures refuses { IfErr result (λ e. wants_memory e ≡ false → (t : ℕ) → family_reading links t payload.now ≡ None) }
+    {
+        if payload.len() < LINK_HEADER_LEN {
+            return Err(RouteError::HeaderShort {
+                expected: LINK_HEADER_LEN,
+                received: payload.len(),
+            });
+        }
+        let (front, block) = payload.split_at(LINK_HEADER_LEN);
+        if front[1] != 0 {
+            return Err(RouteError::PaddingNotZero);
+        }
+        let attributes = read_block(alloc, block)?;
+        Ok(LinkMessage {
+            header: read_link_header(front),
+            attributes,
+        })
+    }
+}
+
+impl NetlinkSerializable for RouteMessage {
+    ghost encoding = { route_encoding };
+
+    fn message_type(&self) -> u16 {
+        match self {
+            RouteMessage::Link(verb, _) => verb.message_type(),
+        }
+    }
+
+    fn buffer_len(&self) -> usize {
+        match self {
+            RouteMessage::Link(_, message) => message.size(),
+        }
+    }
+
+    fn serialize(&self, buffer: &mut [u8]) {
+        match self {
+            RouteMessage::Link(_, message) => message.write(buffer),
+        }
+    }
+}
+
+impl NetlinkDeserializable for RouteMessage {
+    type Error = RouteError;
+
+    ghost decoding = { route_decoding };
+
+    ghost wants_memory = { wants_memory };
+
+    fn deserialize(
+        alloc: Global,
+        header: &NetlinkHeader,
+        payload: &[u8],
+    ) -> Result<Self, RouteError> {
+        if let Some(verb) = LinkVerb::of_type(header.message_type) {
+            return Ok(RouteMessage::Link(verb, LinkMessage::read(alloc, payload)?));
+        }
+        Err(RouteError::UnknownType {
+            message_type: header.message_type,
+        })
+    }
+
+    fn is_out_of_memory(error: &RouteError) -> bool {
+        matches!(error, RouteError::OutOfMemory)
+    }
+}
+
+impl NetlinkProtocol for RouteMessage {
+    fn in_widths(&self) {
+        match self {
+            RouteMessage::Link(_, message) => message.header.in_widths(),
+        }
+    }
+
+    ghost own_pair = { λ m. refl };
+
+    ghost equal_pairs = { equal_pairs };
+
+    ghost value_is_lawful = { λ v _. value_is_lawful v };
+
+    ghost reading_is_lawful = { reading_is_lawful };
+}
