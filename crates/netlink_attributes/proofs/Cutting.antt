@@ -152,7 +152,8 @@ only_fault at fault cut start (inr (some, is, before)) = is
 
 -- ---- the walk of the cut bytes
 
--- it has the attributes that end by the cut, and a fault exactly where the cut falls inside an attribute or past the start of a fault
+-- it has the attributes that end by the cut, and a fault exactly where the cut falls inside an
+-- attribute or past the start of a fault
 abbrev pub IsLeft : ℕ → List ℕ → List Attribute → Option DecodeError → ℕ → Option DecodeError → Type 0
 IsLeft at bytes all fault cut end =
     Walk (take (cut - at) bytes) (kept_from at cut all) end

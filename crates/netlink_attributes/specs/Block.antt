@@ -1,4 +1,5 @@
--- Blocks of attributes: the one that is written of a list, and a grammar of its own for what is canonical.
+-- Blocks of attributes: the one that is written of a list, and a grammar of its own for what is
+-- canonical.
 use Rattle.std.specs.Prelude.{ℕ, ◌≡◌, List, [], ◌∷◌, ◌++◌, length, replicate}
 use Rattle.netlink_attributes.specs.Attribute.{Attribute, FitsAttribute, attribute_text, padded, padding}
 

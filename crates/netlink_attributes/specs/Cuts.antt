@@ -23,7 +23,8 @@ fault_start_from at (a ∷ more) = fault_start_from (at + padded_size a) more
 abbrev pub fault_start : List Attribute → ℕ
 fault_start all = fault_start_from 0 all
 
--- the cut falls inside the attribute that starts here, or past the start of the fault, which is here
+-- the cut falls inside the attribute that starts here, or past the start of the fault, which is
+-- here
 abbrev pub IsCutAt : List Attribute → Option DecodeError → ℕ → ℕ → Type 0
 IsCutAt all fault cut start =
     ((index : ℕ) × (end : ℕ) × (slice_get (ends_of all) index ≡ Some (start, end)) × (start < cut) × (cut < end))

@@ -1,4 +1,5 @@
--- The fields of an attribute's bytes: by item, in a text, and as the text of what the bytes begin with.
+-- The fields of an attribute's bytes: by item, in a text, and as the text of what the bytes begin
+-- with.
 use Rattle.std.proofs.Common.{◌≡◌, ℕ, ◌+◌, ◌-◌, ◌*◌, ◌<◌, ◌≤◌, ◌^◌, List, [], ◌∷◌, ◌++◌, length, get_or, take, drop, refl, ap, sym, ◌∙◌, arith, append_assoc, length-drop}
 use Rattle.std.proofs.lemmas.List.{take-append-drop, length-take, take_at, drop-drop}
 use Rattle.netlink_bytes.specs.Numbers.{IsBytes, number_le, text_le}

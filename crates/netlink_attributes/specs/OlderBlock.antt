@@ -1,4 +1,5 @@
--- What was written, and what was canonical, while an attribute with both flag bits lost the one for byte order.
+-- What was written, and what was canonical, while an attribute with both flag bits lost the one for
+-- byte order.
 use Rattle.std.specs.Prelude.{ℕ, ◌≡◌, ◌+◌, ◌-◌, ◌<◌, ◌^◌, List, [], ◌∷◌, ◌++◌, length, replicate, if◌then◌else◌, nat_le}
 use Rattle.netlink_attributes.specs.Attribute.{Attribute, FitsAttribute, attribute_text, padded, padding}
 use Rattle.netlink_attributes.specs.Nla.{attribute_with}
@@ -15,7 +16,8 @@ abbrev pub older_canonical_block : List Attribute → List ℕ
 older_canonical_block [] = []
 older_canonical_block (a ∷ more) = padded (attribute_with (older_written_kind a.kind) a.value) ++ older_canonical_block more
 
--- the bytes are these attributes, none with both flag bits, each with the whole of its padding, of zeros
+-- the bytes are these attributes, none with both flag bits, each with the whole of its padding, of
+-- zeros
 abbrev pub IsOlderBlockOf : List ℕ → List Attribute → Type 0
 IsOlderBlockOf bytes [] = bytes ≡ []
 IsOlderBlockOf bytes (a ∷ more) =

@@ -26,7 +26,8 @@ value_place all index = option_map value_part (slice_get (ends_of all) index)
 abbrev pub IsPlace : List ℕ → ℕ → Option (ℕ × ℕ) → Type 0
 IsPlace bytes index place = (all : List Attribute) (fault : Option DecodeError) → Walk bytes all fault → place ≡ value_place all index
 
--- that place by two numbers: it is from start up to end, or there is none where the start is behind the end
+-- that place by two numbers: it is from start up to end, or there is none where the start is behind
+-- the end
 abbrev pub IsRange : List ℕ → ℕ → ℕ → ℕ → Type 0
 IsRange bytes index start end = IsPlace bytes index (if nat_le start end then Some (start, end) else None)
 

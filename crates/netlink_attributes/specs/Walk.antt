@@ -15,8 +15,8 @@ IsFault bytes (NlaLengthMismatch size said) = (4 ≤ length bytes) × (length by
 IsFault bytes (NlaInvalidLength least said) = (4 ≤ length bytes) × (length_field bytes < 4) × (least ≡ 4) × (said ≡ length_field bytes)
 IsFault bytes _ = ⊥
 
--- The bytes are the attribute, its padding and then the rest. Padding may be anything, and it may be
--- missing only where the bytes end within it.
+-- The bytes are the attribute, its padding and then the rest. Padding may be anything, and it may
+-- be missing only where the bytes end within it.
 pub record Starts (bytes : List ℕ) (a : Attribute) (rest : List ℕ) : Type 0 where
   pub fits : FitsAttribute a
   pub gap : List ℕ
@@ -31,7 +31,8 @@ Walk = WalksAs Starts IsFault
 abbrev pub Item : Type 0
 Item = Result (NlaBuffer (Bor (List ℕ))) DecodeError
 
--- one step of a walk at these bytes, and what is then still to be walked; a view may be asked for its value
+-- one step of a walk at these bytes, and what is then still to be walked; a view may be asked for
+-- its value
 abbrev pub Gives : List ℕ → Option Item → List ℕ → Type 0
 Gives bytes None rest = (bytes ≡ []) × (rest ≡ [])
 Gives bytes (Some (Err fault)) rest = (bytes ≢ []) × IsFault bytes fault × (rest ≡ [])

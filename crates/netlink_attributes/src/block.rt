@@ -15,11 +15,13 @@ use crate::iterator::NlasIterator;
 use netlink_bytes::{DecodeError, copy_of};
 use std::alloc::{AllocError, Global};
 
-/// The canonical block of bytes: the attributes that they walk as, each with its kind as it is and with its padding of zeros.
+/// The canonical block of bytes: the attributes that they walk as, each with its kind as it is and
+/// with its padding of zeros.
 ///
 /// A canonical block is copied whole. The walk of any other bytes is checked first, so damaged
-/// bytes are answered by the walk's fault (C5, C6 or C7) without a request for memory. Otherwise
-/// there is one request, of the block's size, and none for no bytes; C16 says that it was refused.
+/// bytes are answered by the walk's fault (`NlaBufferTooSmall`, `NlaLengthMismatch` or
+/// `NlaInvalidLength`) without a request for memory. Otherwise there is one request, of the block's
+/// size, and none for no bytes; `OutOfMemory` says that it was refused.
 pub fn normalize_nlas(alloc: Global, bytes: &[u8]) -> Result<Vec<u8>, DecodeError>
     ensures ok { IfOk result (λ v. (all : List Attribute) × Walk bytes.now all None × (v.items ≡ canonical_block all)) }
     ensures err { IfErr result (λ e. (e ≡ DecodeError.OutOfMemory) ⊎ ((all : List Attribute) × Walk bytes.now all (Some e))) }
@@ -103,7 +105,7 @@ fn append_zeros(block: &mut Vec<u8>, count: usize) -> Result<(), AllocError>
 ///
 /// The value has at most 65531 bytes. Where the block has room for the attribute with its padding
 /// the answer is Ok; otherwise its own allocator is asked, and where that refuses the answer is
-/// C16, and the block is as it was.
+/// `OutOfMemory`, and the block is as it was.
 #[tactic(auto, using(crate::specs::Sizes::written_sizes))]
 pub fn append_nla(
     _alloc: Global,

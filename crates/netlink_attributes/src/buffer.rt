@@ -14,8 +14,8 @@ use netlink_bytes::{DecodeError, Storage, StorageMut, put_u16, u16_at};
 
 /// The bytes of an attribute (`struct nlattr` of linux/netlink.h), looked at in place.
 ///
-/// A length of 16 bits, a kind of 16 bits and the value, both numbers in native order, the lowest byte
-/// first. Sizes and lengths are in bytes. No call asks for memory.
+/// A length of 16 bits, a kind of 16 bits and the value, both numbers in native order, the lowest
+/// byte first. Sizes and lengths are in bytes. No call asks for memory.
 #[derive(Clone, Copy, Debug, PartialEq, Eq, Drop)]
 pub struct NlaBuffer<T: Storage> {
     buffer: T,
@@ -42,8 +42,9 @@ impl<T: Storage> NlaBuffer<T> {
         Ok(NlaBuffer { buffer })
     }
 
-    /// Whether the bytes hold a whole attribute, its padding aside. Fewer than 4 bytes are refused with
-    /// C5, a length field above their number with C6, and one below 4 with C7.
+    /// Whether the bytes hold a whole attribute, its padding aside. Fewer than 4 bytes are refused
+    /// with `NlaBufferTooSmall`, a length field above their number with `NlaLengthMismatch`, and
+    /// one below 4 with `NlaInvalidLength`.
     #[inline]
     pub fn check_buffer_length(&self) -> Result<(), DecodeError>
         ensures whole { OnOk result (HoldsAttribute (T.held (storage_of self.now))) }

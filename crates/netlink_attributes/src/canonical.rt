@@ -7,7 +7,8 @@ ghost use Rattle.netlink_attributes.specs.Block.{IsCanonicalBlock};
 use crate::align::nla_align;
 use crate::iterator::NlasIterator;
 
-/// Whether the bytes are a canonical block: attributes one after another, each with the whole of its padding, of zeros.
+/// Whether the bytes are a canonical block: attributes one after another, each with the whole of
+/// its padding, of zeros.
 ///
 /// No bytes are one. A kind may have any of its 16 bits. Asks for no memory.
 pub fn is_canonical_nlas(bytes: &[u8]) -> bool

@@ -12,5 +12,6 @@ pub const NLA_TYPE_MASK: u16 = 0x3fff;
 /// The distance in bytes from one attribute's start to the next one's is a multiple of this.
 pub const NLA_ALIGNTO: usize = 4;
 
-/// The size of an attribute's header in bytes (`NLA_HDRLEN` of linux/netlink.h): a length and a kind of 16 bits each.
+/// The size of an attribute's header in bytes (`NLA_HDRLEN` of linux/netlink.h): a length and a
+/// kind of 16 bits each.
 pub const NLA_HEADER_SIZE: usize = 4;

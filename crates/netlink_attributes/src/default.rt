@@ -27,7 +27,8 @@ impl DefaultNla {
         DefaultNla { kind, value }
     }
 
-    /// An equal attribute, or C16 where there is no memory for its value. An empty value asks for none.
+    /// An equal attribute, or `OutOfMemory` where there is no memory for its value. An empty value
+    /// asks for none.
     pub fn try_clone(&self, alloc: Global) -> Result<Self, DecodeError>
         ensures same { IfOk result (λ copy. kept_attribute copy ≡ kept_attribute self.now) }
         ensures equal { IfOk result (λ copy. IsTrue (⟦<DefaultNla as PartialEq>⟧.eq copy self.now)) }
@@ -84,9 +85,9 @@ impl<'a> Parseable<NlaBuffer<&'a [u8]>> for DefaultNla {
 
     ghost needs_no_memory = { λ view. (attribute_of (shown view)).value ≡ [] };
 
-    /// The kind with both flag bits, and a copy of the value. C16 where there is no memory for it;
-    /// an empty value asks for none. The view shows a whole attribute, as `check_buffer_length`
-    /// tells.
+    /// The kind with both flag bits, and a copy of the value. `OutOfMemory` where there is no
+    /// memory for it; an empty value asks for none. The view shows a whole attribute, as
+    /// `check_buffer_length` tells.
     fn parse(alloc: Global, buf: &NlaBuffer<&'a [u8]>) -> Result<Self, DecodeError> {
         Ok(DefaultNla {
             kind: buf.raw_kind(),

@@ -10,10 +10,11 @@ use crate::align::nla_align;
 use crate::buffer::{NlaBuffer, checked_length};
 use netlink_bytes::DecodeError;
 
-/// The attributes of a block in order. An error is the last item, and `None` comes for good behind it.
+/// The attributes of a block in order. An error is the last item, and `None` comes for good behind
+/// it.
 ///
-/// An item shows the whole unread rest, and its value is cut from that. Two are equal exactly if the
-/// bytes still to be walked are. No call asks for memory.
+/// An item shows the whole unread rest, and its value is cut from that. Two are equal exactly if
+/// the bytes still to be walked are. No call asks for memory.
 #[derive(Clone, Copy, Debug, PartialEq, Eq)]
 pub struct NlasIterator<T> {
     rest: T,

@@ -96,7 +96,8 @@ pub fn canonical_walks(bytes: &[u8])
         → Walk bytes.now all fault → (fault ≡ None) × (canonical_block all ≡ bytes.now) }
 {}
 
-/// Behind a canonical block any bytes walk as they do alone. It need not be so where the block lacks its last padding.
+/// Behind a canonical block any bytes walk as they do alone. It need not be so where the block
+/// lacks its last padding.
 pub fn walk_join(block: &[u8], bytes: &[u8])
     ensures joined { (more : List Attribute) (fault : Option DecodeError)
         → IsCanonicalBlock block.now → Walk bytes.now more fault
@@ -114,7 +115,8 @@ pub fn block_unique(a: &[u8], b: &[u8])
     ensures unique { (x y : List Attribute) → Walk a.now x None → Walk b.now y None → (canonical_block x ≡ canonical_block y) ↔ (x ≡ y) }
 {}
 
-/// What is written of a block without fault is the block itself exactly if that is canonical, and is canonical.
+/// What is written of a block without fault is the block itself exactly if that is canonical, and
+/// is canonical.
 pub fn fixed_points(bytes: &[u8])
     ensures fixed { (all : List Attribute) → Walk bytes.now all None → (canonical_block all ≡ bytes.now) ↔ IsCanonicalBlock bytes.now }
     ensures canonical { (all : List Attribute) → Walk bytes.now all None → IsCanonicalBlock (canonical_block all) }
@@ -131,15 +133,17 @@ pub fn attributes_read()
         → attributes_in (canonical_block all) ≡ Some all }
 {}
 
-/// A block that was canonical while an attribute with both flag bits lost the one for byte order is so still; what was written of its walk then, and what is written of it now, is the block itself.
+/// A block that was canonical while an attribute with both flag bits lost the one for byte order is
+/// so still; what was written of its walk then, and what is written of it now, is the block itself.
 pub fn older_block_kept(bytes: &[u8])
     ensures canonical { IsOlderCanonicalBlock bytes.now → IsCanonicalBlock bytes.now }
     ensures written { (all : List Attribute) (fault : Option DecodeError) → IsOlderCanonicalBlock bytes.now → Walk bytes.now all fault
         → (fault ≡ None) × (canonical_block all ≡ bytes.now) × (older_canonical_block all ≡ bytes.now) }
 {}
 
-/// With as many bytes in place of the value of the attribute with this index, the walk is the old one, its fault too,
-/// with those bytes as that value. Needs such an attribute, with a value of that size.
+/// With as many bytes in place of the value of the attribute with this index, the walk is the old
+/// one, its fault too, with those bytes as that value. Needs such an attribute, with a value of
+/// that size.
 pub fn value_replaced(block: &[u8], index: usize, value: &[u8])
     requires size { (all : List Attribute) (fault : Option DecodeError) → Walk block.now all fault → HasValueOf all index (length value.now) }
     ensures walk { (all : List Attribute) (fault : Option DecodeError) → Walk block.now all fault → IsSomeAnd (value_place all index) (λ place. Walk (put_at block.now place.0 value.now) (replaced all index value.now) fault) }

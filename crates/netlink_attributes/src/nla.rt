@@ -58,7 +58,8 @@ pub fn nla_buffer_len<T: Nla>(nla: &T) -> usize
     nla_align(nla.value_len()) + NLA_HEADER_SIZE
 }
 
-/// Whether the value is one of at most 65531 bytes, so that a length field of 16 bits can count it and its header.
+/// Whether the value is one of at most 65531 bytes, so that a length field of 16 bits can count it
+/// and its header.
 #[inline]
 pub fn nla_fits<T: Nla>(nla: &T) -> bool
     ensures fits { IsTrue result ↔ (length (T.value_of nla.now) ≤ 65531) }

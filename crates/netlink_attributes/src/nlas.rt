@@ -48,8 +48,8 @@ impl<'a, T: Nla> Emitable for Nlas<'a, T> {
 
 /// The block that `Nlas` writes of these attributes, in a vector of its own.
 ///
-/// Each value has at most 65531 bytes, as `nla_fits` tells. The only error is C16, and for no
-/// attributes no memory is asked.
+/// Each value has at most 65531 bytes, as `nla_fits` tells. The only error is `OutOfMemory`, and
+/// for no attributes no memory is asked.
 #[tactic(auto, using(crate::specs::Sizes::written_sizes))]
 pub fn write_nlas<T: Nla>(alloc: Global, nlas: &[T]) -> Result<Vec<u8>, DecodeError>
     requires fit { AllFit T.value_of nlas.now }

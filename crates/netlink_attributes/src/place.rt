@@ -10,7 +10,8 @@ ghost use Rattle.netlink_attributes.specs.Walk.{Walk};
 use crate::constants::NLA_HEADER_SIZE;
 use crate::iterator::NlasIterator;
 
-/// Where the value of the attribute with this index starts and ends, in bytes from the block's start.
+/// Where the value of the attribute with this index starts and ends, in bytes from the block's
+/// start.
 ///
 /// The index counts from 0, and an attribute in front of a fault has one too. `None` is answered
 /// exactly where there is no such attribute. Asks for no memory.
@@ -55,7 +56,8 @@ pub fn write_nla_value(block: &mut [u8], index: usize, value: &[u8]) -> bool
     }
 }
 
-/// The value of the attribute with this index, lent for writing: its bytes become what is written, and no others change.
+/// The value of the attribute with this index, lent for writing: its bytes become what is written,
+/// and no others change.
 ///
 /// The index counts from 0, and an attribute in front of a fault has one too. `None` is answered
 /// exactly where there is no such attribute, and the block is then as it was. Asks for no memory.

@@ -12,7 +12,8 @@ TakesLine e = e ≢ OutOfMemory
 abbrev pub text_with : List ℕ → List ℕ → List ℕ
 text_with line text = line ++ (codes " caused by " ++ text)
 
--- the error with a line in front, or memory was refused for its text; want of memory stays what it is
+-- the error with a line in front, or memory was refused for its text; want of memory stays what it
+-- is
 abbrev pub HasLine : List ℕ → DecodeError → DecodeError → Type 0
 HasLine line old new = (old ≡ OutOfMemory → new ≡ old) × (TakesLine old → HoldsText (text_with line (cause_text old)) new)
 

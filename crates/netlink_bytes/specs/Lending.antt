@@ -1,4 +1,5 @@
--- Laws of lending, for callers to cite: part of a borrowed slice is lent on, and the slice ends with what was written there.
+-- Laws of lending, for callers to cite: part of a borrowed slice is lent on, and the slice ends
+-- with what was written there.
 use Rattle.std.proofs.Common.{◌≡◌, ℕ, ◌+◌, ◌-◌, ◌≤◌, List, [], ◌∷◌, ◌++◌, length, take, drop as drop_list, refl, sym, ap, ◌∙◌, arith, length-append, length-drop}
 use Rattle.std.proofs.lemmas.List.{take-append-drop, drop_at, drop-drop, length-take}
 use seplogic.Ra.Ura.{Ura}

@@ -24,7 +24,8 @@ number_be bytes = number_le (reverse bytes)
 unfoldable pub text_be : ℕ → ℕ → List ℕ
 text_be n w = reverse (text_le n w)
 
--- two's complement of w bytes: the number, less 256 to the power w where it is at least half of that
+-- two's complement of w bytes: the number, less 256 to the power w where it is at least half of
+-- that
 unfoldable pub signed : ℕ → ℕ → ℤ
 signed w n = if nat_lt (2 * n) (256 ^ w) then pos n else pos n -ℤ pos (256 ^ w)
 
@@ -38,13 +39,15 @@ abbrev pub IsSigned : ℕ → ℤ → Type 0
 IsSigned w (pos n) = 2 * n < 256 ^ w
 IsSigned w (negsuc n) = 2 * n < 256 ^ w
 
--- a reader answers the value of exactly w bytes, and any others with the refusal that names both sizes
+-- a reader answers the value of exactly w bytes, and any others with the refusal that names both
+-- sizes
 abbrev pub Reads : {A : Type 0} → (List ℕ → A) → ℕ → List ℕ → Result A DecodeError → Type 0
 Reads value w bytes result =
     (length bytes ≡ w → result ≡ Ok (value bytes))
     × (length bytes ≢ w → result ≡ Err (InvalidNumber w (length bytes)))
 
--- a writer puts the text of w bytes at the front and leaves the rest, or leaves a buffer that is too small as it was
+-- a writer puts the text of w bytes at the front and leaves the rest, or leaves a buffer that is
+-- too small as it was
 abbrev pub Writes : {A : Type 0} → List ℕ → ℕ → List ℕ → List ℕ → Result A DecodeError → Type 0
 Writes text w old new result =
     (w ≤ length old → IsOk result × (new ≡ text ++ drop w old))

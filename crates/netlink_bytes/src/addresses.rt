@@ -17,7 +17,7 @@ pub enum IpAddr {
     V6([u8; 16]),
 }
 
-/// The single byte; any other size is refused with C4. Asks for no memory.
+/// The single byte; any other size is refused with `InvalidNumber`. Asks for no memory.
 pub fn parse_u8(payload: &[u8]) -> Result<u8, DecodeError>
     ensures reads { Reads number_le 1 payload.now result }
 {
@@ -25,7 +25,8 @@ pub fn parse_u8(payload: &[u8]) -> Result<u8, DecodeError>
     Ok(byte)
 }
 
-/// The single byte as a signed number, two's complement; any other size is refused with C4.
+/// The single byte as a signed number, two's complement; any other size is refused with
+/// `InvalidNumber`.
 /// Asks for no memory.
 pub fn parse_i8(payload: &[u8]) -> Result<i8, DecodeError>
     ensures reads { Reads (λ bytes. signed 1 (number_le bytes)) 1 payload.now result }
@@ -33,7 +34,8 @@ pub fn parse_i8(payload: &[u8]) -> Result<i8, DecodeError>
     Ok(parse_u8(payload)?.cast_signed())
 }
 
-/// The 6 bytes of a MAC address; any other size is refused with C2. Asks for no memory.
+/// The 6 bytes of a MAC address; any other size is refused with `InvalidMacAddress`. Asks for no
+/// memory.
 pub fn parse_mac(payload: &[u8]) -> Result<[u8; 6], DecodeError>
     ensures ok { length payload.now ≡ 6 → result ≡ Ok payload.now }
     ensures err { length payload.now ≢ 6 → result ≡ Err (InvalidMacAddress (length payload.now)) }
@@ -46,7 +48,8 @@ pub fn parse_mac(payload: &[u8]) -> Result<[u8; 6], DecodeError>
     }
 }
 
-/// The 16 bytes of an address of version 6; any other size is refused with C3. Asks for no memory.
+/// The 16 bytes of an address of version 6; any other size is refused with `InvalidIpAddress`. Asks
+/// for no memory.
 pub fn parse_ipv6(payload: &[u8]) -> Result<[u8; 16], DecodeError>
     ensures ok { length payload.now ≡ 16 → result ≡ Ok payload.now }
     ensures err { length payload.now ≢ 16 → result ≡ Err (InvalidIpAddress (length payload.now)) }
@@ -59,8 +62,8 @@ pub fn parse_ipv6(payload: &[u8]) -> Result<[u8; 16], DecodeError>
     }
 }
 
-/// An address of version 4 where there are 4 bytes, and of version 6 where there are 16;
-/// any other size is refused with C3. Asks for no memory.
+/// An address of version 4 where there are 4 bytes, and of version 6 where there are 16; any other
+/// size is refused with `InvalidIpAddress`. Asks for no memory.
 pub fn parse_ip(payload: &[u8]) -> Result<IpAddr, DecodeError>
     ensures v4 { length payload.now ≡ 4 → result ≡ Ok (IpAddr.V4 payload.now) }
     ensures v6 { length payload.now ≡ 16 → result ≡ Ok (IpAddr.V6 payload.now) }

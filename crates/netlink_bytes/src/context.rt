@@ -15,13 +15,14 @@ pub trait ErrorContext<T> {
     /// What it is with the line in front.
     ghost has_line: { Self → T → Self → Type 0 };
 
-    /// Puts the line in front: C14 with the text `<new> caused by <old>`, or C16 where there is no memory for it.
-    /// C16 stays C16, and an `Ok` stays as it was.
+    /// Puts the line in front: `Message` with the text `<new> caused by <old>`, or `OutOfMemory`
+    /// where there is no memory for it.
+    /// `OutOfMemory` stays `OutOfMemory`, and an `Ok` stays as it was.
     fn context(self, alloc: Global, msg: T) -> Self
         ensures line { has_line self msg result };
 
-    /// The same with the line that the closure gives. The closure is called once, and not at all on C16 or an `Ok`;
-    /// its own condition is owed only where it is called.
+    /// The same with the line that the closure gives. The closure is called once, and not at all on
+    /// `OutOfMemory` or an `Ok`; its own condition is owed only where it is called.
     fn with_context<F: FnOnce() -> T>(self, alloc: Global, f: F) -> Self
         requires can_call { takes_line self → F.pre f }
         ensures called { takes_line self → (msg : T) × F.post f msg × has_line self msg result }

@@ -117,7 +117,8 @@ pub enum DecodeError {
 }
 
 impl DecodeError {
-    /// C1 with a copy of the name, or C16 where there is no memory for it. An empty name asks for none.
+    /// `InvalidBuffer` with a copy of the name, or `OutOfMemory` where there is no memory for it.
+    /// An empty name asks for none.
     pub fn invalid_buffer(alloc: Global, name: &str, received: usize, minimum_length: usize) -> Self
         ensures says { IsInvalidBuffer name.now received minimum_length result }
         ensures empty { name.now ≡ [] → result ≢ DecodeError.OutOfMemory }
@@ -132,28 +133,30 @@ impl DecodeError {
         }
     }
 
-    /// C2, with the size that was received. Asks for no memory.
+    /// `InvalidMacAddress`, with the size that was received. Asks for no memory.
     pub fn invalid_mac_address(received: usize) -> Self
         ensures is { result ≡ DecodeError.InvalidMacAddress received }
     {
         DecodeError::InvalidMacAddress { received }
     }
 
-    /// C3, with the size that was received. Asks for no memory.
+    /// `InvalidIpAddress`, with the size that was received. Asks for no memory.
     pub fn invalid_ip_address(received: usize) -> Self
         ensures is { result ≡ DecodeError.InvalidIpAddress received }
     {
         DecodeError::InvalidIpAddress { received }
     }
 
-    /// C4, with the size of the type and the size that was received. Asks for no memory.
+    /// `InvalidNumber`, with the size of the type and the size that was received. Asks for no
+    /// memory.
     pub fn invalid_number(expected: usize, received: usize) -> Self
         ensures is { result ≡ DecodeError.InvalidNumber expected received }
     {
         DecodeError::InvalidNumber { expected, received }
     }
 
-    /// C5, with the bytes that there are and the bytes that are wanted. Asks for no memory.
+    /// `NlaBufferTooSmall`, with the bytes that there are and the bytes that are wanted. Asks for
+    /// no memory.
     pub fn nla_buffer_too_small(buffer_len: usize, nla_len: usize) -> Self
         ensures is { result ≡ DecodeError.NlaBufferTooSmall buffer_len nla_len }
     {
@@ -163,7 +166,7 @@ impl DecodeError {
         }
     }
 
-    /// C6, with the bytes that there are and the length field. Asks for no memory.
+    /// `NlaLengthMismatch`, with the bytes that there are and the length field. Asks for no memory.
     pub fn nla_length_mismatch(buffer_len: usize, nla_len: usize) -> Self
         ensures is { result ≡ DecodeError.NlaLengthMismatch buffer_len nla_len }
     {
@@ -173,7 +176,7 @@ impl DecodeError {
         }
     }
 
-    /// C7, with the least length and the length field. Asks for no memory.
+    /// `NlaInvalidLength`, with the least length and the length field. Asks for no memory.
     pub fn nla_invalid_length(buffer_len: usize, nla_len: usize) -> Self
         ensures is { result ≡ DecodeError.NlaInvalidLength buffer_len nla_len }
     {
@@ -183,7 +186,7 @@ impl DecodeError {
         }
     }
 
-    /// C8, with the buffer's size and the number's. Asks for no memory.
+    /// `BufferTooSmall`, with the buffer's size and the number's. Asks for no memory.
     pub fn buffer_too_small(buffer_len: usize, value_len: usize) -> Self
         ensures is { result ≡ DecodeError.BufferTooSmall buffer_len value_len }
     {
@@ -193,14 +196,14 @@ impl DecodeError {
         }
     }
 
-    /// C9, with the bytes that there are. Asks for no memory.
+    /// `FrameShort`, with the bytes that there are. Asks for no memory.
     pub fn frame_short(size: usize, inside: bool) -> Self
         ensures is { result ≡ DecodeError.FrameShort size inside }
     {
         DecodeError::FrameShort { size, inside }
     }
 
-    /// C10, with the length field and the bytes that there are. Asks for no memory.
+    /// `FrameCut`, with the length field and the bytes that there are. Asks for no memory.
     pub fn frame_cut(length: u32, size: usize, inside: bool) -> Self
         ensures is { result ≡ DecodeError.FrameCut length size inside }
     {
@@ -211,42 +214,43 @@ impl DecodeError {
         }
     }
 
-    /// C11, with the length field. Asks for no memory.
+    /// `FrameLength`, with the length field. Asks for no memory.
     pub fn frame_length(length: u32, inside: bool) -> Self
         ensures is { result ≡ DecodeError.FrameLength length inside }
     {
         DecodeError::FrameLength { length, inside }
     }
 
-    /// C12, with the body's size. Asks for no memory.
+    /// `DoneShort`, with the body's size. Asks for no memory.
     pub fn done_short(size: usize, inside: bool) -> Self
         ensures is { result ≡ DecodeError.DoneShort size inside }
     {
         DecodeError::DoneShort { size, inside }
     }
 
-    /// C13, with the body's size. Asks for no memory.
+    /// `ErrorShort`, with the body's size. Asks for no memory.
     pub fn error_short(size: usize, inside: bool) -> Self
         ensures is { result ≡ DecodeError.ErrorShort size inside }
     {
         DecodeError::ErrorShort { size, inside }
     }
 
-    /// C15. Asks for no memory.
+    /// `TooLong`. Asks for no memory.
     pub fn too_long() -> Self
         ensures is { result ≡ DecodeError.TooLong }
     {
         DecodeError::TooLong
     }
 
-    /// C16. Asks for no memory.
+    /// `OutOfMemory`. Asks for no memory.
     pub fn out_of_memory() -> Self
         ensures is { result ≡ DecodeError.OutOfMemory }
     {
-        DecodeError::OutOfMemory
+        Self::OutOfMemory
     }
 
-    /// C14 with a copy of the text, or C16 where there is no memory for it. An empty text asks for none.
+    /// `Message` with a copy of the text, or `OutOfMemory` where there is no memory for it. An
+    /// empty text asks for none.
     pub fn from_text(alloc: Global, text: &str) -> Self
         ensures says { HoldsText text.now result }
         ensures empty { text.now ≡ [] → result ≢ DecodeError.OutOfMemory }
@@ -257,7 +261,7 @@ impl DecodeError {
         }
     }
 
-    /// C14 with `Invalid UTF-8 sequence: ` and std's text for the error, or C16.
+    /// `Message` with `Invalid UTF-8 sequence: ` and std's text for the error, or `OutOfMemory`.
     pub fn from_utf8_error(alloc: Global, error: FromUtf8Error) -> Self
         ensures begins { TextBegins (codes "Invalid UTF-8 sequence: ") result }
     {
@@ -291,7 +295,7 @@ impl DecodeError {
         }
     }
 
-    /// Whether the cause is C16, want of memory.
+    /// Whether the cause is `OutOfMemory`, want of memory.
     pub fn is_out_of_memory(&self) -> bool
         ensures memory { IsTrue result ↔ (self.now ≡ DecodeError.OutOfMemory) }
     {
@@ -314,7 +318,7 @@ impl From<String> for DecodeError {
 
     ghost from_gives = { λ text e. e ≡ Message text };
 
-    /// C14 with the text itself. Asks for no memory.
+    /// `Message` with the text itself. Asks for no memory.
     fn from(text: String) -> Self {
         DecodeError::Message(text)
     }
@@ -325,7 +329,7 @@ impl From<AllocError> for DecodeError {
 
     ghost from_gives = { λ _ e. e ≡ OutOfMemory };
 
-    /// C16, so that `?` hands on a refused request for memory.
+    /// `OutOfMemory`, so that `?` hands on a refused request for memory.
     fn from(_refused: AllocError) -> Self {
         DecodeError::OutOfMemory
     }
@@ -336,7 +340,8 @@ impl<T: Drop> From<AllocFailed<T>> for DecodeError {
 
     ghost from_gives = { λ _ e. e ≡ OutOfMemory };
 
-    /// C16 where a value found no room, so that `list.push(value)?` hands it on; the value is given up.
+    /// `OutOfMemory` where a value found no room, so that `list.push(value)?` hands it on; the
+    /// value is given up.
     fn from(_refused: AllocFailed<T>) -> Self {
         DecodeError::from(AllocError)
     }

@@ -14,13 +14,15 @@ use crate::addresses::IpAddr;
 use crate::error::DecodeError;
 use crate::nonzero::NonZeroI32;
 
-/// The number of bytes is the sum of each byte times 256 to the power of its place, and a text of some size is a list of as many bytes.
+/// The number of bytes is the sum of each byte times 256 to the power of its place, and a text of
+/// some size is a list of as many bytes.
 pub fn numbers_are_sums()
     ensures sums { NumberIsSum }
     ensures bytes { TextIsBytes }
 {}
 
-/// The number of a text is the remainder of the number by 256 to the power of its size, and bytes are the text of their number.
+/// The number of a text is the remainder of the number by 256 to the power of its size, and bytes
+/// are the text of their number.
 pub fn numbers_read_back()
     ensures numbers { TextReadsBack }
     ensures bytes { BytesReadBack }
@@ -38,19 +40,21 @@ pub fn written_is_read()
     ensures signed { WrittenSignedIsRead }
 {}
 
-/// Of two lines in front of an error the later one stands first: `b caused by a caused by` the text of the error, memory aside.
+/// Of two lines in front of an error the later one stands first: `b caused by a caused by` the text
+/// of the error, memory aside.
 pub fn contexts_chain()
     ensures chain { LinesChain }
 {}
 
-/// Two addresses are equal exactly if they are the same value, and two numbers that are not zero exactly if their numbers are.
+/// Two addresses are equal exactly if they are the same value, and two numbers that are not zero
+/// exactly if their numbers are.
 pub fn values_equal()
     ensures address { (a b : IpAddr) → IsTrue (⟦<IpAddr as PartialEq>⟧.eq a b) ↔ (a ≡ b) }
     ensures number { (a b : NonZeroI32) → IsTrue (⟦<NonZeroI32 as PartialEq>⟧.eq a b) ↔ (number_of a ≡ number_of b) }
 {}
 
-/// Two causes are equal exactly if they have the same number, hold the same text and the same sizes,
-/// and were both found inside a larger call or both not.
+/// Two causes are equal exactly if they have the same number, hold the same text and the same
+/// sizes, and were both found inside a larger call or both not.
 pub fn causes_equal()
     ensures equal { (a b : DecodeError)
         → IsTrue (⟦<DecodeError as PartialEq>⟧.eq a b) ↔ SameCause a b }

@@ -1,5 +1,5 @@
-//! What every netlink crate stands on: numbers as bytes, addresses and texts, the causes of a refusal,
-//! storage for views, and the traits of what is read and written.
+//! What every netlink crate stands on: numbers as bytes, addresses and texts, the causes of a
+//! refusal, storage for views, and the traits of what is read and written.
 #![tactic(auto)]
 
 mod addresses;

@@ -12,8 +12,9 @@ use std::alloc::Global;
 
 /// The text of the bytes without one zero byte at their end.
 ///
-/// What is then not UTF-8 is refused with C14, whose text begins `Invalid UTF-8 sequence: `; C16 where
-/// there is no memory for either text. No bytes and a lone zero byte are the empty text and ask for no memory.
+/// What is then not UTF-8 is refused with `Message`, whose text begins `Invalid UTF-8 sequence: `;
+/// `OutOfMemory` where there is no memory for either text. No bytes and a lone zero byte are the
+/// empty text and ask for no memory.
 pub fn parse_string(alloc: Global, payload: &[u8]) -> Result<String, DecodeError>
     ensures text { IfOk result (λ text. string_bytes text ≡ without_last_zero payload.now) }
     ensures utf8 { IsUtf8 (without_last_zero payload.now) → IsOkUnless result OutOfMemory }

@@ -19,13 +19,14 @@ pub trait Emitable {
     /// A buffer longer than the text is taken; otherwise it has to be of the text's size.
     ghost takes_longer: { Bool };
 
-    /// The size of the text in bytes, which has to be below 2 to the power of 64. Asks for no memory.
+    /// The size of the text in bytes, which has to be below 2 to the power of 64. Asks for no
+    /// memory.
     fn buffer_len(&self) -> usize
         requires in_size { length (text self.now) < 2 ^ 64 }
         ensures size { result ≡ length (text self.now) };
 
-    /// Writes the text at the start of the buffer and leaves the rest. The value can be written, and
-    /// the buffer has the text's size, or more where a longer one is taken. Asks for no memory.
+    /// Writes the text at the start of the buffer and leaves the rest. The value can be written,
+    /// and the buffer has the text's size, or more where a longer one is taken. Asks for no memory.
     fn emit(&self, buffer: &mut [u8])
         requires can { can_emit self.now }
         requires room { HasRoom takes_longer (length (text self.now)) (length buffer.old) }
@@ -46,7 +47,8 @@ pub trait Parseable<T> {
     /// It is read, or refused, without memory.
     ghost needs_no_memory: { T → Type 0 };
 
-    /// The value that is read; its refusal where there is none; C16 only where memory may be asked for.
+    /// The value that is read; its refusal where there is none; `OutOfMemory` only where memory may
+    /// be asked for.
     /// It is called only on what `can_parse` holds of, as a view with the bytes that it looks at.
     fn parse(alloc: Global, buf: &T) -> Result<Self, DecodeError>
         requires can { can_parse buf.now }
@@ -70,7 +72,8 @@ pub trait ParseableParametrized<T, P> {
     /// It is read, or refused, without memory.
     ghost needs_no_memory: { T → P → Type 0 };
 
-    /// The value that is read; its refusal where there is none; C16 only where memory may be asked for.
+    /// The value that is read; its refusal where there is none; `OutOfMemory` only where memory may
+    /// be asked for.
     /// It is called only on what `can_parse` holds of, with the parameter.
     fn parse_with_param(alloc: Global, buf: &T, params: P) -> Result<Self, DecodeError>
         requires can { can_parse buf.now params }

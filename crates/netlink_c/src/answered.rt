@@ -31,7 +31,8 @@ pub struct ErrorBody {
 /// request lies that it answers, and where the attributes lie that follow.
 ///
 /// `NLM_F_ACK_TLVS` says that there are attributes, and `NLM_F_CAPPED` that of the request there is
-/// the header alone. Answers 0, or C13 where there are fewer than 4 bytes. Wraps `ErrorBuffer`.
+/// the header alone. Answers 0, or `ErrorShort` where there are fewer than 4 bytes. Wraps
+/// `ErrorBuffer`.
 #[unsafe(no_mangle)]
 pub extern "C" fn nlp_error_body(
     payload: &[u8],

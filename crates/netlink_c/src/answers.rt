@@ -3,10 +3,11 @@
 /// The call did what it is for.
 pub const OK: u32 = 0;
 
-/// There is no room in the buffer from the cursor on (the number of C8); nothing was changed.
+/// There is no room in the buffer from the cursor on (the number of `BufferTooSmall`); nothing was
+/// changed.
 pub const NO_ROOM: u32 = 8;
 
-/// A request for memory was refused (the number of C16).
+/// A request for memory was refused (the number of `OutOfMemory`).
 pub const NO_MEMORY: u32 = 16;
 
 /// A walk is at its end.

@@ -40,7 +40,8 @@ pub struct HeaderFields {
     pub port_number: u32,
 }
 
-/// Whether the bytes hold a whole frame: 0, or C9, C10 or C11. Wraps `NetlinkBuffer::new_checked`.
+/// Whether the bytes hold a whole frame: 0, or `FrameShort`, `FrameCut` or `FrameLength`. Wraps
+/// `NetlinkBuffer::new_checked`.
 #[unsafe(no_mangle)]
 pub extern "C" fn nlp_frame_check(bytes: &[u8], fault: &mut FaultNumbers) -> u32
     ensures whole { result ≡ 0 → HoldsFrame bytes.now }
@@ -53,8 +54,8 @@ pub extern "C" fn nlp_frame_check(bytes: &[u8], fault: &mut FaultNumbers) -> u32
     }
 }
 
-/// The five fields of the header that the bytes begin with: 0, or C9 where there are fewer than 16
-/// bytes. The length field may say anything.
+/// The five fields of the header that the bytes begin with: 0, or `FrameShort` where there are
+/// fewer than 16 bytes. The length field may say anything.
 #[unsafe(no_mangle)]
 pub extern "C" fn nlp_frame_header(
     bytes: &[u8],
@@ -82,8 +83,8 @@ pub extern "C" fn nlp_frame_header(
     OK
 }
 
-/// Where the payload of the frame lies that the bytes hold whole: 0, or C9, C10 or C11. Wraps
-/// `NetlinkBuffer::payload`.
+/// Where the payload of the frame lies that the bytes hold whole: 0, or `FrameShort`, `FrameCut` or
+/// `FrameLength`. Wraps `NetlinkBuffer::payload`.
 #[unsafe(no_mangle)]
 pub extern "C" fn nlp_frame_payload(
     bytes: &[u8],
@@ -112,7 +113,7 @@ pub extern "C" fn nlp_frame_payload(
 }
 
 /// The body of a message of type `NLMSG_DONE`: its code, and where the bytes behind it lie. 0, or
-/// C12 where there are fewer than 4 bytes. Wraps `DoneBuffer`.
+/// `DoneShort` where there are fewer than 4 bytes. Wraps `DoneBuffer`.
 #[unsafe(no_mangle)]
 pub extern "C" fn nlp_done_body(
     payload: &[u8],

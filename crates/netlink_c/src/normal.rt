@@ -35,9 +35,10 @@ pub extern "C" fn nlp_attrs_is_canonical(bytes: &[u8]) -> bool
 /// Writes the canonical block of the bytes: the attributes that they walk as, each with its padding
 /// of zeros.
 ///
-/// Answers 0, and the block is then the first `size` bytes; C5, C6 or C7 where the walk has that
-/// fault; C16; or `NO_ROOM`, and `size` is then what is wanted. Only 0 changes the buffer. Wraps
-/// `normalize_nlas`, which asks for memory of the block's size.
+/// Answers 0, and the block is then the first `size` bytes; `NlaBufferTooSmall`,
+/// `NlaLengthMismatch` or `NlaInvalidLength` where the walk has that fault; `OutOfMemory`; or
+/// `NO_ROOM`, and `size` is then what is wanted. Only 0 changes the buffer. Wraps `normalize_nlas`,
+/// which asks for memory of the block's size.
 #[unsafe(no_mangle)]
 pub extern "C" fn nlp_attrs_normalize(
     alloc: Global,
@@ -66,7 +67,7 @@ pub extern "C" fn nlp_attrs_normalize(
 /// Whether the bytes are a canonical frame, for any type from 16 on with any bytes: 1 or 0 in
 /// `canonical`.
 ///
-/// Answers 0; or C16. Wraps `is_canonical_frame`.
+/// Answers 0; or `OutOfMemory`. Wraps `is_canonical_frame`.
 #[unsafe(no_mangle)]
 pub extern "C" fn nlp_frame_is_canonical(
     alloc: Global,
@@ -93,8 +94,9 @@ pub extern "C" fn nlp_frame_is_canonical(
 /// on with any bytes.
 ///
 /// Answers 0, and the frame is then the first `size` bytes; the cause for which
-/// `NetlinkMessage::deserialize` refuses; C15; C16; or `NO_ROOM`, and `size` is then what is
-/// wanted. Only 0 changes the buffer. Wraps `normalize`, which asks for memory of the frame's size.
+/// `NetlinkMessage::deserialize` refuses; `TooLong`; `OutOfMemory`; or `NO_ROOM`, and `size` is
+/// then what is wanted. Only 0 changes the buffer. Wraps `normalize`, which asks for memory of the
+/// frame's size.
 #[unsafe(no_mangle)]
 pub extern "C" fn nlp_frame_normalize(
     alloc: Global,

@@ -15,9 +15,9 @@ use std::alloc::Global;
 /// Writes the text of the cause that has these numbers, in UTF-8, with no zero behind it.
 ///
 /// Answers 0, and the text is then the first `size` bytes; `NO_ROOM`, and `size` is then what is
-/// wanted; `NO_PLACE` where the numbers are of no cause, or of one with words of its own (C1 and
-/// C14); or C16. Only 0 changes the buffer. Wraps the `Display` of `DecodeError`; asks for memory
-/// for the text.
+/// wanted; `NO_PLACE` where the numbers are of no cause, or of one with words of its own
+/// (`InvalidBuffer` and `Message`); or `OutOfMemory`. Only 0 changes the buffer. Wraps the
+/// `Display` of `DecodeError`; asks for memory for the text.
 #[unsafe(no_mangle)]
 pub extern "C" fn nlp_fault_text(
     alloc: Global,

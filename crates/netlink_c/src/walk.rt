@@ -28,8 +28,8 @@ pub struct AttributeItem {
 /// The frame at the cursor, in bytes from the datagram's start, and the cursor behind it and its
 /// padding.
 ///
-/// Answers 0; or `END` where no bytes are left; or C9, C10 or C11, and the cursor is then at the
-/// end. Wraps `Frames`. Asks for no memory.
+/// Answers 0; or `END` where no bytes are left; or `FrameShort`, `FrameCut` or `FrameLength`, and
+/// the cursor is then at the end. Wraps `Frames`. Asks for no memory.
 #[tactic(auto, using(crate::proofs::Walking::frame_fits))]
 #[unsafe(no_mangle)]
 pub extern "C" fn nlp_frames_next(
@@ -69,7 +69,8 @@ pub extern "C" fn nlp_frames_next(
 /// The attribute at the cursor, in bytes from the block's start, and the cursor behind it and its
 /// padding.
 ///
-/// Answers 0; or `END` where no bytes are left; or C5, C6 or C7, and the cursor is then at the end.
+/// Answers 0; or `END` where no bytes are left; or `NlaBufferTooSmall`, `NlaLengthMismatch` or
+/// `NlaInvalidLength`, and the cursor is then at the end.
 /// The attributes inside a nest are walked by the same call on its value. Wraps `NlasIterator`.
 /// Asks for no memory.
 #[unsafe(no_mangle)]

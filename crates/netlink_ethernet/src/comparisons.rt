@@ -23,7 +23,8 @@ const NUMBERS: [u16; ROWS] = [
     0x9988, 0xdada, 0xdadb, 0xe001, 0xed3e, 0xfbfb,
 ];
 
-/// The numbers rise strictly, so one comparison also settles every row on one side of the row compared.
+/// The numbers rise strictly, so one comparison also settles every row on one side of the row
+/// compared.
 fn numbers_rise()
     ensures rise { IsStrictlyIncreasing NUMBERS }
 {}
@@ -58,11 +59,11 @@ impl Comparisons {
         self.count
     }
 
-    /// Compares the sought number, in host order, with the number of the row at the index, and
-    /// adds one to the count.
+    /// Compares the sought number, in host order, with the number of the row at the index, and adds
+    /// one to the count.
     ///
-    /// The rows are those of the 102 numbers that have names, by rising number, from index 0; so the
-    /// index has to be below 102. The count has to be below `u32::MAX`.
+    /// The rows are those of the 102 numbers that have names, by rising number, from index 0; so
+    /// the index has to be below 102. The count has to be below `u32::MAX`.
     pub fn compare(&mut self, sought: u16, index: usize) -> Ordering
         requires row { index < 102 }
         requires room { self.old < u32.MAX }

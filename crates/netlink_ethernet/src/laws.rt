@@ -1,4 +1,5 @@
-//! Laws of the conversions. A call of a law does nothing: its contract is the law, for any argument.
+//! Laws of the conversions. A call of a law does nothing: its contract is the law, for any
+//! argument.
 
 ghost use Rattle.std.specs.Prelude.{◌≡◌, ◌↔◌, IsTrue};
 ghost use Rattle.netlink_ethernet.specs.Table.{IsProper, number_of, protocol_of};
@@ -17,7 +18,8 @@ pub fn protocol_kept(protocol: EthernetProtocol)
     ensures kept { IsProper protocol → protocol_of (number_of protocol) ≡ protocol }
 {}
 
-/// Two protocols are equal exactly if they are the same variant, of the same number where that is `Other`.
+/// Two protocols are equal exactly if they are the same variant, of the same number where that is
+/// `Other`.
 pub fn protocols_equal()
     ensures equal { (a b : EthernetProtocol) → IsTrue (⟦<EthernetProtocol as PartialEq>⟧.eq a b) ↔ (a ≡ b) }
 {}

@@ -27,7 +27,8 @@ abbrev pub answer_to : ℕ → Message → Message
 answer_to command request =
     record { header = record request.header { flags = 0 }; payload = with_command command request.payload }
 
--- why a datagram is not answered: it is refused, its answer is too long, or memory was refused for an answer that fits
+-- why a datagram is not answered: it is refused, its answer is too long, or memory was refused for
+-- an answer that fits
 abbrev pub IsAnswerFault : ℕ → List ℕ → DecodeError → Type 0
 IsAnswerFault command datagram e =
     IsRefusal generic_decoding wants_memory datagram e

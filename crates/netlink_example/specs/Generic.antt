@@ -48,7 +48,8 @@ wants_memory TooShort = false
 wants_memory ReservedNotZero = false
 wants_memory OutOfMemory = true
 
--- why a payload of this message type is refused; memory is asked for only where bytes stand behind the header
+-- why a payload of this message type is refused; memory is asked for only where bytes stand behind
+-- the header
 abbrev pub IsGenericFault : ℕ → List ℕ → GenericError → Type 0
 IsGenericFault message_type payload NotAFamily = message_type < 16
 IsGenericFault message_type payload TooShort = (16 ≤ message_type) × (length payload < 4)

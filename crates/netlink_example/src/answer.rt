@@ -15,8 +15,9 @@ use std::alloc::Global;
 /// Reads the request that a datagram begins with, and writes its answer: the request with this
 /// command and no flags, as one frame. A done, an error, a no-op or an overrun keeps its payload.
 ///
-/// Refuses what `NetlinkMessage::deserialize` refuses, with the same cause (C9 to C14, and C16);
-/// an answer whose length does not fit 32 bits with C15; and with C16 where memory was refused.
+/// Refuses what `NetlinkMessage::deserialize` refuses, with the same cause (`FrameShort` to
+/// `Message`, and `OutOfMemory`); an answer whose length does not fit 32 bits with `TooLong`; and
+/// with `OutOfMemory` where memory was refused.
 pub fn answered(alloc: Global, datagram: &[u8], command: u8) -> Result<Vec<u8>, DecodeError>
     // What is written is the canonical frame of the answer to the request in the datagram.
     ensures accepts { IfOk result (λ answer. (request : Message)
@@ -29,7 +30,8 @@ pub fn answered(alloc: Global, datagram: &[u8], command: u8) -> Result<Vec<u8>, 
         (λ answer. answer.items ≡ canonical_frame generic_encoding (answer_to command request))
         (λ e. e ≡ DecodeError.OutOfMemory) }
 
-    // C15 comes exactly where the answer does not fit; C16 there is the reading's alone.
+    // `TooLong` comes exactly where the answer does not fit; `OutOfMemory` there is the reading's
+    // alone.
     ensures too_long { (request : Message) → Frame generic_decoding datagram.now request
         → IsTooLong generic_encoding (answer_to command request)
         → IsErrAnd result (λ e. (e ≡ DecodeError.TooLong)

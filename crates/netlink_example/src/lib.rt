@@ -1,4 +1,5 @@
-//! Generic netlink as a protocol of a user's own: a header of four bytes in front of a family's bytes.
+//! Generic netlink as a protocol of a user's own: a header of four bytes in front of a family's
+//! bytes.
 #![tactic(auto)]
 
 mod answer;

@@ -58,8 +58,9 @@ impl NetlinkDeserializable for GenericMessage {
 
     ghost wants_memory = { wants_memory };
 
-    /// Refuses a message type below `GENL_MIN_ID`, then a payload of fewer than 4 bytes, then reserved
-    /// bytes that are not zero; want of memory comes only where bytes stand behind the header.
+    /// Refuses a message type below `GENL_MIN_ID`, then a payload of fewer than 4 bytes, then
+    /// reserved bytes that are not zero; want of memory comes only where bytes stand behind the
+    /// header.
     fn deserialize(
         alloc: Global,
         header: &NetlinkHeader,

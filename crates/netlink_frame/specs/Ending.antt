@@ -17,7 +17,8 @@ word_of Nlas = codes "nlas"
 word_of Canon = codes "canon"
 word_of Frames = codes "frames"
 
--- the arguments are the program's name and the word of the command; arguments that cannot be had ask for none
+-- the arguments are the program's name and the word of the command; arguments that cannot be had
+-- ask for none
 abbrev pub Asks : Option (List (String Global)) → Command → Type 0
 Asks None command = ⊥
 Asks (Some arguments) command =
@@ -35,7 +36,8 @@ ending_text Done = []
 ending_text (Failed fault) = fault_text fault ++ (10 ∷ [])
 ending_text Usage = codes "usage: netlink_frame normalize|show|nlas|canon|frames" ++ (10 ∷ [])
 
--- how a command over the whole input ended; want of memory, and a failed read or write, decide nothing here
+-- how a command over the whole input ended; want of memory, and a failed read or write, decide
+-- nothing here
 abbrev pub Ends : Command → List ℕ → Option (List ℕ) → Option (List ℕ) → Ending → Type 0
 Ends command input old new Done = Wrote command input old new None
 Ends command input old new (Failed (Decode e)) = e ≢ OutOfMemory → Wrote command input old new (Some e)

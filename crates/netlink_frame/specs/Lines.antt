@@ -55,7 +55,8 @@ header_lines h =
 abbrev pub message_lines : NetlinkMessage PingPongMessage → List ℕ
 message_lines m = header_lines m.header ++ (codes "payload " ++ (payload_words m.payload ++ (10 ∷ [])))
 
--- the line of an attribute: its kind with the flags in four digits, the size of its value, and the value
+-- the line of an attribute: its kind with the flags in four digits, the size of its value, and the
+-- value
 abbrev pub nla_line : Attribute → List ℕ
 nla_line a = hex_digits (a.kind / 256 ∷ (a.kind % 256 ∷ [])) ++ (codes " " ++ (decimal (length a.value) ++ (codes " " ++ (shown a.value ++ (10 ∷ [])))))
 

@@ -44,7 +44,8 @@ SameFault _ _ = ⊥
 abbrev pub Wrote : Command → List ℕ → Option (List ℕ) → Option (List ℕ) → Option DecodeError → Type 0
 Wrote command input old new fault = (output : List ℕ) × Makes command input output fault × Appends old new output
 
--- what a run over the whole input did; want of memory, and a failed read or write, decide nothing here
+-- what a run over the whole input did; want of memory, and a failed read or write, decide nothing
+-- here
 abbrev pub Answers : {A : Type 0} → Command → List ℕ → Option (List ℕ) → Option (List ℕ) → Result A Fault → Type 0
 Answers command input old new (Ok done) = Wrote command input old new None
 Answers command input old new (Err (Decode e)) = e ≢ OutOfMemory → Wrote command input old new (Some e)

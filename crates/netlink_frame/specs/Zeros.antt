@@ -1,4 +1,5 @@
--- The protocol of zeros: type 18 with zero bytes, which stand for their count; type 19 reads a count of 8 bytes.
+-- The protocol of zeros: type 18 with zero bytes, which stand for their count; type 19 reads a
+-- count of 8 bytes.
 use Rattle.std.specs.Prelude.{◌==◌, ◌^◌, ℕ, Bool, List, Option, Some, None, length, replicate, nat_lt, if◌then◌else◌}
 use Rattle.std.specs.List.{list_all}
 use Rattle.netlink_packet_core.specs.Numbers.{number_le}

@@ -53,7 +53,8 @@ impl fmt::Display for Ending {
 }
 
 impl Termination for Ending {
-    /// Says on standard error what there is to say, and gives the status. A failed write is no fault.
+    /// Says on standard error what there is to say, and gives the status. A failed write is no
+    /// fault.
     fn report<R: Eprint>(self, rt: &R) -> ExitCode
         ensures status { exit_status result ≡ status_of self }
     {

@@ -12,7 +12,7 @@ use netlink_tree::laws::frames_unique;
 use std::alloc::{AllocError, Global};
 
 /// The lines of a datagram's frames, up to its end or a fault: the length and the type of each in
-/// decimal. C16 is the only error.
+/// decimal. `OutOfMemory` is the only error.
 pub fn frames_text(alloc: Global, datagram: &[u8]) -> Result<String, DecodeError>
     ensures lines { IfOk result (λ text. (all : List (List ℕ)) × (fault : Option DecodeError) × FrameWalk datagram.now all fault × (string_bytes text ≡ frame_lines all)) }
     ensures each { IfOk result (λ text. (all : List (List ℕ)) (fault : Option DecodeError) → FrameWalk datagram.now all fault → string_bytes text ≡ frame_lines all) }
@@ -22,8 +22,8 @@ pub fn frames_text(alloc: Global, datagram: &[u8]) -> Result<String, DecodeError
     Ok(shown_frames(alloc, datagram)?)
 }
 
-/// The fault that the frames of a datagram end with (C9, C10 or C11), or `None` where they end
-/// without one. Asks for no memory.
+/// The fault that the frames of a datagram end with (`FrameShort`, `FrameCut` or `FrameLength`), or
+/// `None` where they end without one. Asks for no memory.
 pub fn frames_fault(datagram: &[u8]) -> Option<DecodeError>
     ensures fault { (all : List (List ℕ)) × FrameWalk datagram.now all result }
     ensures each { (all : List (List ℕ)) (fault : Option DecodeError) → FrameWalk datagram.now all fault → result ≡ fault }

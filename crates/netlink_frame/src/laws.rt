@@ -11,7 +11,8 @@ use crate::run::Fault;
 use netlink_packet_core::laws::{causes_equal, frame_unique, refusal_unique, walk_unique};
 use netlink_tree::laws::frames_unique;
 
-/// A command writes one output for an input and ends with one fault, a refusing protocol's own words aside.
+/// A command writes one output for an input and ends with one fault, a refusing protocol's own
+/// words aside.
 pub fn makes_once()
     ensures once { (command : Command) (input first second : List ℕ) (e f : Option DecodeError)
         → Makes command input first e → Makes command input second f → (first ≡ second) × SameFault e f }

@@ -14,8 +14,8 @@ use std::alloc::{AllocError, Global};
 use std::fmt::Write;
 
 /// The lines of a block's attributes, up to its end or a fault: the kind with its flags as four
-/// lower-case hexadecimal digits, the size of the value in decimal, and the value's bytes as two such
-/// digits each, or `-` where there are none. C16 is the only error.
+/// lower-case hexadecimal digits, the size of the value in decimal, and the value's bytes as two
+/// such digits each, or `-` where there are none. `OutOfMemory` is the only error.
 pub fn nlas_text(alloc: Global, block: &[u8]) -> Result<String, DecodeError>
     ensures lines { IfOk result (λ text. (all : List Attribute) × (fault : Option DecodeError) × Walk block.now all fault × (string_bytes text ≡ nla_lines all)) }
     ensures each { IfOk result (λ text. (all : List Attribute) (fault : Option DecodeError) → Walk block.now all fault → string_bytes text ≡ nla_lines all) }
@@ -25,7 +25,8 @@ pub fn nlas_text(alloc: Global, block: &[u8]) -> Result<String, DecodeError>
     Ok(walked_text(alloc, block)?)
 }
 
-/// The fault that the walk of a block ends with (C5, C6 or C7), or `None` where it ends without one.
+/// The fault that the walk of a block ends with (`NlaBufferTooSmall`, `NlaLengthMismatch` or
+/// `NlaInvalidLength`), or `None` where it ends without one.
 /// Asks for no memory.
 pub fn nlas_fault(block: &[u8]) -> Option<DecodeError>
     ensures fault { (all : List Attribute) × Walk block.now all result }

@@ -50,7 +50,8 @@ struct Answer {
     fault: Option<DecodeError>,
 }
 
-/// Writes what the command makes of all that the reader gives, in one piece, and ends with its fault.
+/// Writes what the command makes of all that the reader gives, in one piece, and ends with its
+/// fault.
 ///
 /// The reader's end has to come within 1048576 calls, each for at most 4096 bytes; an interrupted
 /// call counts, and is made again. A `Read` fault, and want of memory, have written nothing. A

@@ -9,7 +9,8 @@ use netlink_packet_core::{DecodeError, NetlinkHeader, NetlinkMessage, NetlinkPay
 use std::alloc::{AllocError, Global};
 
 /// The six lines of a message: its header's fields in decimal, and its payload, with bytes as two
-/// lower-case hexadecimal digits each, or `-` where there are none. C16 is the only error.
+/// lower-case hexadecimal digits each, or `-` where there are none. `OutOfMemory` is the only
+/// error.
 pub fn show_text(
     alloc: Global,
     message: &NetlinkMessage<PingPongMessage>,

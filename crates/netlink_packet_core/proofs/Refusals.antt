@@ -1,4 +1,5 @@
--- What a frame is of is refused for want of memory alone, and not even that where nothing is copied.
+-- What a frame is of is refused for want of memory alone, and not even that where nothing is
+-- copied.
 use Rattle.std.proofs.Common.{◌≡◌, ℕ, List, length, refl, ap, subst, arith, inl, inr, Bool, true, Some, None}
 use Rattle.netlink_bytes.specs.declared.error.DecodeError.{DecodeError}
 use Rattle.netlink_bytes.specs.declared.error.DecodeError.TheVariants.{FrameShort, FrameCut, FrameLength, DoneShort, ErrorShort, Message, OutOfMemory}

@@ -12,9 +12,11 @@ use crate::constants::NETLINK_HEADER_LEN;
 use crate::header::NetlinkHeader;
 use netlink_bytes::{DecodeError, Storage, StorageMut, put_u16, put_u32, u16_at, u32_at};
 
-/// The bytes of a message (`struct nlmsghdr` of linux/netlink.h, and what follows it), looked at in place.
+/// The bytes of a message (`struct nlmsghdr` of linux/netlink.h, and what follows it), looked at in
+/// place.
 ///
-/// All numbers are in native order, the lowest byte first. Sizes and lengths are in bytes. No call asks for memory.
+/// All numbers are in native order, the lowest byte first. Sizes and lengths are in bytes. No call
+/// asks for memory.
 #[derive(Clone, Copy, Debug, PartialEq, Eq, Drop)]
 pub struct NetlinkBuffer<T: Storage> {
     /// What holds the bytes.
@@ -30,8 +32,9 @@ impl<T: Storage> NetlinkBuffer<T> {
         NetlinkBuffer { buffer }
     }
 
-    /// A view of bytes that hold a whole frame. Fewer than 16 bytes are refused with C9, a length
-    /// field above their number with C10, and one below 16 with C11; the storage is then given up.
+    /// A view of bytes that hold a whole frame. Fewer than 16 bytes are refused with `FrameShort`,
+    /// a length field above their number with `FrameCut`, and one below 16 with `FrameLength`; the
+    /// storage is then given up.
     pub fn new_checked(buffer: T) -> Result<Self, DecodeError>
         ensures keeps { IfOk result (λ view. view.buffer ≡ buffer) }
         ensures whole { OnOk result (HoldsFrame (T.held buffer)) }
@@ -87,8 +90,8 @@ impl<T: Storage> NetlinkBuffer<T> {
         u32_at(self.buffer.bytes(), 12)
     }
 
-    /// The size of the payload in bytes, by the length field, also where that exceeds the storage. The
-    /// storage has to hold 4 bytes at least, and the length field has to be 16 at least.
+    /// The size of the payload in bytes, by the length field, also where that exceeds the storage.
+    /// The storage has to hold 4 bytes at least, and the length field has to be 16 at least.
     #[inline]
     pub fn payload_length(&self) -> usize
         requires field { 4 ≤ length (T.held self.now.buffer) }
@@ -146,7 +149,8 @@ impl<T: StorageMut> NetlinkBuffer<T> {
         put_u16(self.buffer.bytes_mut(), 6, value);
     }
 
-    /// Sets the sequence number, and changes nothing else. The storage has to hold 12 bytes at least.
+    /// Sets the sequence number, and changes nothing else. The storage has to hold 12 bytes at
+    /// least.
     #[inline]
     pub fn set_sequence_number(&mut self, value: u32)
         requires field { 12 ≤ length (T.held self.old.buffer) }
@@ -166,8 +170,8 @@ impl<T: StorageMut> NetlinkBuffer<T> {
         put_u32(self.buffer.bytes_mut(), 12, value);
     }
 
-    /// The payload, lent for writing: the bytes from 16 up to the length become what is written, and
-    /// no others. The storage has to hold a whole frame, as `new_checked` tests.
+    /// The payload, lent for writing: the bytes from 16 up to the length become what is written,
+    /// and no others. The storage has to hold a whole frame, as `new_checked` tests.
     pub fn payload_mut(&mut self) -> &mut [u8]
         requires whole { HoldsFrame (T.held self.old.buffer) }
         ensures* writes_back { sem 𝓛 (Lends (the_row T.row) (Array byte 0) self.entry result (λ part. record { buffer = T.holding self.old.buffer (put_at (T.held self.old.buffer) 16 part) })) }
@@ -179,9 +183,9 @@ impl<T: StorageMut> NetlinkBuffer<T> {
 }
 
 impl<'a> NetlinkBuffer<&'a [u8]> {
-    /// The payload: the bytes from 16 up to the length. What follows the length is not looked at. The
-    /// bytes have to hold a whole frame, as `new_checked` tests. Of another storage than a slice,
-    /// `borrowed` gives the view that this is called on.
+    /// The payload: the bytes from 16 up to the length. What follows the length is not looked at.
+    /// The bytes have to hold a whole frame, as `new_checked` tests. Of another storage than a
+    /// slice, `borrowed` gives the view that this is called on.
     #[inline]
     pub fn payload(&self) -> &'a [u8]
         requires whole { HoldsFrame self.now.buffer.now }

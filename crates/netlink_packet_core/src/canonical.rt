@@ -19,13 +19,15 @@ use std::alloc::Global;
 /// Reads the message whose frame the bytes begin with, and writes its one canonical frame.
 ///
 /// Refuses what `NetlinkMessage::deserialize` refuses, with the same cause; a message whose length
-/// does not fit 32 bits with C15; and answers C16 where memory was refused for the frame.
+/// does not fit 32 bits with `TooLong`; and answers `OutOfMemory` where memory was refused for the
+/// frame.
 pub fn normalize<I: NetlinkProtocol>(alloc: Global, bytes: &[u8]) -> Result<Vec<u8>, DecodeError>
     // The answer is the canonical frame of the message that the bytes are the frame of.
     ensures accepts { IfOk result (λ v. (m : NetlinkMessage I) × Frame I.decoding bytes.now m × Fits I.encoding m × (v.items ≡ canonical_frame I.encoding m)) }
     ensures writes { (m : NetlinkMessage I) → Frame I.decoding bytes.now m → Fits I.encoding m
         → MatchResult result (λ v. v.items ≡ canonical_frame I.encoding m) (λ e. e ≡ DecodeError.OutOfMemory) }
-    // C15 is the answer exactly where the message does not fit; C16 there is the reading's alone.
+    // `TooLong` is the answer exactly where the message does not fit; `OutOfMemory` there is the
+    // reading's alone.
     ensures too_long { (m : NetlinkMessage I) → Frame I.decoding bytes.now m → IsTooLong I.encoding m
         → IsErrAnd result (λ e. (e ≡ DecodeError.TooLong) ⊎ ((e ≡ DecodeError.OutOfMemory) × IsRefusal I.decoding I.wants_memory bytes.now e)) }
     ensures refuses { IfErr result (IsNormalizeFault I.encoding I.decoding I.wants_memory bytes.now) }
@@ -41,9 +43,10 @@ pub fn normalize<I: NetlinkProtocol>(alloc: Global, bytes: &[u8]) -> Result<Vec<
 
 /// Whether the bytes are a canonical frame: what `normalize` leaves as it is. Writes no frame.
 ///
-/// What `NetlinkMessage::deserialize` refuses for another cause than want of memory is not canonical.
-/// The only error is C16, and it comes only where the type is the protocol's own: memory is asked
-/// for the protocol's reading, and by `is_text` for a value's text of the payload's size.
+/// What `NetlinkMessage::deserialize` refuses for another cause than want of memory is not
+/// canonical.
+/// The only error is `OutOfMemory`, and it comes only where the type is the protocol's own: memory
+/// is asked for the protocol's reading, and by `is_text` for a value's text of the payload's size.
 pub fn is_canonical_frame<I: NetlinkProtocol>(
     alloc: Global,
     bytes: &[u8],
@@ -70,7 +73,8 @@ pub fn is_canonical_frame<I: NetlinkProtocol>(
     }
 }
 
-/// Whether the protocol reads the payload as a value of the header's type whose text is the payload.
+/// Whether the protocol reads the payload as a value of the header's type whose text is the
+/// payload.
 fn reads_as_itself<I: NetlinkProtocol>(
     alloc: Global,
     header: &NetlinkHeader,

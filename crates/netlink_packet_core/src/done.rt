@@ -14,8 +14,8 @@ use netlink_bytes::{
 };
 use std::alloc::Global;
 
-/// The body of a message of type `NLMSG_DONE`, looked at in place: a code in 4 bytes, in native order, and what
-/// stands behind it. No call asks for memory.
+/// The body of a message of type `NLMSG_DONE`, looked at in place: a code in 4 bytes, in native
+/// order, and what stands behind it. No call asks for memory.
 #[derive(Clone, Copy, Debug, PartialEq, Eq, Drop)]
 pub struct DoneBuffer<T: Storage> {
     /// What holds the bytes.
@@ -31,7 +31,8 @@ impl<T: Storage> DoneBuffer<T> {
         DoneBuffer { buffer }
     }
 
-    /// A view of at least 4 bytes. Fewer are refused with C12; the storage is then given up.
+    /// A view of at least 4 bytes. Fewer are refused with `DoneShort`; the storage is then given
+    /// up.
     pub fn new_checked(buffer: T) -> Result<Self, DecodeError>
         ensures keeps { IfOk result (λ view. view.buffer ≡ buffer) }
         ensures whole { OnOk result (4 ≤ length (T.held buffer)) }
@@ -97,8 +98,8 @@ impl<T: StorageMut> DoneBuffer<T> {
         put_i32(self.buffer.bytes_mut(), 0, code);
     }
 
-    /// The bytes behind the code, lent for writing; no others change. The storage has to hold 4 bytes
-    /// at least.
+    /// The bytes behind the code, lent for writing; no others change. The storage has to hold 4
+    /// bytes at least.
     pub fn extended_ack_mut(&mut self) -> &mut [u8]
         requires field { 4 ≤ length (T.held self.old.buffer) }
         ensures* writes_back { sem 𝓛 (Lends (the_row T.row) (Array byte 0) self.entry result (λ part. record { buffer = T.holding self.old.buffer (put_at (T.held self.old.buffer) 4 part) })) }
@@ -109,7 +110,8 @@ impl<T: StorageMut> DoneBuffer<T> {
     }
 }
 
-/// The body of a message of type `NLMSG_DONE`: a code in 4 bytes, in native order, and what the kernel says of it.
+/// The body of a message of type `NLMSG_DONE`: a code in 4 bytes, in native order, and what the
+/// kernel says of it.
 #[derive(Debug, Drop, PartialEq, Eq)]
 pub struct DoneMessage {
     /// 0, or the negated number of an error.
@@ -133,7 +135,8 @@ impl DoneMessage {
         }
     }
 
-    /// A message of the same code and bytes, which is equal by `==`; or C16 where memory was refused, never without bytes to copy.
+    /// A message of the same code and bytes, which is equal by `==`; or `OutOfMemory` where memory
+    /// was refused, never without bytes to copy.
     pub fn try_clone(&self, alloc: Global) -> Result<Self, DecodeError>
         ensures code { IfOk result (λ copy. copy.code ≡ self.now.code) }
         ensures bytes { IfOk result (λ copy. copy.extended_ack.items ≡ self.now.extended_ack.items) }
@@ -208,8 +211,8 @@ impl<'a> Parseable<DoneBuffer<&'a [u8]>> for DoneMessage {
 
     ghost needs_no_memory = { λ view. length view.buffer.now ≡ 4 };
 
-    /// The code, and a copy of the bytes behind it, of a view of at least 4 bytes; C16 where there
-    /// are some and memory was refused for them.
+    /// The code, and a copy of the bytes behind it, of a view of at least 4 bytes; `OutOfMemory`
+    /// where there are some and memory was refused for them.
     fn parse(alloc: Global, buf: &DoneBuffer<&'a [u8]>) -> Result<Self, DecodeError> {
         DoneMessage::of_code_and_rest(alloc, buf.buffer)
     }

@@ -16,8 +16,8 @@ use netlink_bytes::{
 use std::alloc::Global;
 use std::fmt;
 
-/// The body of a message of type `NLMSG_ERROR`, looked at in place: a code in 4 bytes, in native order, and what
-/// stands behind it. No call asks for memory.
+/// The body of a message of type `NLMSG_ERROR`, looked at in place: a code in 4 bytes, in native
+/// order, and what stands behind it. No call asks for memory.
 #[derive(Clone, Copy, Debug, PartialEq, Eq, Drop)]
 pub struct ErrorBuffer<T: Storage> {
     /// What holds the bytes.
@@ -33,7 +33,8 @@ impl<T: Storage> ErrorBuffer<T> {
         ErrorBuffer { buffer }
     }
 
-    /// A view of at least 4 bytes. Fewer are refused with C13; the storage is then given up.
+    /// A view of at least 4 bytes. Fewer are refused with `ErrorShort`; the storage is then given
+    /// up.
     pub fn new_checked(buffer: T) -> Result<Self, DecodeError>
         ensures keeps { IfOk result (λ view. view.buffer ≡ buffer) }
         ensures whole { OnOk result (4 ≤ length (T.held buffer)) }
@@ -77,9 +78,9 @@ impl<T: Storage> ErrorBuffer<T> {
 }
 
 impl<'a> ErrorBuffer<&'a [u8]> {
-    /// The bytes behind the code: the header of the message that is answered, and what follows it. The
-    /// bytes have to be 4 at least, as `new_checked` tests. Of another storage than a slice, `borrowed`
-    /// gives the view that this is called on.
+    /// The bytes behind the code: the header of the message that is answered, and what follows it.
+    /// The bytes have to be 4 at least, as `new_checked` tests. Of another storage than a slice,
+    /// `borrowed` gives the view that this is called on.
     #[inline]
     pub fn payload(&self) -> &'a [u8]
         requires field { 4 ≤ length self.now.buffer.now }
@@ -100,8 +101,8 @@ impl<T: StorageMut> ErrorBuffer<T> {
         put_i32(self.buffer.bytes_mut(), 0, code);
     }
 
-    /// The bytes behind the code: the header of the message that is answered, and what follows it, lent
-    /// for writing; no others change. The storage has to hold 4 bytes at least.
+    /// The bytes behind the code: the header of the message that is answered, and what follows it,
+    /// lent for writing; no others change. The storage has to hold 4 bytes at least.
     pub fn payload_mut(&mut self) -> &mut [u8]
         requires field { 4 ≤ length (T.held self.old.buffer) }
         ensures* writes_back { sem 𝓛 (Lends (the_row T.row) (Array byte 0) self.entry result (λ part. record { buffer = T.holding self.old.buffer (put_at (T.held self.old.buffer) 4 part) })) }
@@ -112,9 +113,9 @@ impl<T: StorageMut> ErrorBuffer<T> {
     }
 }
 
-/// The body of a message of type `NLMSG_ERROR` (`struct nlmsgerr`): a code in 4 bytes, in native order, and the
-/// header of the message that it answers. No code is an acknowledgement, any other a refusal
-/// (RFC 3549, section 2.3.2.2).
+/// The body of a message of type `NLMSG_ERROR` (`struct nlmsgerr`): a code in 4 bytes, in native
+/// order, and the header of the message that it answers. No code is an acknowledgement, any other a
+/// refusal (RFC 3549, section 2.3.2.2).
 #[derive(Debug, Drop, PartialEq, Eq)]
 pub struct ErrorMessage {
     /// The negated number of an error, `None` where the wire has 0.
@@ -155,7 +156,8 @@ impl ErrorMessage {
         self.raw_code().unsigned_abs()
     }
 
-    /// A message of the same code and bytes, which is equal by `==`; or C16 where memory was refused, never without bytes to copy.
+    /// A message of the same code and bytes, which is equal by `==`; or `OutOfMemory` where memory
+    /// was refused, never without bytes to copy.
     pub fn try_clone(&self, alloc: Global) -> Result<Self, DecodeError>
         ensures code { IfOk result (λ copy. copy.code ≡ self.now.code) }
         ensures bytes { IfOk result (λ copy. copy.header.items ≡ self.now.header.items) }
@@ -239,8 +241,8 @@ impl<'a> Parseable<ErrorBuffer<&'a [u8]>> for ErrorMessage {
 
     ghost needs_no_memory = { λ view. length view.buffer.now ≡ 4 };
 
-    /// The code, and a copy of the bytes behind it, of a view of at least 4 bytes; C16 where there
-    /// are some and memory was refused for them.
+    /// The code, and a copy of the bytes behind it, of a view of at least 4 bytes; `OutOfMemory`
+    /// where there are some and memory was refused for them.
     fn parse(alloc: Global, buf: &ErrorBuffer<&'a [u8]>) -> Result<Self, DecodeError> {
         ErrorMessage::of_code_and_rest(alloc, buf.buffer)
     }

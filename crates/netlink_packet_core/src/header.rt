@@ -91,8 +91,8 @@ impl Emitable for NetlinkHeader {
         NETLINK_HEADER_LEN
     }
 
-    /// Writes the five fields into the first 16 bytes, and leaves the rest. The buffer has to have 16
-    /// bytes at least.
+    /// Writes the five fields into the first 16 bytes, and leaves the rest. The buffer has to have
+    /// 16 bytes at least.
     #[tactic(auto, using(crate::specs::Sizes::text_sizes))]
     fn emit(&self, buffer: &mut [u8]) {
         let (head, _) = buffer.split_at_mut(NETLINK_HEADER_LEN);

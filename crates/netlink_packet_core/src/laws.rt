@@ -1,4 +1,5 @@
-//! Laws over the definitions alone: each has no effect, and its contract is the law. Those of `netlink_attributes` and of equality in the crates below stand here too.
+//! Laws over the definitions alone: each has no effect, and its contract is the law. Those of
+//! `netlink_attributes` and of equality in the crates below stand here too.
 
 ghost use Rattle.std.specs.Prelude.{◌≡◌, ◌≢◌, ◌↔◌, ◌+◌, ◌<◌, ◌≤◌, ◌^◌, ◌++◌, ℕ, List, Some, true, IsTrue, take, length};
 ghost use Rattle.netlink_packet_core.specs.Canonical.{Fits, IsCanonicalFrame, canonical_frame, finalized};
@@ -120,8 +121,8 @@ pub fn reads_back<I: NetlinkProtocol>(m: &NetlinkMessage<I>, n: &NetlinkMessage<
 }
 
 /// What a protocol reads, of any header and payload, is written as a canonical frame: the type is
-/// one of the protocol's own and fits its field, and a header of that type and of the text's length,
-/// whatever its other fields, and the text behind it are a canonical frame.
+/// one of the protocol's own and fits its field, and a header of that type and of the text's
+/// length, whatever its other fields, and the text behind it are a canonical frame.
 pub fn reading_is_canonical<I: NetlinkProtocol>()
     ensures own_type { (h : NetlinkHeader) (payload : List ℕ) (pair : ℕ × List ℕ)
         → I.decoding.reading h payload ≡ Some pair → IsOwnType pair.0 × (pair.0 < 2 ^ 16) }
@@ -132,8 +133,8 @@ pub fn reading_is_canonical<I: NetlinkProtocol>()
         → IsCanonicalFrame I.decoding (header_text front ++ pair.1) }
 {}
 
-/// A canonical frame cut short is the frame of no message (C9 below 16 bytes, C10 from there on),
-/// and is not canonical: no canonical frame is a proper beginning of another.
+/// A canonical frame cut short is the frame of no message (`FrameShort` below 16 bytes, `FrameCut`
+/// from there on), and is not canonical: no canonical frame is a proper beginning of another.
 pub fn cut_refused<I: NetlinkProtocol>(bytes: &[u8], cut: usize)
     ensures cut { IsCanonicalFrame I.decoding bytes.now → cut < length bytes.now → (m : NetlinkMessage I) → Frame I.decoding (take cut bytes.now) m → ⊥ }
     ensures cut_short { IsCanonicalFrame I.decoding bytes.now → cut < 16 → IsFrameFault true (take cut bytes.now) (DecodeError.FrameShort cut true) }

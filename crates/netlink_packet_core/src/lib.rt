@@ -1,4 +1,5 @@
-//! Netlink messages of any sub-protocol: read from a datagram's bytes, and written as their one canonical frame.
+//! Netlink messages of any sub-protocol: read from a datagram's bytes, and written as their one
+//! canonical frame.
 #![tactic(auto)]
 
 mod buffer;

@@ -34,7 +34,8 @@ impl<I> NetlinkMessage<I> {
         NetlinkMessage { header, payload }
     }
 
-    /// A message of the sub-protocol, in a header of five zeros. `finalize` fills in its length and type.
+    /// A message of the sub-protocol, in a header of five zeros. `finalize` fills in its length and
+    /// type.
     pub fn from_inner(message: I) -> Self
         ensures is { result ≡ record { header = default_header; payload = InnerMessage message } }
     {
@@ -56,9 +57,10 @@ impl<I> NetlinkMessage<I> {
 impl<I: NetlinkDeserializable> NetlinkMessage<I> {
     /// The message whose frame the bytes begin with; what follows the frame is not looked at.
     ///
-    /// Refuses bytes that hold no whole frame (C9, C10, C11), a done or an error body of too few
-    /// bytes (C12, C13), each with `inside` true, and a payload that the protocol refuses (C14, with
-    /// the protocol's words). C16 is answered only where bytes are copied or the protocol is asked.
+    /// Refuses bytes that hold no whole frame (`FrameShort`, `FrameCut`, `FrameLength`), a done or
+    /// an error body of too few bytes (`DoneShort`, `ErrorShort`), each with `inside` true, and a
+    /// payload that the protocol refuses (`Message`, with the protocol's words). `OutOfMemory` is
+    /// answered only where bytes are copied or the protocol is asked.
     pub fn deserialize(alloc: Global, buffer: &[u8]) -> Result<Self, DecodeError>
         // Only a frame of the message is read as it.
         ensures accepts { IfOk result (Frame I.decoding buffer.now) }
@@ -115,7 +117,8 @@ impl<'a, I: NetlinkDeserializable> Parseable<NetlinkBuffer<&'a [u8]>> for Netlin
 }
 
 impl<I: NetlinkSerializable> NetlinkMessage<I> {
-    /// Whether the length of the message fits 32 bits: 16 plus the size of the payload's text is below 2^32.
+    /// Whether the length of the message fits 32 bits: 16 plus the size of the payload's text is
+    /// below 2^32.
     pub fn fits(&self) -> bool
         ensures fits { IsTrue result ↔ Fits I.encoding self.now }
     {
@@ -125,8 +128,8 @@ impl<I: NetlinkSerializable> NetlinkMessage<I> {
             .is_at_most(u32::MAX as usize - NETLINK_HEADER_LEN)
     }
 
-    /// The size of the written message in bytes: 16 plus the size of the payload's text, which has to
-    /// be below 2^64.
+    /// The size of the written message in bytes: 16 plus the size of the payload's text, which has
+    /// to be below 2^64.
     pub fn buffer_len(&self) -> usize
         requires size { 16 + length (payload_text I.encoding self.now.payload) < 2 ^ 64 }
         ensures size { result ≡ 16 + length (payload_text I.encoding self.now.payload) }
@@ -134,8 +137,8 @@ impl<I: NetlinkSerializable> NetlinkMessage<I> {
         NETLINK_HEADER_LEN + self.payload.buffer_len()
     }
 
-    /// Sets the header's length to 16 plus the size of the payload's text, and its message type to the
-    /// payload's; changes nothing else. The message has to fit (`fits`).
+    /// Sets the header's length to 16 plus the size of the payload's text, and its message type to
+    /// the payload's; changes nothing else. The message has to fit (`fits`).
     pub fn finalize(&mut self)
         requires fits { Fits I.encoding self.old }
         ensures finalized { self.new ≡ finalized I.encoding self.old }
@@ -146,8 +149,8 @@ impl<I: NetlinkSerializable> NetlinkMessage<I> {
     }
 
     /// Writes the header and the payload's text at the front of the buffer, and leaves the bytes
-    /// behind them. The header's length has to be their size, as `finalize` leaves it, and the buffer
-    /// has to hold as many bytes.
+    /// behind them. The header's length has to be their size, as `finalize` leaves it, and the
+    /// buffer has to hold as many bytes.
     pub fn serialize(&self, buffer: &mut [u8])
         requires length { self.now.header.length ≡ 16 + length (payload_text I.encoding self.now.payload) }
         requires room { self.now.header.length ≤ length buffer.old }
@@ -165,8 +168,8 @@ impl<I: NetlinkSerializable + Drop> NetlinkMessage<I> {
     /// The message's one canonical frame, in a vector of its exact size: what `finalize` and
     /// `serialize` write.
     ///
-    /// C15 exactly where the message does not fit (`fits`), with no memory asked; otherwise C16 where
-    /// memory was refused for the frame.
+    /// `TooLong` exactly where the message does not fit (`fits`), with no memory asked; otherwise
+    /// `OutOfMemory` where memory was refused for the frame.
     pub fn into_frame(mut self, alloc: Global) -> Result<Vec<u8>, DecodeError>
         ensures writes { IfOk result (λ frame. Fits I.encoding self
             × (frame.items ≡ canonical_frame I.encoding self)) }

@@ -16,7 +16,8 @@ use std::alloc::{AllocError, Global};
 use std::error::Error;
 use std::fmt::Write;
 
-/// The payload of a message: one of the four kinds that every protocol shares, or the protocol's own.
+/// The payload of a message: one of the four kinds that every protocol shares, or the protocol's
+/// own.
 #[derive(Debug, Drop, PartialEq, Eq)]
 pub enum NetlinkPayload<I> {
     /// The end of a multipart message (`NLMSG_DONE`).
@@ -168,8 +169,8 @@ fn read_inner<I: NetlinkDeserializable>(
     }
 }
 
-/// The text of a protocol's refusal. Both strings have room at once: 64 bytes for the protocol's own
-/// words, and 41 for what stands in front of them.
+/// The text of a protocol's refusal. Both strings have room at once: 64 bytes for the protocol's
+/// own words, and 41 for what stands in front of them.
 fn refusal<E: Error>(alloc: Global, message_type: u16, error: &E) -> Result<String, AllocError>
     ensures { IfOk result (λ text. (rest : List ℕ) × (string_bytes text ≡ refusal_text message_type rest)) }
 {

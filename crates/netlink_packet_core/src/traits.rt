@@ -30,8 +30,8 @@ pub trait NetlinkSerializable {
     /// the vector has room the answer is Ok; otherwise its allocator is asked, and an error says
     /// that it refused.
     ///
-    /// This body makes room of zeros and fills it by `serialize`; a protocol that has its text at hand
-    /// does better to copy it once.
+    /// This body makes room of zeros and fills it by `serialize`; a protocol that has its text at
+    /// hand does better to copy it once.
     fn append(&self, frame: &mut Vec<u8>) -> Result<(), AllocError>
         requires fits { vec_len frame.old + length (encoding.text_of self.now) < 2 ^ 64 }
         ensures text { OnOk result (frame.new.items ≡ frame.old.items ++ encoding.text_of self.now) }
@@ -46,8 +46,8 @@ pub trait NetlinkSerializable {
     /// Whether the bytes are the value's text. An error says that a request for memory was refused;
     /// bytes of another size than the text's ask for none.
     ///
-    /// This body writes the text into a buffer of its own; a protocol that has its text at hand does
-    /// better to compare it.
+    /// This body writes the text into a buffer of its own; a protocol that has its text at hand
+    /// does better to compare it.
     fn is_text(&self, alloc: Global, bytes: &[u8]) -> Result<bool, AllocError>
         ensures says { IfOk result (λ yes. IsTrue yes ↔ (bytes.now ≡ encoding.text_of self.now)) }
         ensures size { OnErr result (length bytes.now ≡ length (encoding.text_of self.now)) }
@@ -66,7 +66,8 @@ pub trait NetlinkDeserializable: Sized {
     /// Why a payload is refused.
     type Error: Error + Drop;
 
-    /// What a header and a payload give, what a value stands for, and which values hold numbers of their widths.
+    /// What a header and a payload give, what a value stands for, and which values hold numbers of
+    /// their widths.
     ghost decoding: { Decoding Self };
 
     /// The errors that say that a request for memory was refused.

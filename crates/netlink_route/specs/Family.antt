@@ -8,7 +8,8 @@ use Rattle.netlink_packet_core.specs.Block.{canonical_block}
 use Rattle.netlink_route.specs.Typed.{KeepsValues, ValueReading, block_reading}
 use Rattle.netlink_route.specs.TypedLaws.{AreSpelled, block_again, reading_spelled}
 
--- the size of the header, which bytes of that size are one, and how the values of attributes are read
+-- the size of the header, which bytes of that size are one, and how the values of attributes are
+-- read
 pub record Family : Type 0 where
   pub size : ℕ
   pub is_header : List ℕ → Bool

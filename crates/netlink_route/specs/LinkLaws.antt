@@ -1,4 +1,5 @@
--- The attributes and the header of a link: what is written is read as it, and equal ones are written alike.
+-- The attributes and the header of a link: what is written is read as it, and equal ones are
+-- written alike.
 use Rattle.std.specs.Prelude.{ℕ, ◌≡◌, ◌↔◌, true, List, [], ◌∷◌, ◌++◌, take, drop, Some, refl}
 use Rattle.std.proofs.Common.{arith, ap, sym, ◌∙◌}
 use Rattle.std.proofs.lemmas.Bool.{and_parts, and_from, ltb-true, eqb-true, eq-eqb}

@@ -7,7 +7,8 @@ use Rattle.netlink_packet_core.specs.Block.{canonical_block}
 use Rattle.netlink_packet_core.specs.Nla.{attribute_with}
 use Rattle.netlink_packet_core.specs.Reading.{attributes_in}
 
--- what a kind and a value are written as where they are read; nothing where the value is not one of its kind
+-- what a kind and a value are written as where they are read; nothing where the value is not one of
+-- its kind
 abbrev pub ValueReading : Type 0
 ValueReading = ℕ → List ℕ → Option (List ℕ)
 

@@ -1,4 +1,5 @@
--- What is read of a block of typed attributes is written so that it is read again, and blocks are equal by their attributes.
+-- What is read of a block of typed attributes is written so that it is read again, and blocks are
+-- equal by their attributes.
 use Rattle.std.specs.Prelude.{ℕ, ◌≡◌, ◌↔◌, ◌<◌, ◌≤◌, ◌^◌, Bool, true, false, List, [], ◌∷◌, length, map, Option, Some, None, All, refl, if◌then◌else◌}
 use Rattle.std.specs.Cmp.{IsEquivalence, on_equiv}
 use Rattle.std.specs.Cmp.Lexicographic.{bytes_decides, pointwise}
@@ -150,7 +151,8 @@ attribute_equiv = and_equiv (on_equiv (λ (a : Attribute). a.kind) nat_eq_equiv)
 firsts : (a b : Attribute) (x y : List Attribute) → a ∷ x ≡ b ∷ y → (a ≡ b) × (x ≡ y)
 firsts a b x y same = (cc, cc)
 
--- lists are equal by a test of what their items stand for exactly if they stand for the same attributes
+-- lists are equal by a test of what their items stand for exactly if they stand for the same
+-- attributes
 pub equal_lists : {T : Type 0} (of : T → Attribute) (x y : List T) → (pointwise (λ a b. attribute_eq (of a) (of b)) x y ≡ true) ↔ (map of x ≡ map of y)
 equal_lists of [] [] = (λ e. refl, λ e. refl)
 equal_lists of [] (b ∷ y) = (λ e. absurd (cc), λ e. absurd (cc))

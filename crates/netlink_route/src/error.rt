@@ -25,7 +25,8 @@ pub enum RouteError {
     },
     /// The second byte of `struct ifinfomsg` is not zero.
     PaddingNotZero,
-    /// What stands behind the header, or in a nest, is not attributes: C5, C6 or C7.
+    /// What stands behind the header, or in a nest, is not attributes: `NlaBufferTooSmall`,
+    /// `NlaLengthMismatch` or `NlaInvalidLength`.
     Attributes(DecodeError),
     /// The value of an attribute does not have the exact size of its kind.
     Size {

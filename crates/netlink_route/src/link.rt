@@ -70,7 +70,8 @@ pub enum LinkAttribute {
     IfAlias(Text),
     /// The number of a group of links (`IFLA_GROUP`).
     Group(u32),
-    /// What a request asks beside the rest, `RTEXT_FILTER_*` of linux/rtnetlink.h (`IFLA_EXT_MASK`).
+    /// What a request asks beside the rest, `RTEXT_FILTER_*` of linux/rtnetlink.h
+    /// (`IFLA_EXT_MASK`).
     ExtMask(u32),
     /// Whether there is a carrier, 0 or 1 (`IFLA_CARRIER`).
     Carrier(u8),

@@ -16,7 +16,8 @@ unread_frames walk = walk.rest.now
 abbrev pub FrameItem : Type 0
 FrameItem = Result (Bor (List ℕ)) DecodeError
 
--- one step of a walk at these bytes, and what is then still to be walked; a frame holds itself whole
+-- one step of a walk at these bytes, and what is then still to be walked; a frame holds itself
+-- whole
 abbrev pub GivesFrame : List ℕ → Option FrameItem → List ℕ → Type 0
 GivesFrame bytes None rest = (bytes ≡ []) × (rest ≡ [])
 GivesFrame bytes (Some (Err fault)) rest = (bytes ≢ []) × IsFrameFault false bytes fault × (rest ≡ [])
@@ -41,7 +42,8 @@ AreFrames (Ok frame ∷ items) (f ∷ more) fault = (frame.now ≡ f) × AreFram
 abbrev pub frame_bound : List ℕ → ℕ
 frame_bound bytes = (length bytes + 15) / 16
 
--- The unread bytes are frames one after another, and calls of `next` until it gives `None` give exactly those.
+-- The unread bytes are frames one after another, and calls of `next` until it gives `None` give
+-- exactly those.
 abbrev pub GivesFrames : Frames (Bor (List ℕ)) → Type 0
 GivesFrames walk =
     (all : List (List ℕ)) × (fault : Option DecodeError) × FrameWalk (unread_frames walk) all fault

@@ -12,7 +12,8 @@ use Rattle.netlink_tree.specs.declared.fault.TreeFault.TheVariants.{TooDeep, Dec
 abbrev pub Outcome : Type 0
 Outcome = Result Forest TreeFault
 
--- the attribute is this tree, or has this fault inside, where `Inside` says what the value of a nest comes to
+-- the attribute is this tree, or has this fault inside, where `Inside` says what the value of a
+-- nest comes to
 abbrev pub IsRead : (List ℕ → Outcome → Type 0) → Attribute → Result Tree TreeFault → Type 0
 IsRead Inside a (Ok (leaf kind value)) = (is_nested a.kind ≡ false) × (kind ≡ a.kind) × (value ≡ a.value)
 IsRead Inside a (Ok (nest kind children)) = (is_nested a.kind ≡ true) × (kind ≡ a.kind) × Inside a.value (Ok children)

@@ -39,7 +39,8 @@ abbrev mutual
 abbrev pub writing : Forest → Result (List ℕ) TreeFault
 writing ts = if nat_lt 16 (levels ts) then Err TooDeep else if are_too_long ts then Err TooLong else Ok (tree_text ts)
 
--- a canonical block, and so is the value of each of its attributes with the bit of nested attributes, at every depth
+-- a canonical block, and so is the value of each of its attributes with the bit of nested
+-- attributes, at every depth
 pub data IsCanonicalDeep : List ℕ → Type 0 where
   deep : (bytes : List ℕ) (all : List Attribute) → IsBlockOf bytes all
       → ((a : Attribute) → Contains all a → is_nested a.kind ≡ true → IsCanonicalDeep a.value)

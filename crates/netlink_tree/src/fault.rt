@@ -15,7 +15,8 @@ pub enum TreeFault {
     TooDeep,
     /// A value, or the block inside a nest as it is written, is above 65531 bytes.
     TooLong,
-    /// Bytes are no attributes (C5, C6 or C7), or a request for memory was refused (C16).
+    /// Bytes are no attributes (`NlaBufferTooSmall`, `NlaLengthMismatch` or `NlaInvalidLength`), or
+    /// a request for memory was refused (`OutOfMemory`).
     Decode(DecodeError),
 }
 
@@ -54,7 +55,7 @@ impl From<AllocError> for TreeFault {
 
     ghost from_gives = { λ _ fault. fault ≡ Decode OutOfMemory };
 
-    /// A `Decode` of C16, so that `?` hands on a refused request for memory.
+    /// A `Decode` of `OutOfMemory`, so that `?` hands on a refused request for memory.
     fn from(_refused: AllocError) -> Self {
         TreeFault::Decode(DecodeError::OutOfMemory)
     }

@@ -10,11 +10,11 @@ ghost use Rattle.netlink_packet_core.specs.FrameWalk.{StartsFrame, FrameWalk, fr
 use netlink_packet_core::{DecodeError, NetlinkBuffer, nla_align};
 use std::alloc::{AllocError, Global};
 
-/// The frames of a datagram in order. An error (C9, C10 or C11) is the last item, and `None` comes
-/// for good behind it.
+/// The frames of a datagram in order. An error (`FrameShort`, `FrameCut` or `FrameLength`) is the
+/// last item, and `None` comes for good behind it.
 ///
-/// An item is a frame without its padding, which `NetlinkBuffer::new_checked` accepts. Two are equal
-/// exactly if the bytes still to be walked are. No call asks for memory.
+/// An item is a frame without its padding, which `NetlinkBuffer::new_checked` accepts. Two are
+/// equal exactly if the bytes still to be walked are. No call asks for memory.
 #[derive(Clone, Copy, Debug, PartialEq, Eq)]
 pub struct Frames<T> {
     rest: T,
@@ -87,14 +87,14 @@ fn behind_frame(bytes: &[u8], size: usize) -> &[u8]
     }
 }
 
-/// Adds a frame at the end of a datagram, with its padding of zeros. The datagram's size in bytes has
-/// to be a multiple of 4, as it is where it is empty and behind each call.
+/// Adds a frame at the end of a datagram, with its padding of zeros. The datagram's size in bytes
+/// has to be a multiple of 4, as it is where it is empty and behind each call.
 ///
 /// Of `frame` the first `length` bytes are added, and nothing past them. Bytes that
-/// `NetlinkBuffer::new_checked` refuses are answered by the same error (C9, C10 or C11) without a
-/// request for memory. Where the datagram has room the answer is Ok; otherwise its own allocator
-/// is asked, and where that refuses the answer is C16. An error leaves the
-/// datagram as it was.
+/// `NetlinkBuffer::new_checked` refuses are answered by the same error (`FrameShort`, `FrameCut` or
+/// `FrameLength`) without a request for memory. Where the datagram has room the answer is Ok;
+/// otherwise its own allocator is asked, and where that refuses the answer is `OutOfMemory`. An
+/// error leaves the datagram as it was.
 pub fn append_frame(_alloc: Global, datagram: &mut Vec<u8>, frame: &[u8]) -> Result<(), DecodeError>
     requires aligned { length datagram.old.items % 4 ≡ 0 }
     ensures whole { OnOk result (HoldsFrame frame.now) }

@@ -16,10 +16,10 @@ use std::alloc::Global;
 /// that is its value, any other is a leaf.
 ///
 /// The attributes of the outer block have depth 1. A block of depth 17 that is not empty is
-/// `TooDeep`, whatever it holds; what is no attribute is a `Decode` of the walk's fault (C5, C6 or
-/// C7). The first fault in reading order is answered, where the inside of an attribute is read
-/// before the next one. `Decode` of C16 says that a request for memory was refused; an
-/// empty input asks for none.
+/// `TooDeep`, whatever it holds; what is no attribute is a `Decode` of the walk's fault
+/// (`NlaBufferTooSmall`, `NlaLengthMismatch` or `NlaInvalidLength`). The first fault in reading
+/// order is answered, where the inside of an attribute is read before the next one. `Decode` of
+/// `OutOfMemory` says that a request for memory was refused; an empty input asks for none.
 pub fn read_tree(alloc: Global, bytes: &[u8]) -> Result<Vec<NlaTree>, TreeFault>
     ensures trees { MatchResult result
         (λ ts. Trees 16 bytes.now (Ok (views ts.items)))

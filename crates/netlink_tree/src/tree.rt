@@ -19,8 +19,8 @@ pub enum NlaTree {
     Nest { kind: u16, children: Vec<NlaTree> },
 }
 
-/// Whether, at every depth, the kinds of leaves are without the bit `NLA_F_NESTED` and those of nests
-/// have it. An empty list is well formed. Asks for no memory.
+/// Whether, at every depth, the kinds of leaves are without the bit `NLA_F_NESTED` and those of
+/// nests have it. An empty list is well formed. Asks for no memory.
 pub fn is_well_formed(trees: &[NlaTree]) -> bool
     ensures formed { IsTrue result ↔ AreWellFormed (views trees.now) }
 {

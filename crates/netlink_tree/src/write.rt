@@ -20,13 +20,14 @@ use std::alloc::Global;
 const LONGEST_VALUE: usize = 65531;
 
 /// The canonical block of trees, at every depth: each attribute with its kind as it is and with its
-/// padding of zeros, the value of a nest being the block of what is inside. The trees have to be well
-/// formed, as `is_well_formed` tells; those that `read_tree` gives are.
+/// padding of zeros, the value of a nest being the block of what is inside. The trees have to be
+/// well formed, as `is_well_formed` tells; those that `read_tree` gives are.
 ///
-/// Where an attribute stands deeper than 16, the outer ones having depth 1, the answer is `TooDeep`;
-/// otherwise, where a value or the block inside a nest is above 65531 bytes, it is `TooLong`.
-/// Neither asks for memory. Otherwise there is one request, of the block's size, and `Decode` of C16
-/// says that it was refused; an empty list asks for none.
+/// Where an attribute stands deeper than 16, the outer ones having depth 1, the answer is
+/// `TooDeep`; otherwise, where a value or the block inside a nest is above 65531 bytes, it is
+/// `TooLong`.
+/// Neither asks for memory. Otherwise there is one request, of the block's size, and `Decode` of
+/// `OutOfMemory` says that it was refused; an empty list asks for none.
 pub fn write_tree(alloc: Global, trees: &[NlaTree]) -> Result<Vec<u8>, TreeFault>
     requires formed { AreWellFormed (views trees.now) }
     ensures text { MatchResult result
@@ -66,8 +67,8 @@ fn is_too_deep(trees: &[NlaTree], limit: usize) -> bool
     false
 }
 
-/// The size of the text of trees, or the greatest number below it that there is; none where a value,
-/// or the text inside a nest, is too long.
+/// The size of the text of trees, or the greatest number below it that there is; none where a
+/// value, or the text inside a nest, is too long.
 #[tactic(auto, using(std::proofs::lemmas::Grind::common_steps, crate::proofs::TreeWriting::text_sizes))]
 fn whole_size(trees: &[NlaTree]) -> Option<usize>
     ensures { MatchOption result

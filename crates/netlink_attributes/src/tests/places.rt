@@ -116,7 +116,8 @@ fn a_value_is_set_by_its_kind(rt: HostRuntime) {
     assert!(rt; walks_as(&block, &[(1, &[0xaa]), (2, &[9, 9, 9, 9])], None));
 }
 
-/// Whether the block walks as these kinds and values, and then ends or has C7 of 4 and this length.
+/// Whether the block walks as these kinds and values, and then ends or has `NlaInvalidLength` of 4
+/// and this length.
 fn walks_as(block: &[u8], attributes: &[(u16, &[u8])], damaged: Option<usize>) -> bool {
     let mut expected = attributes.iter();
     for item in NlasIterator::new(block) {

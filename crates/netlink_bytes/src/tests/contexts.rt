@@ -9,7 +9,7 @@ const SHORT: &str = "a caused by buffer has length 1, but an NLA header is 4 byt
 
 const CHAIN: &str = "b caused by a caused by c";
 
-/// C5 of 1 and 4.
+/// `NlaBufferTooSmall` of 1 and 4.
 fn short() -> DecodeError {
     DecodeError::nla_buffer_too_small(1, 4)
 }

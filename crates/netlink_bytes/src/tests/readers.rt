@@ -100,8 +100,8 @@ fn texts(rt: HostRuntime) -> Result<(), Fail> {
     Ok(())
 }
 
-/// The words behind the fixed beginning are those of Rust's own error. A zero at the end goes first,
-/// so that `c3 00` is a sequence that was cut short.
+/// The words behind the fixed beginning are those of Rust's own error. A zero at the end goes
+/// first, so that `c3 00` is a sequence that was cut short.
 #[test]
 fn texts_that_are_not_utf8(rt: HostRuntime) -> Result<(), Fail> {
     let alloc = rt.alloc();

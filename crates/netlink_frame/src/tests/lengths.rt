@@ -124,7 +124,8 @@ pub const FOUR_ZEROS: [u8; 20] = [
     0x14, 0, 0, 0, 0x12, 0, 0, 0, 0, 0, 0, 0, 0, 0, 0, 0, 0, 0, 0, 0,
 ];
 
-/// The longest message that fits 32 bits has 4294967279 bytes behind its header; no test makes them.
+/// The longest message that fits 32 bits has 4294967279 bytes behind its header; no test makes
+/// them.
 #[test]
 fn the_longest_message(rt: HostRuntime) -> Result<(), Fail> {
     let longest = NetlinkMessage::from_inner(Zeros(4294967279));

@@ -1,7 +1,7 @@
 //! Calls that ask for memory.
 //!
-//! `tests/memory` runs each test once for each of its requests, with that one refused. Then it passes
-//! as ever, or it ends with want of memory, which it hands on by `?`.
+//! `tests/memory` runs each test once for each of its requests, with that one refused. Then it
+//! passes as ever, or it ends with want of memory, which it hands on by `?`.
 
 use crate::frames::frames_text;
 use crate::nlas::nlas_text;

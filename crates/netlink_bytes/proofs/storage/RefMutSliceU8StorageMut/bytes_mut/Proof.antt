@@ -50,7 +50,8 @@ bytes_mut_spec 𝓤 𝓛 𝓜 𝓡 wired =
     open_ref ! tt (mem Sl) {b = b} {o = o} $
     use1 𝓛 (some (λ (v : Val). ‵ (fat full_share (slice_ty τ) b o v) ⊛ ‵ (Sl.own_val y (v ∷ [])))) (part_out_at 𝓛 Sl refl full_share y b o (slice_ty τ) refl) $ pick ! (λ v. split ! $ move ! (1 ∷ []) $ fsplit3 ! $ fsplit3 ! $ feq_l ! (λ ev. flt_l ! (λ fits. flt_l ! (λ small.
     rewrite ! 2 (λ (cv : Val). ‵ (fat full_share (slice_ty τ) b o cv)) (ap only ev) refl $
-    -- [the inner reference's name and borrow; its cell; the outer borrow, open; its two halves; the tokens; the locals]
+    -- [the inner reference's name and borrow; its cell; the outer borrow, open; its two halves; the
+    -- tokens; the locals]
     sets ! (of_opd ! (load ! (through ! refl (fld ! refl (stop !))) (look_in ! 2 (sub ! 1 refl (whole !))))) refl (tt, record { fits = fits }) $
     sets ! (addr ! (through ! refl (fld ! refl (hop ! (look_in ! 2 (sub ! 0 refl (whole !))) (stop !))))) refl (tt, tt) $
     sets ! (agg ! (and_then ! (get ! refl) (and_then ! (get ! refl) (no_more !)))) refl (tt, (tt, (record { fits = fits }, tt))) $
