@@ -1,5 +1,5 @@
 -- Every byte list is frames in one way, and what is written of frames walks as them.
-use Rattle.std.proofs.Common.{◌≡◌, ◌≢◌, ℕ, zero, suc, ◌+◌, ◌-◌, ◌*◌, ◌/◌, ◌%◌, ◌<◌, ◌≤◌, ◌^◌, List, [], ◌∷◌, ◌++◌, length, take, drop, refl, ap, sym, subst, ◌∙◌, inl, inr, arith, Option, None, All, append_assoc, append-nil, length-append, length-drop}
+use Rattle.std.proofs.Common.{◌≡◌, ◌≢◌, ◌↔◌, ℕ, zero, suc, ◌+◌, ◌-◌, ◌*◌, ◌/◌, ◌%◌, ◌<◌, ◌≤◌, ◌^◌, List, [], ◌∷◌, ◌++◌, length, take, drop, refl, ap, sym, subst, ◌∙◌, inl, inr, arith, Option, None, All, append_assoc, append-nil, length-append, length-drop}
 use Rattle.std.proofs.lemmas.Bool.{cases_lt}
 use Rattle.std.proofs.lemmas.List.{length-replicate}
 use Rattle.std.specs.Prelude.{false, replicate}
@@ -143,6 +143,22 @@ pub written_frames_once : (all found : List (List ℕ)) (fault : Option DecodeEr
 written_frames_once all found fault each walk =
     frames_once (datagram_of all) found all fault None walk (written_frames_walk all each)
 
+-- datagrams are written alike exactly of the same frames
+pub written_frames_alike : (x y : List (List ℕ)) → All IsWholeFrame x → All IsWholeFrame y
+    → (datagram_of x ≡ datagram_of y) ↔ (x ≡ y)
+written_frames_alike x y each other = (
+  λ same. (written_frames_once y x None other (subst (λ (b : List ℕ). FrameWalk b x None) same (written_frames_walk x each))).0,
+  λ same. ap datagram_of same,
+)
+
+-- one more is written behind the others
+pub datagram_push : (done : List (List ℕ)) (frame : List ℕ)
+    → datagram_of (done ++ (frame ∷ [])) ≡ datagram_of done ++ padded_frame frame
+datagram_push [] frame = append-nil (padded_frame frame)
+datagram_push (first ∷ done) frame =
+    ap (λ x. padded_frame first ++ x) (datagram_push done frame)
+    ∙ sym (append_assoc (padded_frame first) (datagram_of done) (padded_frame frame))
+
 -- one frame with its padding
 pub one_frame : (frame : List ℕ) → IsWholeFrame frame → FrameWalk (padded_frame frame) (frame ∷ []) None
 one_frame frame is =
@@ -195,3 +211,12 @@ padded_aligned frame =
     let size : length zeros ≡ missing = length-replicate missing 0 in
     let whole : length (padded_frame frame) ≡ length frame + length zeros = length-append frame zeros in
     omega (arith, size, whole)
+
+-- and so is what is written of frames
+pub datagram_aligned : (all : List (List ℕ)) → IsAligned (datagram_of all)
+datagram_aligned [] = refl
+datagram_aligned (frame ∷ more) =
+    let first : length (padded_frame frame) % 4 ≡ 0 = padded_aligned frame in
+    let later : length (datagram_of more) % 4 ≡ 0 = datagram_aligned more in
+    let whole = length-append (padded_frame frame) (datagram_of more) in
+    omega (arith, first, later, whole)

@@ -1,3 +1,4 @@
+pub mod AttributeSizes
 pub mod Canonical
 pub mod Frame
 pub mod FramePassing
@@ -5,8 +6,11 @@ pub mod FrameStartLaws
 pub mod FrameWalk
 pub mod FrameWalkLaws
 pub mod Header
+pub mod NumberLaws
+pub mod Numbers
 pub mod Payload
 pub mod Protocol
+pub mod Reading
 pub mod Refusal
 pub mod Sizes
 -- the words of the crates below, for those who use this one alone
@@ -20,9 +24,7 @@ pub use Rattle.netlink_attributes.specs.Nla
 pub use Rattle.netlink_attributes.specs.OlderBlock
 pub use Rattle.netlink_attributes.specs.Passing
 pub use Rattle.netlink_attributes.specs.Places
-pub use Rattle.netlink_attributes.specs.Reading
 pub use Rattle.netlink_attributes.specs.ReadingLaws
-pub use Rattle.netlink_attributes.specs.Sizes as AttributeSizes
 pub use Rattle.netlink_attributes.specs.StartLaws
 pub use Rattle.netlink_attributes.specs.Steps
 pub use Rattle.netlink_attributes.specs.Views
@@ -34,8 +36,6 @@ pub use Rattle.netlink_bytes.specs.Contexts
 pub use Rattle.netlink_bytes.specs.Fields
 pub use Rattle.netlink_bytes.specs.Lending
 pub use Rattle.netlink_bytes.specs.NonZero
-pub use Rattle.netlink_bytes.specs.NumberLaws
-pub use Rattle.netlink_bytes.specs.Numbers
 pub use Rattle.netlink_bytes.specs.Storage
 pub use Rattle.netlink_bytes.specs.StorageLaws
 pub use Rattle.netlink_bytes.specs.Text
