@@ -12,7 +12,7 @@ use crate::answers::OK;
 use crate::fault::{FaultNumbers, refused};
 use crate::frame::Part;
 use netlink_packet_core::{
-    ErrorBuffer, NETLINK_HEADER_LEN, NLM_F_ACK_TLVS, NLM_F_CAPPED, NetlinkBuffer, nla_align,
+    ErrorBuffer, NETLINK_HEADER_LEN, NLM_F_ACK_TLVS, NLM_F_CAPPED, NetlinkBuffer, nlmsg_align,
 };
 
 /// The body of an error message (`struct nlp_error`).
@@ -91,7 +91,7 @@ fn request_end(payload: &[u8], flags: u16) -> usize
     let end = if said < NETLINK_HEADER_LEN {
         4 + NETLINK_HEADER_LEN
     } else {
-        4 + nla_align(said)
+        4 + nlmsg_align(said)
     };
     if end < size { end } else { size }
 }

@@ -15,7 +15,7 @@ ghost use Rattle.netlink_c.specs.Ends.{begun_size, frame_text};
 use crate::answers::{NO_PLACE, NO_ROOM, OK, TOO_LONG};
 use crate::frame::HeaderFields;
 use netlink_packet_core::{
-    Emitable, NETLINK_HEADER_LEN, NLA_HEADER_SIZE, NetlinkHeader, nla_align, put_u16, put_u32,
+    Emitable, NETLINK_HEADER_LEN, NLA_HEADER_SIZE, NetlinkHeader, nlmsg_align, put_u16, put_u32,
 };
 
 /// Ends a nest: the bytes from behind the header at `start` up to the cursor become its value.
@@ -71,7 +71,7 @@ pub extern "C" fn nlp_frame_put(
         return TOO_LONG;
     }
     let size = fixed.len() + NETLINK_HEADER_LEN;
-    let whole = nla_align(size);
+    let whole = nlmsg_align(size);
     let at = *cursor;
     if at > buffer.len() || buffer.len() - at < whole {
         return NO_ROOM;

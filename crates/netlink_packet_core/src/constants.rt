@@ -1,5 +1,7 @@
 //! Numbers of the format, from linux/netlink.h, by the names of the Rust crate.
 
+ghost use Rattle.std.specs.Prelude.{◌≡◌, ◌+◌, ◌-◌, ◌%◌, ◌<◌, ◌≤◌};
+
 /// The size of a message's header in bytes (`NLMSG_HDRLEN`).
 pub const NETLINK_HEADER_LEN: usize = 16;
 
@@ -68,3 +70,15 @@ pub const NLM_F_CAPPED: u16 = 256;
 
 /// Flag of an acknowledgement: attributes of an extended acknowledgement follow.
 pub const NLM_F_ACK_TLVS: u16 = 512;
+
+/// The least multiple of `NLMSG_ALIGNTO` that is not below `len`: the size of a frame in bytes with
+/// the padding behind it (`NLMSG_ALIGN`). `len` is at most `usize::MAX - 4`.
+#[inline]
+pub fn nlmsg_align(len: usize) -> usize
+    requires room { len ≤ usize.MAX - 4 }
+    ensures multiple { result % 4 ≡ 0 }
+    ensures least { (len ≤ result) × (result < len + 4) }
+{
+    let unit = usize::from(NLMSG_ALIGNTO);
+    (len + unit - 1) / unit * unit
+}

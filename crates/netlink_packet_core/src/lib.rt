@@ -42,6 +42,7 @@ pub use crate::constants::NLMSG_DONE;
 pub use crate::constants::NLMSG_ERROR;
 pub use crate::constants::NLMSG_NOOP;
 pub use crate::constants::NLMSG_OVERRUN;
+pub use crate::constants::nlmsg_align;
 pub use crate::done::DoneBuffer;
 pub use crate::done::DoneMessage;
 pub use crate::error::ErrorBuffer;

@@ -7,7 +7,7 @@ ghost use Rattle.netlink_packet_core.specs.Refusal.{IsFrameFault};
 ghost use Rattle.netlink_tree.specs.FrameSteps.{unread_frames, frame_steps, frame_bound, GivesFrames};
 ghost use Rattle.netlink_packet_core.specs.FrameWalk.{StartsFrame, FrameWalk, frame_of, padded_frame};
 
-use netlink_packet_core::{DecodeError, NetlinkBuffer, nla_align};
+use netlink_packet_core::{DecodeError, NetlinkBuffer, nlmsg_align};
 use std::alloc::{AllocError, Global};
 
 /// The frames of a datagram in order. An error (`FrameShort`, `FrameCut` or `FrameLength`) is the
@@ -79,7 +79,7 @@ fn behind_frame(bytes: &[u8], size: usize) -> &[u8]
     ensures starts { StartsFrame bytes.now (frame_of bytes.now) result.now }
     ensures shorter { length result.now + 16 ≤ length bytes.now }
 {
-    let end = nla_align(size);
+    let end = nlmsg_align(size);
     if end < bytes.len() {
         &bytes[end..]
     } else {
@@ -108,7 +108,7 @@ pub fn append_frame(_alloc: Global, datagram: &mut Vec<u8>, frame: &[u8]) -> Res
     ensures aligned { length datagram.new.items % 4 ≡ 0 }
 {
     let text = first_frame(frame)?;
-    let whole = nla_align(text.len());
+    let whole = nlmsg_align(text.len());
     datagram.reserve(whole)?;
     datagram.extend_from_slice(text)?;
     append_zeros(datagram, whole - text.len())?;

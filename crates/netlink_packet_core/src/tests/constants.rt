@@ -4,7 +4,7 @@ use crate::{
     NETLINK_HEADER_LEN, NLM_F_ACK, NLM_F_ACK_TLVS, NLM_F_APPEND, NLM_F_ATOMIC, NLM_F_CAPPED,
     NLM_F_CREATE, NLM_F_DUMP, NLM_F_DUMP_FILTERED, NLM_F_DUMP_INTR, NLM_F_ECHO, NLM_F_EXCL,
     NLM_F_MATCH, NLM_F_MULTIPART, NLM_F_NONREC, NLM_F_REPLACE, NLM_F_REQUEST, NLM_F_ROOT,
-    NLMSG_ALIGNTO, NLMSG_DONE, NLMSG_ERROR, NLMSG_NOOP, NLMSG_OVERRUN,
+    NLMSG_ALIGNTO, NLMSG_DONE, NLMSG_ERROR, NLMSG_NOOP, NLMSG_OVERRUN, nlmsg_align,
 };
 
 #[test]
@@ -36,5 +36,8 @@ fn each_by_its_name(rt: HostRuntime) {
     ];
     for (value, wanted) in rows.iter() {
         assert_eq!(rt; *value, *wanted);
+    }
+    for (length, whole) in [(0, 0), (1, 4), (16, 16), (17, 20), (24, 24)] {
+        assert_eq!(rt; nlmsg_align(length), whole);
     }
 }

@@ -7,13 +7,13 @@ use Rattle.netlink_tree.proofs.frames.behind_frame.Goals as goal
 pub returns-then-end-bytes-clause-starts : goal.returns-then-end-bytes-clause-starts
 returns-then-end-bytes-clause-starts c =
     let bytes : List ℕ = c.args.bytes.now in
-    let end : ℕ = c.nla_align-end.result in
+    let end : ℕ = c.nlmsg_align-end.result in
     subst (StartsFrame bytes (frame_of bytes)) (sym (take_rest bytes end))
     (starts_frame_held bytes end c.requires.whole (omega arith) (omega arith) (omega arith))
 
 pub returns-else-end-bytes-clause-starts : goal.returns-else-end-bytes-clause-starts
 returns-else-end-bytes-clause-starts c =
     let bytes : List ℕ = c.args.bytes.now in
-    let end : ℕ = c.nla_align-end.result in
+    let end : ℕ = c.nlmsg_align-end.result in
     subst (StartsFrame bytes (frame_of bytes)) (drop_all end bytes (omega arith))
     (starts_frame_held bytes end c.requires.whole (omega arith) (omega arith) (omega arith))
