@@ -1,3 +1,4 @@
+pub mod Blocks
 pub mod Headers
 pub mod Reading
 pub mod Sizes

@@ -14,7 +14,7 @@ use Rattle.netlink_packet_core.specs.Text.{without_last_zero}
 use Rattle.netlink_route.specs.Value.{four_bytes, zero_text, keep, read_as, zero_dropped, zero_ended}
 
 -- two tests that hold together are the same
-same_test : (a b : Bool) → (a ≡ true → b ≡ true) → (b ≡ true → a ≡ true) → a ≡ b
+pub same_test : (a b : Bool) → (a ≡ true → b ≡ true) → (b ≡ true → a ≡ true) → a ≡ b
 same_test true b there back = sym (there refl)
 same_test false true there back = back refl
 same_test false false there back = refl

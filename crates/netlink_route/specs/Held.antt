@@ -1,7 +1,7 @@
 -- The values that attributes hold: what each is written as, and why a value is none of its shape.
 use Rattle.std.specs.Prelude.{ℕ, ◌≡◌, ◌⊎◌, List, [], ◌∷◌, ◌++◌, length, string_bytes}
 use Rattle.netlink_packet_core.specs.Numbers.{text_le}
-use Rattle.netlink_route.specs.Value.{Shape, four_bytes, one_byte, zero_text, any_bytes}
+use Rattle.netlink_route.specs.Value.{Shape, four_bytes, one_byte, zero_text, any_bytes, info_block}
 use Rattle.netlink_route.specs.declared.error.RouteError.{RouteError}
 use Rattle.netlink_route.specs.declared.error.RouteError.TheVariants as error
 use Rattle.netlink_route.specs.declared.value.Value.{Value}
@@ -26,3 +26,4 @@ IsValueFault four_bytes kind value e = e ≡ error.Size kind 4 (length value)
 IsValueFault one_byte kind value e = e ≡ error.Size kind 1 (length value)
 IsValueFault zero_text kind value e = (e ≡ error.Text kind) ⊎ (e ≡ error.OutOfMemory)
 IsValueFault any_bytes kind value e = e ≡ error.OutOfMemory
+IsValueFault info_block kind value e = ⊥

@@ -1,12 +1,16 @@
 pub mod Error
 pub mod Family
 pub mod Held
+pub mod Info
+pub mod InfoTable
 pub mod Link
 pub mod LinkHeader
+pub mod LinkHeld
 pub mod LinkLaws
 pub mod LinkTable
 pub mod Message
 pub mod MessageLaws
+pub mod Nest
 pub mod Typed
 pub mod TypedLaws
 pub mod Value

@@ -5,9 +5,10 @@ use Rattle.netlink_packet_core.specs.Nla.{attribute_with}
 use Rattle.netlink_packet_core.specs.Numbers.{text_le}
 use Rattle.netlink_route.specs.LinkTable.{link_row}
 use Rattle.netlink_route.specs.Typed.{ValueReading}
-use Rattle.netlink_route.specs.Value.{reading_by}
+use Rattle.netlink_route.specs.LinkHeld.{info_block_text}
+use Rattle.netlink_route.specs.Nest.{nested_by}
 use Rattle.netlink_route.specs.declared.link.LinkAttribute.{LinkAttribute}
-use Rattle.netlink_route.specs.declared.link.LinkAttribute.TheVariants.{Address, Broadcast, IfName, Mtu, Link, Qdisc, Master, TxQueueLen, OperState, IfAlias, Group, ExtMask, Carrier, Other}
+use Rattle.netlink_route.specs.declared.link.LinkAttribute.TheVariants.{Address, Broadcast, IfName, Mtu, Link, Qdisc, Master, TxQueueLen, OperState, LinkInfo, NestedLinkInfo, IfAlias, Group, ExtMask, Carrier, Other}
 
 -- the kind of an attribute
 abbrev pub kind_of : LinkAttribute → ℕ
@@ -20,6 +21,8 @@ kind_of (Qdisc name) = 6
 kind_of (Master number) = 10
 kind_of (TxQueueLen number) = 13
 kind_of (OperState byte) = 16
+kind_of (LinkInfo block) = 18
+kind_of (NestedLinkInfo block) = 32786
 kind_of (IfAlias name) = 20
 kind_of (Group number) = 27
 kind_of (ExtMask number) = 29
@@ -37,6 +40,8 @@ value_of (Qdisc name) = string_bytes name.text ++ (0 ∷ [])
 value_of (Master number) = text_le number 4
 value_of (TxQueueLen number) = text_le number 4
 value_of (OperState byte) = byte ∷ []
+value_of (LinkInfo block) = info_block_text block.list.items
+value_of (NestedLinkInfo block) = info_block_text block.list.items
 value_of (IfAlias name) = string_bytes name.text ++ (0 ∷ [])
 value_of (Group number) = text_le number 4
 value_of (ExtMask number) = text_le number 4
@@ -48,4 +53,4 @@ link_attribute a = attribute_with (kind_of a) (value_of a)
 
 -- how the value of a kind is read
 abbrev pub link_values : ValueReading
-link_values = reading_by link_row
+link_values = nested_by link_row

@@ -1,21 +1,38 @@
 -- The attributes and the header of a link: what is written is read as it, and equal ones are
 -- written alike.
 use Rattle.std.specs.Prelude.{ℕ, ◌≡◌, ◌↔◌, true, List, [], ◌∷◌, ◌++◌, take, drop, Some, refl}
-use Rattle.std.proofs.Common.{arith, ap, sym, ◌∙◌}
+use Rattle.std.proofs.Common.{◌≤◌, All, arith, length, ap, sym, ◌∙◌}
 use Rattle.std.proofs.lemmas.Bool.{and_parts, and_from, ltb-true, eqb-true, eq-eqb}
+use Rattle.std.specs.Option.{option_map}
+use Rattle.netlink_packet_core.specs.Block.{canonical_block}
+use Rattle.netlink_packet_core.specs.Nla.{attributes_of}
+use Rattle.netlink_packet_core.specs.Attribute.{FitsAttribute}
+use Rattle.netlink_route.specs.Info.{info_itself, info_kind, info_value}
+use Rattle.netlink_route.specs.InfoTable.{info_values}
+use Rattle.netlink_route.specs.LinkHeld.{info_block_text}
+use Rattle.netlink_route.specs.Nest.{info_text, nested_itself}
+use Rattle.netlink_route.specs.TypedLaws.{block_again, block_spelled}
+use Rattle.netlink_route.specs.declared.info.InfoAttribute.{InfoAttribute}
 use Rattle.netlink_packet_core.specs.Numbers.{number_le, text_le}
 use Rattle.netlink_packet_core.specs.NumberLaws.{number_le-text_le}
 use Rattle.netlink_route.specs.Link.{kind_of, link_values, value_of}
 use Rattle.netlink_route.specs.LinkHeader.{header_fits, header_text, verb_type}
 use Rattle.netlink_route.specs.LinkTable.{link_row}
-use Rattle.netlink_route.specs.Value.{any_bytes, itself, no_row, number_itself, text_itself}
+use Rattle.netlink_route.specs.Value.{any_bytes, no_row, number_itself, text_itself}
 use Rattle.netlink_route.specs.declared.link.LinkAttribute.{LinkAttribute}
-use Rattle.netlink_route.specs.declared.link.LinkAttribute.TheVariants.{Address, Broadcast, IfName, Mtu, Link, Qdisc, Master, TxQueueLen, OperState, IfAlias, Group, ExtMask, Carrier, Other}
+use Rattle.netlink_route.specs.declared.link.LinkAttribute.TheVariants.{Address, Broadcast, IfName, Mtu, Link, Qdisc, Master, TxQueueLen, OperState, LinkInfo, NestedLinkInfo, IfAlias, Group, ExtMask, Carrier, Other}
 use Rattle.netlink_route.specs.declared.link_header.LinkHeader.{LinkHeader}
 use Rattle.netlink_route.specs.declared.link_header.LinkVerb.{LinkVerb}
 use Rattle.netlink_route.specs.declared.link_header.LinkVerb.TheVariants.{New, Del, Get, Set}
 use Rattle.netlink_route.specs.contracts.link_header.LinkHeaderPartialEq.TheImpl.{eq-value as header_eq}
 use Rattle.netlink_route.specs.contracts.link_header.LinkVerbPartialEq.TheImpl.{eq-value as verb_eq}
+
+-- a nest is read as itself
+info_block_itself : (list : List InfoAttribute) (size : ℕ) → All FitsAttribute (attributes_of info_kind info_value list) → size ≡ length (info_block_text list) → size ≤ 4294963200
+    → info_text (info_block_text list) ≡ Some (info_block_text list)
+info_block_itself list size each counted whole =
+    ap (option_map canonical_block)
+    (block_again info_values (attributes_of info_kind info_value list) (block_spelled info_kind info_value info_values info_itself list size each counted whole))
 
 -- what is written of an attribute is read as it
 pub link_itself : (a : LinkAttribute) → link_values (kind_of a) (value_of a) ≡ Some (value_of a)
@@ -28,11 +45,13 @@ link_itself (Qdisc name) = text_itself name.text name.plain
 link_itself (Master number) = number_itself number
 link_itself (TxQueueLen number) = number_itself number
 link_itself (OperState byte) = refl
+link_itself (LinkInfo block) = info_block_itself block.list.items block.size block.each block.counted block.whole
+link_itself (NestedLinkInfo block) = info_block_itself block.list.items block.size block.each block.counted block.whole
 link_itself (IfAlias name) = text_itself name.text name.plain
 link_itself (Group number) = number_itself number
 link_itself (ExtMask number) = number_itself number
 link_itself (Carrier byte) = refl
-link_itself (Other other) = itself any_bytes link_row other.kind other.value.items (no_row (link_row other.kind) other.other) refl
+link_itself (Other other) = nested_itself any_bytes link_row other.kind other.value.items (no_row (link_row other.kind) other.other) refl
 
 -- ---- headers
 

@@ -15,7 +15,7 @@ use Rattle.netlink_route.specs.LinkTable.{link_row}
 use Rattle.netlink_route.specs.Message.{link_attributes, link_text, links, route_decoding, route_in_range, route_reading, route_text, route_type}
 use Rattle.netlink_route.specs.Typed.{attribute_eq}
 use Rattle.netlink_route.specs.TypedLaws.{block_spelled, equal_blocks, equal_lists}
-use Rattle.netlink_route.specs.Value.{keeps_by}
+use Rattle.netlink_route.specs.Nest.{keeps_nested}
 use Rattle.netlink_route.specs.declared.link_header.LinkHeader.{LinkHeader}
 use Rattle.netlink_route.specs.declared.link_header.LinkVerb.{LinkVerb}
 use Rattle.netlink_route.specs.declared.link_header.LinkVerb.TheVariants.{New, Del, Get, Set}
@@ -69,7 +69,7 @@ pub value_is_lawful : (v : RouteMessage) → IsLawful route_decoding (route_type
 value_is_lawful (Link verb m) = link_lawful (verb_type verb) (verb_type verb, link_text m) (verb_is_link verb) (link_is_written verb m)
 
 by_type : (is_link : Bool) (t : ℕ) (payload : List ℕ) (pair : ℕ × List ℕ) → is_link_type t ≡ is_link → (if is_link then family_reading links t payload else None) ≡ Some pair → IsLawful route_decoding pair
-by_type true t payload pair is gives = link_lawful t pair is (family_written links t payload pair (keeps_by link_row) gives)
+by_type true t payload pair is gives = link_lawful t pair is (family_written links t payload pair (keeps_nested link_row) gives)
 by_type false t payload pair is gives = absurd (cc)
 
 -- and so is what is read

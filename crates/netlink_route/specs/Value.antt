@@ -10,12 +10,13 @@ use Rattle.netlink_packet_core.specs.NumberLaws.{length-text_le}
 use Rattle.netlink_packet_core.specs.Text.{without_last_zero}
 use Rattle.netlink_route.specs.Typed.{KeepsValues, ValueReading}
 
--- a number of 4 bytes, one byte, a text with a zero behind it, any bytes
+-- a number of 4 bytes, one byte, a text with a zero behind it, any bytes, the attributes of a nest
 pub data Shape : Type 0 where
   four_bytes : Shape
   one_byte : Shape
   zero_text : Shape
   any_bytes : Shape
+  info_block : Shape
 
 -- the last byte is a zero, and no other one
 abbrev pub zero_ended : List ℕ → Bool
@@ -31,12 +32,13 @@ is_text value = zero_ended value && is_utf8 (without_last_zero value)
 abbrev pub keep : Bool → List ℕ → Option (List ℕ)
 keep is value = if is then Some value else None
 
--- the value, where it is one of the shape
+-- the value, where it is one of the shape; what a nest holds is read elsewhere
 abbrev pub read_as : Shape → List ℕ → Option (List ℕ)
 read_as four_bytes value = keep (length value == 4) value
 read_as one_byte value = keep (length value == 1) value
 read_as zero_text value = keep (is_text value) value
 read_as any_bytes value = Some value
+read_as info_block value = None
 
 -- the shape of a kind by its row in a family's table; any other kind has bytes
 abbrev pub shape_or : Option Shape → Shape
@@ -59,11 +61,12 @@ kept false value text gives = absurd (cc)
 kept_again : (is : List ℕ → Bool) (value text : List ℕ) → keep (is value) value ≡ Some text → keep (is text) text ≡ Some text
 kept_again is value text gives = rw (kept (is value) value text gives) at gives
 
-read_again : (shape : Shape) (value text : List ℕ) → read_as shape value ≡ Some text → read_as shape text ≡ Some text
+pub read_again : (shape : Shape) (value text : List ℕ) → read_as shape value ≡ Some text → read_as shape text ≡ Some text
 read_again four_bytes value text gives = kept_again (λ v. length v == 4) value text gives
 read_again one_byte value text gives = kept_again (λ v. length v == 1) value text gives
 read_again zero_text value text gives = kept_again is_text value text gives
 read_again any_bytes value text gives = refl
+read_again info_block value text gives = gives
 
 -- what is read by a table is read again as it is
 pub keeps_by : (row : ℕ → Option Shape) → KeepsValues (reading_by row)

@@ -3,7 +3,7 @@
 ghost use Rattle.std.specs.Cmp.{on_equiv, on_per, partial_equiv_from_equiv};
 ghost use Rattle.std.specs.Prelude.{◌≡◌, ◌↔◌, IfSome, IsSome, IsTrue};
 ghost use Rattle.netlink_packet_core.specs.Nla.{attribute_with};
-ghost use Rattle.netlink_route.specs.Held.{value_shape, value_text};
+ghost use Rattle.netlink_route.specs.LinkHeld.{held_shape, held_text};
 ghost use Rattle.netlink_route.specs.Link.{kind_of, link_attribute, link_values, value_of};
 ghost use Rattle.netlink_route.specs.LinkTable.{link_row};
 ghost use Rattle.netlink_route.specs.Typed.{attribute_eq};
@@ -11,11 +11,13 @@ ghost use Rattle.netlink_route.specs.TypedLaws.{attribute_equiv};
 ghost use Rattle.netlink_route.specs.Value.{is_none, shape_or};
 
 use crate::error::RouteError;
+use crate::held::Held;
+use crate::info::InfoAttribute;
 use crate::other_link::OtherLink;
 use crate::text::Text;
-use crate::typed::RouteNla;
+use crate::typed::{RouteNla, read_block};
 use crate::value::{Value, read_byte, read_bytes, read_number, read_text};
-use netlink_packet_core::Nla;
+use netlink_packet_core::{Nla, NlaBlock};
 use std::alloc::Global;
 
 const IFLA_ADDRESS: u16 = 1;
@@ -36,6 +38,8 @@ const IFLA_TXQLEN: u16 = 13;
 
 const IFLA_OPERSTATE: u16 = 16;
 
+const IFLA_LINKINFO: u16 = 18;
+const NESTED_LINKINFO: u16 = 32786;
 const IFLA_IFALIAS: u16 = 20;
 
 const IFLA_GROUP: u16 = 27;
@@ -66,6 +70,11 @@ pub enum LinkAttribute {
     TxQueueLen(u32),
     /// The operational state, an `IF_OPER_*` of linux/if.h (`IFLA_OPERSTATE`).
     OperState(u8),
+    /// The kind of link and its data, as the kernel sends it, without the bit `NLA_F_NESTED`
+    /// (`IFLA_LINKINFO`).
+    LinkInfo(NlaBlock<InfoAttribute>),
+    /// The same with that bit, as requests have it.
+    NestedLinkInfo(NlaBlock<InfoAttribute>),
     /// Another name, by the administrator (`IFLA_IFALIAS`).
     IfAlias(Text),
     /// The number of a group of links (`IFLA_GROUP`).
@@ -85,6 +94,9 @@ impl LinkAttribute {
         ensures other { IsSome result ↔ IsTrue (is_none (link_row kind)) }
         ensures attribute { IfSome result (λ a. link_attribute a ≡ attribute_with kind value.items) }
     {
+        if kind == IFLA_LINKINFO || kind == NESTED_LINKINFO {
+            return None;
+        }
         match kind {
             IFLA_ADDRESS
             | IFLA_BROADCAST
@@ -104,23 +116,26 @@ impl LinkAttribute {
     }
 
     /// What the attribute holds.
-    fn held(&self) -> Value<'_>
-        ensures text { value_text result ≡ value_of self.now }
-        ensures shape { value_shape result ≡ shape_or (link_row (kind_of self.now)) }
+    fn held(&self) -> Held<'_>
+        ensures text { held_text result ≡ value_of self.now }
+        ensures shape { held_shape result ≡ shape_or (link_row (kind_of self.now)) }
     {
         match self {
-            LinkAttribute::Address(bytes) | LinkAttribute::Broadcast(bytes) => Value::Bytes(bytes),
+            LinkAttribute::Address(bytes) | LinkAttribute::Broadcast(bytes) => Held::Plain(Value::Bytes(bytes)),
             LinkAttribute::IfName(text)
             | LinkAttribute::Qdisc(text)
-            | LinkAttribute::IfAlias(text) => Value::Text(text),
+            | LinkAttribute::IfAlias(text) => Held::Plain(Value::Text(text)),
             LinkAttribute::Mtu(number)
             | LinkAttribute::Link(number)
             | LinkAttribute::Master(number)
             | LinkAttribute::TxQueueLen(number)
             | LinkAttribute::Group(number)
-            | LinkAttribute::ExtMask(number) => Value::Number(*number),
-            LinkAttribute::OperState(byte) | LinkAttribute::Carrier(byte) => Value::Byte(*byte),
-            LinkAttribute::Other(other) => Value::Bytes(&other.value),
+            | LinkAttribute::ExtMask(number) => Held::Plain(Value::Number(*number)),
+            LinkAttribute::OperState(byte) | LinkAttribute::Carrier(byte) => Held::Plain(Value::Byte(*byte)),
+            LinkAttribute::LinkInfo(block) | LinkAttribute::NestedLinkInfo(block) => {
+                Held::Info(block)
+            }
+            LinkAttribute::Other(other) => Held::Plain(Value::Bytes(&other.value)),
         }
     }
 }
@@ -145,6 +160,8 @@ impl Nla for LinkAttribute {
             LinkAttribute::Master(_) => IFLA_MASTER,
             LinkAttribute::TxQueueLen(_) => IFLA_TXQLEN,
             LinkAttribute::OperState(_) => IFLA_OPERSTATE,
+            LinkAttribute::LinkInfo(_) => IFLA_LINKINFO,
+            LinkAttribute::NestedLinkInfo(_) => NESTED_LINKINFO,
             LinkAttribute::IfAlias(_) => IFLA_IFALIAS,
             LinkAttribute::Group(_) => IFLA_GROUP,
             LinkAttribute::ExtMask(_) => IFLA_EXT_MASK,
@@ -172,6 +189,8 @@ impl RouteNla for LinkAttribute {
             IFLA_MASTER => Ok(LinkAttribute::Master(read_number(kind, value)?)),
             IFLA_TXQLEN => Ok(LinkAttribute::TxQueueLen(read_number(kind, value)?)),
             IFLA_OPERSTATE => Ok(LinkAttribute::OperState(read_byte(kind, value)?)),
+            IFLA_LINKINFO => Ok(LinkAttribute::LinkInfo(read_block(alloc, value)?)),
+            NESTED_LINKINFO => Ok(LinkAttribute::NestedLinkInfo(read_block(alloc, value)?)),
             IFLA_IFALIAS => Ok(LinkAttribute::IfAlias(read_text(alloc, kind, value)?)),
             IFLA_GROUP => Ok(LinkAttribute::Group(read_number(kind, value)?)),
             IFLA_EXT_MASK => Ok(LinkAttribute::ExtMask(read_number(kind, value)?)),
