@@ -4,6 +4,8 @@ use Rattle.std.proofs.lemmas.List.{drop_all}
 use Rattle.std.specs.Prelude.{sum}
 use Rattle.netlink_packet_core.specs.Fields.{fields_at, fields_kept}
 use Rattle.netlink_packet_core.specs.Numbers.{IsBytes, text_le}
+use Rattle.netlink_route.specs.AddressHeader.{address_header_text}
+use Rattle.netlink_route.specs.declared.address_header.AddressHeader.{AddressHeader}
 use Rattle.netlink_route.specs.LinkHeader.{header_text}
 use Rattle.netlink_route.specs.declared.link_header.LinkHeader.{LinkHeader}
 
@@ -21,5 +23,19 @@ two_first (a ∷ b ∷ more) long = refl
 pub length-link_header : (h : LinkHeader) (more : List ℕ) → length (header_text h ++ more) ≡ 16 + length more
 unfolding text_le
 length-link_header h more = omega arith
+
+pub length-address_header : (h : AddressHeader) (more : List ℕ) → length (address_header_text h ++ more) ≡ 8 + length more
+unfolding text_le
+length-address_header h more = omega arith
+
+pub ruleset address_sizes = (length-address_header)
+
+-- the four bytes in front, and what follows them
+pub four_first : (bytes : List ℕ) → 4 ≤ length bytes → get_or bytes 0 0 ∷ get_or bytes 1 0 ∷ get_or bytes 2 0 ∷ get_or bytes 3 0 ∷ drop 4 bytes ≡ bytes
+four_first [] long = absurd (omega arith)
+four_first (a ∷ []) long = absurd (omega arith)
+four_first (a ∷ b ∷ []) long = absurd (omega arith)
+four_first (a ∷ b ∷ c ∷ []) long = absurd (omega arith)
+four_first (a ∷ b ∷ c ∷ d ∷ more) long = refl
 
 pub ruleset link_sizes = (length-link_header)

@@ -1,7 +1,7 @@
 -- The values that attributes hold: what each is written as, and why a value is none of its shape.
 use Rattle.std.specs.Prelude.{ℕ, ◌≡◌, ◌⊎◌, List, [], ◌∷◌, ◌++◌, length, string_bytes}
 use Rattle.netlink_packet_core.specs.Numbers.{text_le}
-use Rattle.netlink_route.specs.Value.{Shape, four_bytes, one_byte, zero_text, any_bytes, info_block}
+use Rattle.netlink_route.specs.Value.{Shape, four_bytes, one_byte, zero_text, ip_bytes, any_bytes, info_block}
 use Rattle.netlink_route.specs.declared.error.RouteError.{RouteError}
 use Rattle.netlink_route.specs.declared.error.RouteError.TheVariants as error
 use Rattle.netlink_route.specs.declared.value.Value.{Value}
@@ -12,12 +12,14 @@ abbrev pub value_text : Value → List ℕ
 value_text (held.Number number) = text_le number 4
 value_text (held.Byte byte) = byte ∷ []
 value_text (held.Text text) = string_bytes text.now.text ++ (0 ∷ [])
+value_text (held.Ip ip) = ip.now.bytes.items
 value_text (held.Bytes bytes) = bytes.now
 
 abbrev pub value_shape : Value → Shape
 value_shape (held.Number number) = four_bytes
 value_shape (held.Byte byte) = one_byte
 value_shape (held.Text text) = zero_text
+value_shape (held.Ip ip) = ip_bytes
 value_shape (held.Bytes bytes) = any_bytes
 
 -- why a value is none of its shape, or could not be copied
@@ -25,5 +27,6 @@ abbrev pub IsValueFault : Shape → ℕ → List ℕ → RouteError → Type 0
 IsValueFault four_bytes kind value e = e ≡ error.Size kind 4 (length value)
 IsValueFault one_byte kind value e = e ≡ error.Size kind 1 (length value)
 IsValueFault zero_text kind value e = (e ≡ error.Text kind) ⊎ (e ≡ error.OutOfMemory)
+IsValueFault ip_bytes kind value e = (e ≡ error.Address kind (length value)) ⊎ (e ≡ error.OutOfMemory)
 IsValueFault any_bytes kind value e = e ≡ error.OutOfMemory
 IsValueFault info_block kind value e = ⊥

@@ -1,3 +1,7 @@
+pub mod Address
+pub mod AddressHeader
+pub mod AddressLaws
+pub mod AddressTable
 pub mod Error
 pub mod Family
 pub mod Held

@@ -58,7 +58,7 @@ link_itself (Other other) = nested_itself any_bytes link_row other.kind other.va
 same_header : (g h : LinkHeader) → g.family ≡ h.family → g.layer_type ≡ h.layer_type → g.index ≡ h.index → g.flags ≡ h.flags → g.change_mask ≡ h.change_mask → g ≡ h
 same_header g h p q r s t = λ i. record { family = p i; layer_type = q i; index = r i; flags = s i; change_mask = t i }
 
-family_back : (n : ℕ) → number_le (n ∷ []) ≡ n
+pub family_back : (n : ℕ) → number_le (n ∷ []) ≡ n
 unfolding number_le
 family_back n = omega arith
 

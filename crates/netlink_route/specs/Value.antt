@@ -1,5 +1,5 @@
 -- The values of attributes by their shape, each written as it is read.
-use Rattle.std.specs.Prelude.{ℕ, zero, suc, ◌≡◌, ◌==◌, Bool, true, false, ◌&&◌, List, [], ◌∷◌, ◌++◌, length, Option, Some, None, refl, if◌then◌else◌}
+use Rattle.std.specs.Prelude.{ℕ, zero, suc, ◌≡◌, ◌==◌, Bool, true, false, ◌&&◌, ◌||◌, List, [], ◌∷◌, ◌++◌, length, Option, Some, None, refl, if◌then◌else◌}
 use Rattle.std.specs.Str.{is_utf8}
 use Rattle.std.specs.declared.alloc.Global.{Global}
 use Rattle.std.proofs.Common.{ap, ◌∙◌, String, string_bytes}
@@ -10,11 +10,12 @@ use Rattle.netlink_packet_core.specs.NumberLaws.{length-text_le}
 use Rattle.netlink_packet_core.specs.Text.{without_last_zero}
 use Rattle.netlink_route.specs.Typed.{KeepsValues, ValueReading}
 
--- a number of 4 bytes, one byte, a text with a zero behind it, any bytes, the attributes of a nest
+-- a number of 4 bytes, one byte, a text with a zero behind it, an IP address, any bytes, the attributes of a nest
 pub data Shape : Type 0 where
   four_bytes : Shape
   one_byte : Shape
   zero_text : Shape
+  ip_bytes : Shape
   any_bytes : Shape
   info_block : Shape
 
@@ -29,6 +30,10 @@ zero_ended (suc b ∷ more) = zero_ended more
 abbrev pub is_text : List ℕ → Bool
 is_text value = zero_ended value && is_utf8 (without_last_zero value)
 
+-- 4 bytes, or 16
+abbrev pub is_ip : List ℕ → Bool
+is_ip value = length value == 4 || length value == 16
+
 abbrev pub keep : Bool → List ℕ → Option (List ℕ)
 keep is value = if is then Some value else None
 
@@ -37,6 +42,7 @@ abbrev pub read_as : Shape → List ℕ → Option (List ℕ)
 read_as four_bytes value = keep (length value == 4) value
 read_as one_byte value = keep (length value == 1) value
 read_as zero_text value = keep (is_text value) value
+read_as ip_bytes value = keep (is_ip value) value
 read_as any_bytes value = Some value
 read_as info_block value = None
 
@@ -65,6 +71,7 @@ pub read_again : (shape : Shape) (value text : List ℕ) → read_as shape value
 read_again four_bytes value text gives = kept_again (λ v. length v == 4) value text gives
 read_again one_byte value text gives = kept_again (λ v. length v == 1) value text gives
 read_again zero_text value text gives = kept_again is_text value text gives
+read_again ip_bytes value text gives = kept_again is_ip value text gives
 read_again any_bytes value text gives = refl
 read_again info_block value text gives = gives
 

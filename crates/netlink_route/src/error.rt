@@ -42,6 +42,13 @@ pub enum RouteError {
         /// The kind of the attribute.
         kind: u16,
     },
+    /// The value of an attribute is an IP address neither of 4 bytes nor of 16.
+    Address {
+        /// The kind of the attribute.
+        kind: u16,
+        /// The size of its value.
+        received: usize,
+    },
     /// The attributes, as they are written, do not fit an attribute or a message.
     TooLong,
     /// A request for memory was refused.
@@ -83,6 +90,10 @@ impl fmt::Display for RouteError {
                     "attribute {kind} is not a text with one zero byte at its end"
                 )
             }
+            RouteError::Address { kind, received } => write!(
+                f,
+                "attribute {kind} has an address of {received} bytes instead of 4 or 16"
+            ),
             RouteError::TooLong => f.write_str("the attributes are too long"),
             RouteError::OutOfMemory => f.write_str("out of memory"),
         }

@@ -19,8 +19,11 @@ use netlink_packet_core::Nla;
 use std::alloc::Global;
 
 const IFLA_INFO_KIND: u16 = 1;
+
 const IFLA_INFO_DATA: u16 = 2;
+
 const IFLA_INFO_SLAVE_KIND: u16 = 4;
+
 const IFLA_INFO_SLAVE_DATA: u16 = 5;
 
 /// An attribute in the nest `IFLA_LINKINFO` (`IFLA_INFO_*` of linux/if_link.h). Two are equal

@@ -39,7 +39,9 @@ const IFLA_TXQLEN: u16 = 13;
 const IFLA_OPERSTATE: u16 = 16;
 
 const IFLA_LINKINFO: u16 = 18;
+
 const NESTED_LINKINFO: u16 = 32786;
+
 const IFLA_IFALIAS: u16 = 20;
 
 const IFLA_GROUP: u16 = 27;
@@ -121,7 +123,9 @@ impl LinkAttribute {
         ensures shape { held_shape result ≡ shape_or (link_row (kind_of self.now)) }
     {
         match self {
-            LinkAttribute::Address(bytes) | LinkAttribute::Broadcast(bytes) => Held::Plain(Value::Bytes(bytes)),
+            LinkAttribute::Address(bytes) | LinkAttribute::Broadcast(bytes) => Held::Plain(
+                Value::Bytes(bytes),
+            ),
             LinkAttribute::IfName(text)
             | LinkAttribute::Qdisc(text)
             | LinkAttribute::IfAlias(text) => Held::Plain(Value::Text(text)),
@@ -131,7 +135,9 @@ impl LinkAttribute {
             | LinkAttribute::TxQueueLen(number)
             | LinkAttribute::Group(number)
             | LinkAttribute::ExtMask(number) => Held::Plain(Value::Number(*number)),
-            LinkAttribute::OperState(byte) | LinkAttribute::Carrier(byte) => Held::Plain(Value::Byte(*byte)),
+            LinkAttribute::OperState(byte) | LinkAttribute::Carrier(byte) => Held::Plain(
+                Value::Byte(*byte),
+            ),
             LinkAttribute::LinkInfo(block) | LinkAttribute::NestedLinkInfo(block) => {
                 Held::Info(block)
             }

@@ -7,11 +7,12 @@ ghost use Rattle.netlink_route.specs.LinkHeader.{header_fits, is_link_type, verb
 ghost use Rattle.netlink_route.specs.MessageLaws.{equal_pairs, reading_is_lawful, value_is_lawful};
 ghost use Rattle.netlink_route.specs.Message.{link_text, links, route_decoding, route_encoding};
 
+use crate::address_header::AddressVerb;
 use crate::error::RouteError;
 use crate::link_header::{
     LINK_HEADER_LEN, LinkHeader, LinkVerb, read_link_header, write_link_header,
 };
-use crate::message::{LinkMessage, RouteMessage};
+use crate::message::{AddressMessage, LinkMessage, RouteMessage};
 use crate::typed::read_block;
 use netlink_packet_core::{
     Emitable, NetlinkDeserializable, NetlinkHeader, NetlinkProtocol, NetlinkSerializable,
@@ -96,18 +97,21 @@ impl NetlinkSerializable for RouteMessage {
     fn message_type(&self) -> u16 {
         match self {
             RouteMessage::Link(verb, _) => verb.message_type(),
+            RouteMessage::Address(verb, _) => verb.message_type(),
         }
     }
 
     fn buffer_len(&self) -> usize {
         match self {
             RouteMessage::Link(_, message) => message.size(),
+            RouteMessage::Address(_, message) => message.size(),
         }
     }
 
     fn serialize(&self, buffer: &mut [u8]) {
         match self {
             RouteMessage::Link(_, message) => message.write(buffer),
+            RouteMessage::Address(_, message) => message.write(buffer),
         }
     }
 }
@@ -127,6 +131,10 @@ impl NetlinkDeserializable for RouteMessage {
         if let Some(verb) = LinkVerb::of_type(header.message_type) {
             return Ok(RouteMessage::Link(verb, LinkMessage::read(alloc, payload)?));
         }
+        if let Some(verb) = AddressVerb::of_type(header.message_type) {
+            let message = AddressMessage::read(alloc, payload)?;
+            return Ok(RouteMessage::Address(verb, message));
+        }
         Err(RouteError::UnknownType {
             message_type: header.message_type,
         })
@@ -141,6 +149,7 @@ impl NetlinkProtocol for RouteMessage {
     fn in_widths(&self) {
         match self {
             RouteMessage::Link(_, message) => message.header.in_widths(),
+            RouteMessage::Address(_, message) => message.header.in_widths(),
         }
     }
 

@@ -3,10 +3,11 @@
 ghost use Rattle.std.specs.Prelude.{◌≡◌, ◌+◌, ◌∷◌, ◌++◌, [], bytes_eq, false, None, Some, IfErr, IfOk, length, string_bytes};
 ghost use Rattle.netlink_packet_core.specs.Numbers.{text_le};
 ghost use Rattle.netlink_route.specs.Error.{wants_memory};
-ghost use Rattle.netlink_route.specs.Value.{any_bytes, four_bytes, one_byte, read_as, zero_text};
+ghost use Rattle.netlink_route.specs.Value.{any_bytes, four_bytes, ip_bytes, one_byte, read_as, zero_text};
 ghost use Rattle.netlink_route.specs.Held.{value_shape, value_text, IsValueFault};
 
 use crate::error::RouteError;
+use crate::ip::IpBytes;
 use crate::text::{Text, is_zero_ended};
 use netlink_packet_core::{copy_of, parse_string, put_u32, u32_at};
 use std::alloc::Global;
@@ -20,6 +21,8 @@ pub(crate) enum Value<'a> {
     Byte(u8),
     /// A text with a zero behind it.
     Text(&'a Text),
+    /// An IP address.
+    Ip(&'a IpBytes),
     /// Bytes.
     Bytes(&'a [u8]),
 }
@@ -34,6 +37,7 @@ impl<'a> Value<'a> {
             Value::Number(_) => 4,
             Value::Byte(_) => 1,
             Value::Text(text) => text.text.len() + 1,
+            Value::Ip(ip) => ip.bytes.len(),
             Value::Bytes(bytes) => bytes.len(),
         }
     }
@@ -53,6 +57,7 @@ impl<'a> Value<'a> {
                 front.copy_from_slice(text);
                 zero.copy_from_slice(&[0]);
             }
+            Value::Ip(ip) => buffer.copy_from_slice(&ip.bytes),
             Value::Bytes(bytes) => buffer.copy_from_slice(bytes),
         }
     }
@@ -66,6 +71,7 @@ impl<'a> Value<'a> {
             (Value::Number(a), Value::Number(b)) => same_number(*a, *b),
             (Value::Byte(a), Value::Byte(b)) => a == b,
             (Value::Text(a), Value::Text(b)) => same_text(a, b),
+            (Value::Ip(a), Value::Ip(b)) => a.bytes == b.bytes,
             (Value::Bytes(a), Value::Bytes(b)) => a == b,
             _ => false,
         }
@@ -139,6 +145,22 @@ pub(crate) fn read_text(alloc: Global, kind: u16, value: &[u8]) -> Result<Text, 
             Err(RouteError::Text { kind })
         }
     }
+}
+
+/// The IP address of a value of 4 or 16 bytes.
+pub(crate) fn read_ip(alloc: Global, kind: u16, value: &[u8]) -> Result<IpBytes, RouteError>
+    ensures ok { IfOk result (λ ip. read_as ip_bytes value.now ≡ Some ip.bytes.items) }
+    ensures err { IfErr result (λ e. wants_memory e ≡ false → read_as ip_bytes value.now ≡ None) }
+    ensures fault { IfErr result (IsValueFault ip_bytes kind value.now) }
+{
+    if value.len() != 4 && value.len() != 16 {
+        return Err(RouteError::Address {
+            kind,
+            received: value.len(),
+        });
+    }
+    let bytes = copy_of(alloc, value)?;
+    Ok(IpBytes { bytes })
 }
 
 /// A copy of a value of any bytes. No bytes ask for no memory.

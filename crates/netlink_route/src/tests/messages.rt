@@ -1,6 +1,6 @@
 //! Messages that are read, changed and written.
 
-use crate::{InfoAttribute, LinkAttribute, LinkVerb, RouteMessage, Text};
+use crate::{AddressAttribute, AddressVerb, InfoAttribute, IpBytes, LinkAttribute, LinkVerb, RouteMessage, Text};
 use netlink_packet_core::laws::reads_back;
 use netlink_packet_core::{NetlinkMessage, NetlinkPayload, Nla, normalize};
 use std::test::Fail;
@@ -63,6 +63,40 @@ fn a_link_is_read_and_written(rt: HostRuntime) -> Result<(), Fail> {
     Ok(())
 }
 
+/// The address 192.0.2.1/24 of link 4 as the kernel sends it: `IFA_ADDRESS`, `IFA_LABEL`,
+/// `IFA_FLAGS` and `IFA_CACHEINFO`.
+const ADDRESS: [u8; 72] = [
+    72, 0, 0, 0, 20, 0, 2, 0, 1, 0, 0, 0, 0, 0, 0, 0, // length 72, RTM_NEWADDR
+    2, 24, 0x80, 0, 4, 0, 0, 0, // AF_INET, prefix 24, IFA_F_PERMANENT, scope 0, index 4
+    8, 0, 1, 0, 192, 0, 2, 1, // IFA_ADDRESS
+    9, 0, 3, 0, b'e', b't', b'h', b'0', 0, 0, 0, 0, // IFA_LABEL
+    8, 0, 8, 0, 0x80, 0, 0, 0, // IFA_FLAGS
+    20, 0, 6, 0, 255, 255, 255, 255, 255, 255, 255, 255, 1, 2, 3, 4, 5, 6, 7, 8, // IFA_CACHEINFO
+];
+
+#[test]
+fn an_address_is_read_and_written(rt: HostRuntime) -> Result<(), Fail> {
+    let message = NetlinkMessage::<RouteMessage>::deserialize(rt.alloc(), &ADDRESS)?;
+    match &message.payload {
+        NetlinkPayload::InnerMessage(RouteMessage::Address(verb, address)) => {
+            assert!(rt; *verb == AddressVerb::New);
+            assert_eq!(rt; address.header.prefix_len, 24);
+            match address.attributes.list.as_slice() {
+                [AddressAttribute::Address(ip), _, AddressAttribute::Flags(0x80), _] => {
+                    assert_eq!(rt; ip.bytes.as_slice(), [192, 0, 2, 1].as_slice());
+                }
+                _ => assert!(rt; false),
+            }
+        }
+        _ => assert!(rt; false),
+    }
+    assert_eq!(rt;
+        normalize::<RouteMessage>(rt.alloc(), &ADDRESS)?.as_slice(),
+        ADDRESS.as_slice()
+    );
+    Ok(())
+}
+
 #[test]
 fn values_are_made(rt: HostRuntime) -> Result<(), Fail> {
     let alloc = rt.alloc();
@@ -73,6 +107,9 @@ fn values_are_made(rt: HostRuntime) -> Result<(), Fail> {
         Some(other) => assert!(rt; other.kind() == 0x4004 && other != LinkAttribute::Mtu(7)),
         None => assert!(rt; false),
     }
+    assert!(rt; IpBytes::new(vec![in alloc; 0u8; 5]?).is_none());
+    assert!(rt; IpBytes::new(vec![in alloc; 0u8; 16]?).is_some());
+    assert!(rt; AddressAttribute::other(8, Vec::new(alloc)).is_none());
     assert!(rt; InfoAttribute::other(1, Vec::new(alloc)).is_none());
     assert!(rt; InfoAttribute::other(3, Vec::new(alloc)).is_some());
     Ok(())

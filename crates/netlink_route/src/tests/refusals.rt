@@ -5,7 +5,11 @@ use netlink_packet_core::{DecodeError, NetlinkDeserializable, NetlinkHeader};
 use std::test::Fail;
 
 /// A link's payload with one attribute behind a header of zeros.
-fn refused(rt: &HostRuntime, message_type: u16, attribute: &[u8]) -> Result<Option<RouteError>, Fail> {
+fn refused(
+    rt: &HostRuntime,
+    message_type: u16,
+    attribute: &[u8],
+) -> Result<Option<RouteError>, Fail> {
     let mut payload = vec![in rt.alloc(); 0u8; 16]?;
     payload.extend_from_slice(attribute)?;
     let header = NetlinkHeader {
@@ -29,9 +33,18 @@ fn each_fault_has_its_name(rt: HostRuntime) -> Result<(), Fail> {
         (&[4, 0, 4, 0], Some(size(4, 4, 0))),
         (&[9, 0, 4, 0, 1, 2, 3, 4, 5, 0, 0, 0], Some(size(4, 4, 5))),
         (&[4, 0, 33, 0], Some(size(33, 1, 0))),
-        (&[6, 0, 3, 0, b'l', b'o', 0, 0], Some(RouteError::Text { kind: 3 })),
-        (&[8, 0, 3, 0, b'l', b'o', 0, 0], Some(RouteError::Text { kind: 3 })),
-        (&[6, 0, 3, 0, 0xff, 0, 0, 0], Some(RouteError::Text { kind: 3 })),
+        (
+            &[6, 0, 3, 0, b'l', b'o', 0, 0],
+            Some(RouteError::Text { kind: 3 }),
+        ),
+        (
+            &[8, 0, 3, 0, b'l', b'o', 0, 0],
+            Some(RouteError::Text { kind: 3 }),
+        ),
+        (
+            &[6, 0, 3, 0, 0xff, 0, 0, 0],
+            Some(RouteError::Text { kind: 3 }),
+        ),
         (&[4, 0, 3, 0], Some(RouteError::Text { kind: 3 })),
         (
             &[8, 0, 18, 0, 4, 0, 1, 0],

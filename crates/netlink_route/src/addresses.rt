@@ -1,0 +1,83 @@
+//! Messages about addresses, read and written.
+
+ghost use Rattle.std.specs.Prelude.{◌≡◌, ◌↔◌, false, length, ℕ, IfErr, IfOk, IfSome, IsSome, IsTrue, None, Some};
+ghost use Rattle.netlink_route.specs.AddressHeader.{address_header_fits, address_verb_type, is_address_type};
+ghost use Rattle.netlink_route.specs.Error.{wants_memory};
+ghost use Rattle.netlink_route.specs.Family.{family_reading};
+ghost use Rattle.netlink_route.specs.Message.{address_text, addresses};
+
+use crate::address_header::{
+    ADDRESS_HEADER_LEN, AddressVerb, read_address_header, write_address_header,
+};
+use crate::error::RouteError;
+use crate::message::AddressMessage;
+use crate::typed::read_block;
+use netlink_packet_core::Emitable;
+use std::alloc::Global;
+
+impl AddressVerb {
+    /// The message type.
+    pub(crate) fn message_type(self) -> u16
+        ensures { result ≡ address_verb_type self }
+    {
+        match self {
+            AddressVerb::New => 20,
+            AddressVerb::Del => 21,
+            AddressVerb::Get => 22,
+        }
+    }
+
+    /// What a message type does with an address; none of another type.
+    pub(crate) fn of_type(message_type: u16) -> Option<Self>
+        ensures some { IfSome result (λ verb. address_verb_type verb ≡ message_type) }
+        ensures address { IsSome result ↔ IsTrue (is_address_type message_type) }
+    {
+        match message_type {
+            20 => Some(AddressVerb::New),
+            21 => Some(AddressVerb::Del),
+            22 => Some(AddressVerb::Get),
+            _ => None,
+        }
+    }
+}
+
+impl AddressMessage {
+    /// The size of the message as it is written.
+    #[tactic(auto, using(crate::proofs::Headers::address_sizes))]
+    pub(crate) fn size(&self) -> usize
+        ensures { result ≡ length (address_text self.now) }
+    {
+        ADDRESS_HEADER_LEN + self.attributes.buffer_len()
+    }
+
+    /// Fills the buffer, which has exactly that size, with the message.
+    #[tactic(auto, using(crate::proofs::Headers::address_sizes))]
+    pub(crate) fn write(&self, buffer: &mut [u8])
+        requires { length buffer.old ≡ length (address_text self.now) }
+        ensures { buffer.new ≡ address_text self.now }
+    {
+        let (header, block) = buffer.split_at_mut(ADDRESS_HEADER_LEN);
+        write_address_header(&self.header, header);
+        self.attributes.emit(block);
+    }
+
+    /// The message in a payload.
+    pub(crate) fn read(alloc: Global, payload: &[u8]) -> Result<Self, RouteError>
+        ensures fits { IfOk result (λ m. IsTrue (address_header_fits m.header)) }
+        ensures reads { IfOk result (λ m. (t : ℕ) → family_reading addresses t payload.now ≡ Some (t, address_text m)) }
+        ensures refuses { IfErr result (λ e. wants_memory e ≡ false → (t : ℕ) → family_reading addresses t payload.now ≡ None) }
+    {
+        if payload.len() < ADDRESS_HEADER_LEN {
+            return Err(RouteError::HeaderShort {
+                expected: ADDRESS_HEADER_LEN,
+                received: payload.len(),
+            });
+        }
+        let (front, block) = payload.split_at(ADDRESS_HEADER_LEN);
+        let attributes = read_block(alloc, block)?;
+        Ok(AddressMessage {
+            header: read_address_header(front),
+            attributes,
+        })
+    }
+}
