@@ -1,11 +1,12 @@
 -- Where the attributes of a block and the frames of a datagram lie.
 use denote.Ref.{Bor}
-use Rattle.std.proofs.Common.{◌≡◌, ℕ, ◌+◌, ◌-◌, ◌<◌, ◌≤◌, List, ◌++◌, length, take, drop, refl, ap, sym, subst, ◌∙◌, inl, inr, arith, Some, Ok, append_assoc, length-append, length-drop}
-use Rattle.std.proofs.lemmas.List.{drop_at, drop_all, take_at, drop-drop, length-take-le}
+use Rattle.std.proofs.Common.{◌≡◌, ℕ, ◌+◌, ◌-◌, ◌<◌, ◌≤◌, List, ◌++◌, length, take, drop, refl, ap, sym, subst, ◌∙◌, arith, Some, Ok, length-drop}
+use Rattle.std.proofs.lemmas.List.{take_at, drop-drop, length-take-le}
 use Rattle.std.specs.Prelude.{slice_range}
-use Rattle.netlink_packet_core.specs.Attribute.{Attribute, attribute_text, padding, padded_size}
-use Rattle.netlink_packet_core.specs.AttributeSizes.{length-attribute_text}
+use Rattle.netlink_packet_core.specs.Attribute.{Attribute, padding}
+use Rattle.netlink_packet_core.specs.FrameStartLaws.{starts_frame-length, starts_frame-rest}
 use Rattle.netlink_packet_core.specs.Nla.{attribute_with}
+use Rattle.netlink_packet_core.specs.StartLaws.{starts-rest}
 use Rattle.netlink_packet_core.specs.Views.{length_field, raw_kind, attribute_of, shown, HoldsAttribute}
 use Rattle.netlink_packet_core.specs.Walk.{Gives, Item, Starts}
 use Rattle.netlink_attributes.specs.declared.buffer.NlaBuffer.{NlaBuffer}
@@ -13,26 +14,6 @@ use Rattle.netlink_tree.specs.FrameSteps.{FrameItem, GivesFrame}
 use Rattle.netlink_tree.specs.FrameWalk.{StartsFrame}
 use Rattle.netlink_c.specs.Parts.{part_from}
 use Rattle.netlink_c.specs.Steps.{StartsAttributeAt, StartsFrameAt}
-
-starts-length : (bytes : List ℕ) (a : Attribute) (rest : List ℕ) → (starts : Starts bytes a rest) → length bytes
-    ≡ 4 + length a.value + (length starts.gap + length rest)
-starts-length bytes a rest starts =
-    let text = length-attribute_text a in
-    let whole = length-append (attribute_text a) (starts.gap ++ rest) in
-    let behind = length-append starts.gap rest in
-    ap length starts.whole ∙ omega arith
-
--- the rest stands behind the attribute and the whole of its padding
-starts-rest : (bytes : List ℕ) (a : Attribute) (rest : List ℕ) → Starts bytes a rest → rest ≡ drop (padded_size a) bytes
-starts-rest bytes a rest starts =
-    let text = length-attribute_text a in
-    let front = length-append (attribute_text a) starts.gap in
-    let size = starts-length bytes a rest starts in
-    elim starts.gap_size [
-      | inl full ↦ sym (ap (drop (padded_size a)) (starts.whole ∙ sym (append_assoc (attribute_text a) starts.gap rest))
-          ∙ drop_at (attribute_text a ++ starts.gap) rest (padded_size a) (omega arith))
-      | inr short ↦ (let none : length rest ≡ 0 = ap length short.1 in short.1 ∙ sym (drop_all (padded_size a) bytes (omega arith)))
-    ]
 
 -- a part of what stands from a place on is a part of all
 part-drop : (bytes : List ℕ) (at from size to : ℕ) → from + size ≡ to → slice_range (drop at bytes) from to
@@ -80,30 +61,11 @@ attribute_step bytes before after view at kind size next inside same step kinds 
     (subst (λ (b : List ℕ). Starts b (attribute_of b) after) same step.2)
     (kinds ∙ ap raw_kind shows) (sizes ∙ ap length_field shows) behind forward
 
-frame-length : (bytes frame rest : List ℕ) → (starts : StartsFrame bytes frame rest) → length bytes
-    ≡ length frame + (length starts.gap + length rest)
-frame-length bytes frame rest starts =
-    let whole = length-append frame (starts.gap ++ rest) in
-    let behind = length-append starts.gap rest in
-    ap length starts.whole ∙ omega arith
-
--- the rest stands behind the frame and the whole of its padding
-frame-rest : (bytes frame rest : List ℕ) → StartsFrame bytes frame rest → rest ≡ drop (length frame + padding (length frame)) bytes
-frame-rest bytes frame rest starts =
-    let front = length-append frame starts.gap in
-    let size = frame-length bytes frame rest starts in
-    elim starts.gap_size [
-      | inl full ↦ sym (ap (drop (length frame + padding (length frame))) (starts.whole ∙ sym (append_assoc frame starts.gap rest))
-          ∙ drop_at (frame ++ starts.gap) rest (length frame + padding (length frame)) (omega arith))
-      | inr short ↦ (let none : length rest ≡ 0 = ap length short.1 in short.1
-          ∙ sym (drop_all (length frame + padding (length frame)) bytes (omega arith)))
-    ]
-
 frame_inside : (bytes frame rest : List ℕ) (at : ℕ) → at < length bytes → StartsFrame (drop at bytes) frame rest
     → (at + length frame ≤ length bytes) × (16 ≤ length frame)
 frame_inside bytes frame rest at inside starts =
     let left = length-drop at bytes in
-    let size = frame-length _ _ _ starts in
+    let size = starts_frame-length _ _ _ starts in
     let least = starts.least in
     (omega arith, least)
 
@@ -117,7 +79,7 @@ frame_at bytes at next frame rest size inside starts sizes behind forward =
     ∙ take_at frame (starts.gap ++ rest) (length frame) refl in
     let n : (at + size) - at ≡ length frame = omega arith in
     let same : part_from at size bytes ≡ frame = ap (λ (k : ℕ). take k (drop at bytes)) n ∙ front in
-    let rests : rest ≡ drop next bytes = frame-rest _ _ _ starts ∙ ap (λ (k : ℕ). drop (k + padding k) (drop at bytes)) (sym sizes)
+    let rests : rest ≡ drop next bytes = starts_frame-rest _ _ _ starts ∙ ap (λ (k : ℕ). drop (k + padding k) (drop at bytes)) (sym sizes)
     ∙ sym behind in
     record {
       starts = subst (λ (r : List ℕ). StartsFrame (drop at bytes) (part_from at size bytes) r) rests
