@@ -3,9 +3,9 @@ use Rattle.std.proofs.Common.{◌≡◌, ◌≢◌, ◌↔◌, ℕ, ◌-◌, ◌
 use Rattle.std.proofs.lemmas.List.{length-take, length-replicate, take_at, drop_at}
 use Rattle.std.specs.Prelude.{replicate}
 use Rattle.netlink_bytes.specs.declared.error.DecodeError.{DecodeError}
-use Rattle.netlink_attributes.specs.Attribute.{Attribute, attribute_text, padded_size, padding}
+use Rattle.netlink_attributes.specs.Attribute.{Attribute, attribute_bytes, padded_size, padding}
 use Rattle.netlink_attributes.specs.Block.{IsBlockOf, IsCanonicalBlock}
-use Rattle.netlink_attributes.specs.Sizes.{length-attribute_text}
+use Rattle.netlink_attributes.specs.Sizes.{length-attribute_bytes}
 use Rattle.netlink_attributes.specs.Views.{length_field}
 use Rattle.netlink_attributes.specs.Walk.{Starts, IsFault}
 use Rattle.netlink_attributes.specs.BlockLaws.{block_walks}
@@ -26,8 +26,8 @@ short_padding bytes size short zeros =
 behind_text : (bytes : List ℕ) (a : Attribute) (rest : List ℕ) (starts : Starts bytes a rest) → drop (length_field bytes) bytes ≡ starts.gap ++ rest
 behind_text bytes a rest starts =
     let field = starts-length_field bytes a rest starts in
-    let text = length-attribute_text a in
-    ap (drop (length_field bytes)) starts.whole ∙ drop_at (attribute_text a) (starts.gap ++ rest) (length_field bytes) (omega arith)
+    let text = length-attribute_bytes a in
+    ap (drop (length_field bytes)) starts.whole ∙ drop_at (attribute_bytes a) (starts.gap ++ rest) (length_field bytes) (omega arith)
 
 same_padding : (bytes : List ℕ) (a : Attribute) (rest : List ℕ) → Starts bytes a rest → padding (length_field bytes) ≡ padding (length a.value)
 same_padding bytes a rest starts = let field = starts-length_field bytes a rest starts in omega arith
@@ -50,7 +50,7 @@ zero_gap bytes a rest starts zeros =
 -- an attribute with its padding of zeros, and a canonical block behind it
 pub canonical_cons : (bytes : List ℕ) (a : Attribute) (rest : List ℕ) → Starts bytes a rest → IsZeroPadded bytes (length_field bytes) → IsCanonicalBlock rest → IsCanonicalBlock bytes
 canonical_cons bytes a rest starts zeros (more, block) =
-    (a ∷ more, (rest, starts.fits, starts.whole ∙ ap (λ (gap : List ℕ). attribute_text a ++ (gap ++ rest)) (zero_gap bytes a rest starts zeros), block))
+    (a ∷ more, (rest, starts.fits, starts.whole ∙ ap (λ (gap : List ℕ). attribute_bytes a ++ (gap ++ rest)) (zero_gap bytes a rest starts zeros), block))
 
 block_rest : (bytes : List ℕ) (a : Attribute) (rest : List ℕ) (all : List Attribute) → Starts bytes a rest → IsBlockOf bytes all → IsCanonicalBlock rest × IsZeroPadded bytes (length_field bytes)
 block_rest bytes a rest [] starts none = absurd (nothing_starts bytes a rest none starts)

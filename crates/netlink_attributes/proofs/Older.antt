@@ -7,7 +7,7 @@ use Rattle.netlink_attributes.specs.Block.{canonical_block, IsBlockOf, IsCanonic
 use Rattle.netlink_attributes.specs.Nla.{attribute_with}
 use Rattle.netlink_attributes.specs.OlderBlock.{both_flags, older_written_kind, older_canonical_block, IsOlderBlockOf, IsOlderCanonicalBlock}
 use Rattle.netlink_attributes.specs.Walk.{Walk}
-use Rattle.netlink_attributes.specs.BlockLaws.{block_walks, block_text}
+use Rattle.netlink_attributes.specs.BlockLaws.{block_walks, block_bytes}
 use Rattle.netlink_attributes.specs.WalkLaws.{walk_once}
 
 older_block : (bytes : List ℕ) (all : List Attribute) → IsOlderBlockOf bytes all → IsBlockOf bytes all
@@ -33,5 +33,5 @@ pub older_walk : (bytes : List ℕ) → IsOlderCanonicalBlock bytes → (all : L
 older_walk bytes (block, older) all fault walk =
     let is = older_block bytes block older in
     let same = walk_once bytes block all None fault (block_walks bytes block is) walk in
-    let text : canonical_block all ≡ bytes = ap canonical_block (sym same.0) ∙ sym (block_text bytes block is) in
+    let text : canonical_block all ≡ bytes = ap canonical_block (sym same.0) ∙ sym (block_bytes bytes block is) in
     (sym same.1, text, ap older_canonical_block (sym same.0) ∙ older_text bytes block older ∙ ap canonical_block same.0 ∙ text)

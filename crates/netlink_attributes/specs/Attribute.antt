@@ -1,6 +1,6 @@
 -- One attribute and its text (linux/netlink.h, struct nlattr).
 use Rattle.std.specs.Prelude.{ℕ, ◌+◌, ◌-◌, ◌%◌, ◌<◌, ◌≤◌, ◌^◌, List, ◌++◌, length, replicate}
-use Rattle.netlink_bytes.specs.Numbers.{text_le}
+use Rattle.netlink_bytes.specs.Numbers.{bytes_le}
 
 -- a kind of 16 bits, its two flag bits among them, and a value
 pub record Attribute : Type 0 where
@@ -17,12 +17,12 @@ abbrev pub padding : ℕ → ℕ
 padding size = (4 - size % 4) % 4
 
 -- the length of header and value, the kind, and the value, without padding
-abbrev pub attribute_text : Attribute → List ℕ
-attribute_text a = text_le (4 + length a.value) 2 ++ (text_le a.kind 2 ++ a.value)
+abbrev pub attribute_bytes : Attribute → List ℕ
+attribute_bytes a = bytes_le (4 + length a.value) 2 ++ (bytes_le a.kind 2 ++ a.value)
 
 -- the attribute as it is written: its text, and its padding of zeros
 abbrev pub padded : Attribute → List ℕ
-padded a = attribute_text a ++ replicate (padding (length a.value)) 0
+padded a = attribute_bytes a ++ replicate (padding (length a.value)) 0
 
 -- and the size of that
 abbrev pub padded_size : Attribute → ℕ

@@ -1,7 +1,7 @@
 -- Blocks of attributes: the one that is written of a list, and a grammar of its own for what is
 -- canonical.
 use Rattle.std.specs.Prelude.{ℕ, ◌≡◌, List, [], ◌∷◌, ◌++◌, length, replicate}
-use Rattle.netlink_attributes.specs.Attribute.{Attribute, FitsAttribute, attribute_text, padded, padding}
+use Rattle.netlink_attributes.specs.Attribute.{Attribute, FitsAttribute, attribute_bytes, padded, padding}
 
 -- the attributes as they are written, one after another, each with its kind as it is
 abbrev pub canonical_block : List Attribute → List ℕ
@@ -12,7 +12,7 @@ canonical_block (a ∷ more) = padded a ++ canonical_block more
 abbrev pub IsBlockOf : List ℕ → List Attribute → Type 0
 IsBlockOf bytes [] = bytes ≡ []
 IsBlockOf bytes (a ∷ more) =
-    (rest : List ℕ) × FitsAttribute a × (bytes ≡ attribute_text a ++ (replicate (padding (length a.value)) 0 ++ rest)) × IsBlockOf rest more
+    (rest : List ℕ) × FitsAttribute a × (bytes ≡ attribute_bytes a ++ (replicate (padding (length a.value)) 0 ++ rest)) × IsBlockOf rest more
 
 -- the bytes are a canonical block
 abbrev pub IsCanonicalBlock : List ℕ → Type 0

@@ -3,7 +3,7 @@ use Rattle.std.proofs.Common.{◌≡◌, ◌↔◌, ℕ, suc, List, [], ◌∷�
 use Rattle.std.proofs.lemmas.List.{length-replicate}
 use Rattle.std.specs.Prelude.{replicate}
 use Rattle.netlink_bytes.specs.declared.error.DecodeError.{DecodeError}
-use Rattle.netlink_attributes.specs.Attribute.{Attribute, FitsAttribute, attribute_text, padded, padding}
+use Rattle.netlink_attributes.specs.Attribute.{Attribute, FitsAttribute, attribute_bytes, padded, padding}
 use Rattle.netlink_attributes.specs.Block.{canonical_block, IsBlockOf, IsCanonicalBlock}
 use Rattle.netlink_attributes.specs.Views.{attribute_of, HoldsAttribute}
 use Rattle.netlink_attributes.specs.Walk.{Starts, Walk}
@@ -13,14 +13,14 @@ use Rattle.netlink_attributes.specs.WalkLaws.{walk_once}
 
 -- bytes that are a padded attribute and the rest start with it
 starts_padded : (bytes : List ℕ) (a : Attribute) (rest : List ℕ) → FitsAttribute a
-    → bytes ≡ attribute_text a ++ (replicate (padding (length a.value)) 0 ++ rest)
+    → bytes ≡ attribute_bytes a ++ (replicate (padding (length a.value)) 0 ++ rest)
     → Starts bytes a rest
 starts_padded bytes a rest fits whole =
     record { fits = fits; gap = replicate (padding (length a.value)) 0; whole = whole; gap_size = inl (length-replicate (padding (length a.value)) 0) }
 
 padded-append : (a : Attribute) (rest : List ℕ)
-    → padded a ++ rest ≡ attribute_text a ++ (replicate (padding (length a.value)) 0 ++ rest)
-padded-append a rest = append_assoc (attribute_text a) (replicate (padding (length a.value)) 0) rest
+    → padded a ++ rest ≡ attribute_bytes a ++ (replicate (padding (length a.value)) 0 ++ rest)
+padded-append a rest = append_assoc (attribute_bytes a) (replicate (padding (length a.value)) 0) rest
 
 pub attribute_of-padded : (a : Attribute) (rest : List ℕ) → FitsAttribute a
     → attribute_of (padded a ++ rest) ≡ a
@@ -42,11 +42,11 @@ block_walks bytes [] none = none
 block_walks bytes (a ∷ more) (rest, fits, whole, block) = (rest, starts_padded bytes a rest fits whole, block_walks rest more block)
 
 -- and is what is written of them
-pub block_text : (bytes : List ℕ) (all : List Attribute) → IsBlockOf bytes all
+pub block_bytes : (bytes : List ℕ) (all : List Attribute) → IsBlockOf bytes all
     → bytes ≡ canonical_block all
-block_text bytes [] none = none
-block_text bytes (a ∷ more) (rest, fits, whole, block) =
-    whole ∙ sym (padded-append a rest) ∙ ap (λ (x : List ℕ). padded a ++ x) (block_text rest more block)
+block_bytes bytes [] none = none
+block_bytes bytes (a ∷ more) (rest, fits, whole, block) =
+    whole ∙ sym (padded-append a rest) ∙ ap (λ (x : List ℕ). padded a ++ x) (block_bytes rest more block)
 
 -- what is written of attributes that fit is a block of them
 pub written_block : (all : List Attribute) → All FitsAttribute all
@@ -76,7 +76,7 @@ pub written_fixed : (bytes : List ℕ) (all : List Attribute) → Walk bytes all
 written_fixed bytes all walk = (
   λ same. subst IsCanonicalBlock same (walked_canonical bytes all walk),
   λ canonical. (let same = walk_once bytes all canonical.0 None None walk (block_walks bytes canonical.0 canonical.1) in
-      ap canonical_block same.0 ∙ sym (block_text bytes canonical.0 canonical.1)),
+      ap canonical_block same.0 ∙ sym (block_bytes bytes canonical.0 canonical.1)),
 )
 
 pub block_push : (done : List Attribute) (a : Attribute)
@@ -90,8 +90,8 @@ pub block_joined : (bytes : List ℕ) (block more : List Attribute) (after : Lis
 block_joined bytes [] more after fault none later = subst (λ (x : List ℕ). Walk (x ++ after) more fault) (sym none) later
 block_joined bytes (a ∷ block) more after fault (rest, fits, whole, is) later =
     let zeros : List ℕ = replicate (padding (length a.value)) 0 in
-    let joined : bytes ++ after ≡ attribute_text a ++ (zeros ++ (rest ++ after)) =
-    ap (λ (x : List ℕ). x ++ after) whole ∙ append_assoc (attribute_text a) (zeros ++ rest) after ∙ ap (λ (x : List ℕ). attribute_text a ++ x) (append_assoc zeros rest after) in
+    let joined : bytes ++ after ≡ attribute_bytes a ++ (zeros ++ (rest ++ after)) =
+    ap (λ (x : List ℕ). x ++ after) whole ∙ append_assoc (attribute_bytes a) (zeros ++ rest) after ∙ ap (λ (x : List ℕ). attribute_bytes a ++ x) (append_assoc zeros rest after) in
     (rest ++ after, starts_padded (bytes ++ after) a (rest ++ after) fits joined, block_joined rest block more after fault is later)
 
 -- behind a block of attributes any bytes walk as they do alone
@@ -105,14 +105,14 @@ walk_joined bytes block all more after end fault is walk later =
 -- a canonical block walks without fault, and what is written of its walk is the block
 pub canonical_walk : (bytes : List ℕ) → IsCanonicalBlock bytes
     → (all : List Attribute) × Walk bytes all None × (canonical_block all ≡ bytes)
-canonical_walk bytes (all, block) = (all, block_walks bytes all block, sym (block_text bytes all block))
+canonical_walk bytes (all, block) = (all, block_walks bytes all block, sym (block_bytes bytes all block))
 
 pub canonical_walked : (bytes : List ℕ) (all : List Attribute) (fault : Option DecodeError)
     → IsCanonicalBlock bytes
     → Walk bytes all fault → (fault ≡ None) × (canonical_block all ≡ bytes)
 canonical_walked bytes all fault (block, is) walk =
     let same = walk_once bytes all block fault None walk (block_walks bytes block is) in
-    (same.1, ap canonical_block same.0 ∙ sym (block_text bytes block is))
+    (same.1, ap canonical_block same.0 ∙ sym (block_bytes bytes block is))
 
 -- blocks are written alike exactly of the same attributes
 pub written_alike : (a b : List ℕ) (x y : List Attribute) → Walk a x None → Walk b y None

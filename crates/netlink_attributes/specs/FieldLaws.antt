@@ -2,9 +2,9 @@
 -- with.
 use Rattle.std.proofs.Common.{◌≡◌, ℕ, ◌+◌, ◌-◌, ◌*◌, ◌<◌, ◌≤◌, ◌^◌, List, [], ◌∷◌, ◌++◌, length, get_or, take, drop, refl, ap, sym, ◌∙◌, arith, append_assoc, length-drop}
 use Rattle.std.proofs.lemmas.List.{take-append-drop, length-take, take_at, drop-drop}
-use Rattle.netlink_bytes.specs.Numbers.{IsBytes, number_le, text_le}
-use Rattle.netlink_bytes.specs.NumberLaws.{number_le-text_le, IsBytes-drop, split_number, front-fits}
-use Rattle.netlink_attributes.specs.Attribute.{Attribute, FitsAttribute, attribute_text}
+use Rattle.netlink_bytes.specs.Numbers.{IsBytes, number_le, bytes_le}
+use Rattle.netlink_bytes.specs.NumberLaws.{number_le-bytes_le, IsBytes-drop, split_number, front-fits}
+use Rattle.netlink_attributes.specs.Attribute.{Attribute, FitsAttribute, attribute_bytes}
 use Rattle.netlink_attributes.specs.Views.{length_field, raw_kind, attribute_of}
 
 -- ---- by item
@@ -31,18 +31,18 @@ pub ruleset by_item = (length_field-items, raw_kind-items)
 -- ---- in a text
 
 pub length_field-text : (a : Attribute) (more : List ℕ) → FitsAttribute a
-    → length_field (attribute_text a ++ more) ≡ 4 + length a.value
-unfolding text_le
-length_field-text a more fits = number_le-text_le (4 + length a.value) 2 (omega (arith, fits.value))
+    → length_field (attribute_bytes a ++ more) ≡ 4 + length a.value
+unfolding bytes_le
+length_field-text a more fits = number_le-bytes_le (4 + length a.value) 2 (omega (arith, fits.value))
 
 pub raw_kind-text : (a : Attribute) (more : List ℕ) → FitsAttribute a
-    → raw_kind (attribute_text a ++ more) ≡ a.kind
-unfolding text_le
-raw_kind-text a more fits = number_le-text_le a.kind 2 fits.kind
+    → raw_kind (attribute_bytes a ++ more) ≡ a.kind
+unfolding bytes_le
+raw_kind-text a more fits = number_le-bytes_le a.kind 2 fits.kind
 
 pub drop-text : (a : Attribute) (more : List ℕ)
-    → drop 4 (attribute_text a ++ more) ≡ a.value ++ more
-unfolding text_le
+    → drop 4 (attribute_bytes a ++ more) ≡ a.value ++ more
+unfolding bytes_le
 drop-text a more = refl
 
 pub same_attribute : (a b : Attribute) → a.kind ≡ b.kind → a.value ≡ b.value → a ≡ b
@@ -50,12 +50,12 @@ same_attribute a b p q = λ i. record { kind = p i; value = q i }
 
 -- an attribute reads back from its text, whatever follows
 pub attribute_of-text : (a : Attribute) (more : List ℕ) → FitsAttribute a
-    → attribute_of (attribute_text a ++ more) ≡ a
+    → attribute_of (attribute_bytes a ++ more) ≡ a
 attribute_of-text a more fits =
     let size = length_field-text a more fits in
-    let short : length_field (attribute_text a ++ more) - 4 ≡ length a.value = omega (arith, size) in
+    let short : length_field (attribute_bytes a ++ more) - 4 ≡ length a.value = omega (arith, size) in
     same_attribute _ _ (raw_kind-text a more fits)
-    (ap (λ (k : ℕ). take k (drop 4 (attribute_text a ++ more))) short
+    (ap (λ (k : ℕ). take k (drop 4 (attribute_bytes a ++ more))) short
     ∙ ap (take (length a.value)) (drop-text a more)
     ∙ take_at a.value more (length a.value) refl)
 
@@ -96,11 +96,11 @@ length-value bytes most =
 -- bytes that hold an attribute are its text, and what follows
 pub text-attribute_of : (bytes : List ℕ) → IsBytes bytes → 4 ≤ length bytes → 4 ≤ length_field bytes
     → length_field bytes ≤ length bytes
-    → bytes ≡ attribute_text (attribute_of bytes) ++ drop (length_field bytes) bytes
+    → bytes ≡ attribute_bytes (attribute_of bytes) ++ drop (length_field bytes) bytes
 text-attribute_of bytes each long least most =
     let size : 4 + length (attribute_of bytes).value ≡ length_field bytes = omega (arith, length-value bytes most) in
-    regrouped (text_le (4 + length (attribute_of bytes).value) 2) (text_le (raw_kind bytes) 2) (attribute_of bytes).value (drop (length_field bytes) bytes)
+    regrouped (bytes_le (4 + length (attribute_of bytes).value) 2) (bytes_le (raw_kind bytes) 2) (attribute_of bytes).value (drop (length_field bytes) bytes)
     bytes (drop 2 bytes) (drop 4 bytes)
-    (split_number 2 bytes each (omega (arith, long)) ∙ ap (λ (n : ℕ). text_le n 2 ++ drop 2 bytes) (sym size))
-    (split_number 2 (drop 2 bytes) (IsBytes-drop 2 bytes each) (after_two bytes long) ∙ ap (λ (x : List ℕ). text_le (raw_kind bytes) 2 ++ x) (drop-drop 2 2 bytes))
+    (split_number 2 bytes each (omega (arith, long)) ∙ ap (λ (n : ℕ). bytes_le n 2 ++ drop 2 bytes) (sym size))
+    (split_number 2 (drop 2 bytes) (IsBytes-drop 2 bytes each) (after_two bytes long) ∙ ap (λ (x : List ℕ). bytes_le (raw_kind bytes) 2 ++ x) (drop-drop 2 2 bytes))
     (part_and_rest 4 (length_field bytes) bytes least)

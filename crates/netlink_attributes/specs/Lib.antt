@@ -6,7 +6,7 @@ pub mod FieldLaws
 pub mod Kinds
 pub mod Nla
 pub mod OlderBlock
-pub mod Passing
+pub mod Progress
 pub mod Places
 pub mod Reading
 pub mod ReadingLaws

@@ -1,7 +1,7 @@
 -- What was written, and what was canonical, while an attribute with both flag bits lost the one for
 -- byte order.
 use Rattle.std.specs.Prelude.{ℕ, ◌≡◌, ◌+◌, ◌-◌, ◌<◌, ◌^◌, List, [], ◌∷◌, ◌++◌, length, replicate, if◌then◌else◌, nat_le}
-use Rattle.netlink_attributes.specs.Attribute.{Attribute, FitsAttribute, attribute_text, padded, padding}
+use Rattle.netlink_attributes.specs.Attribute.{Attribute, FitsAttribute, attribute_bytes, padded, padding}
 use Rattle.netlink_attributes.specs.Nla.{attribute_with}
 
 -- a kind has both flag bits exactly from 0xc000 on
@@ -21,7 +21,7 @@ older_canonical_block (a ∷ more) = padded (attribute_with (older_written_kind 
 abbrev pub IsOlderBlockOf : List ℕ → List Attribute → Type 0
 IsOlderBlockOf bytes [] = bytes ≡ []
 IsOlderBlockOf bytes (a ∷ more) =
-    (rest : List ℕ) × FitsAttribute a × (a.kind < both_flags) × (bytes ≡ attribute_text a ++ (replicate (padding (length a.value)) 0 ++ rest)) × IsOlderBlockOf rest more
+    (rest : List ℕ) × FitsAttribute a × (a.kind < both_flags) × (bytes ≡ attribute_bytes a ++ (replicate (padding (length a.value)) 0 ++ rest)) × IsOlderBlockOf rest more
 
 abbrev pub IsOlderCanonicalBlock : List ℕ → Type 0
 IsOlderCanonicalBlock bytes = (all : List Attribute) × IsOlderBlockOf bytes all

@@ -6,8 +6,8 @@ use Rattle.netlink_bytes.specs.Numbers.{IsBytes}
 use Rattle.netlink_bytes.specs.NumberLaws.{IsBytes-drop}
 use Rattle.netlink_bytes.specs.declared.error.DecodeError.{DecodeError}
 use Rattle.netlink_bytes.specs.declared.error.DecodeError.TheVariants.{NlaBufferTooSmall, NlaLengthMismatch, NlaInvalidLength}
-use Rattle.netlink_attributes.specs.Attribute.{Attribute, attribute_text, padding, padded_size}
-use Rattle.netlink_attributes.specs.Sizes.{length-attribute_text}
+use Rattle.netlink_attributes.specs.Attribute.{Attribute, attribute_bytes, padding, padded_size}
+use Rattle.netlink_attributes.specs.Sizes.{length-attribute_bytes}
 use Rattle.netlink_attributes.specs.Views.{length_field, attribute_of, HoldsAttribute}
 use Rattle.netlink_attributes.specs.Walk.{Starts, IsFault}
 use Rattle.netlink_attributes.specs.FieldLaws.{length_field-text, attribute_of-text, raw_kind-fits, length_field-fits, length-value, part_and_rest, text-attribute_of}
@@ -24,8 +24,8 @@ pub starts-length : (bytes : List ℕ) (a : Attribute) (rest : List ℕ)
     → (starts : Starts bytes a rest)
     → length bytes ≡ 4 + length a.value + (length starts.gap + length rest)
 starts-length bytes a rest starts =
-    let text = length-attribute_text a in
-    let whole = length-append (attribute_text a) (starts.gap ++ rest) in
+    let text = length-attribute_bytes a in
+    let whole = length-append (attribute_bytes a) (starts.gap ++ rest) in
     let behind = length-append starts.gap rest in
     ap length starts.whole ∙ omega arith
 
@@ -33,11 +33,11 @@ starts-length bytes a rest starts =
 pub starts-rest : (bytes : List ℕ) (a : Attribute) (rest : List ℕ) → Starts bytes a rest
     → rest ≡ drop (padded_size a) bytes
 starts-rest bytes a rest starts =
-    let text = length-attribute_text a in
-    let front = length-append (attribute_text a) starts.gap in
+    let text = length-attribute_bytes a in
+    let front = length-append (attribute_bytes a) starts.gap in
     let size = starts-length bytes a rest starts in
     elim starts.gap_size [
-      | inl full ↦ sym (ap (drop (padded_size a)) (starts.whole ∙ sym (append_assoc (attribute_text a) starts.gap rest)) ∙ drop_at (attribute_text a ++ starts.gap) rest (padded_size a) (omega arith))
+      | inl full ↦ sym (ap (drop (padded_size a)) (starts.whole ∙ sym (append_assoc (attribute_bytes a) starts.gap rest)) ∙ drop_at (attribute_bytes a ++ starts.gap) rest (padded_size a) (omega arith))
       | inr short ↦ (let none : length rest ≡ 0 = ap length short.1 in short.1 ∙ sym (drop_all (padded_size a) bytes (omega arith)))
     ]
 
@@ -94,7 +94,7 @@ starts_held bytes end each holds low high multiple =
     record {
       fits = record { kind = raw_kind-fits bytes each holds.header; value = omega (arith, length_field-fits bytes each holds.header, value) };
       gap = gap;
-      whole = text-attribute_of bytes each holds.header holds.least holds.most ∙ ap (λ (x : List ℕ). attribute_text (attribute_of bytes) ++ x) (part_and_rest field end bytes low);
+      whole = text-attribute_of bytes each holds.header holds.least holds.most ∙ ap (λ (x : List ℕ). attribute_bytes (attribute_of bytes) ++ x) (part_and_rest field end bytes low);
       gap_size = elim (gap_sizes field end (length bytes) (length (attribute_of bytes).value) holds.most low high multiple (omega (arith, holds.least, value))) [
         | inl full ↦ inl (taken ∙ full)
         | inr short ↦ inr (rw taken short.0, drop_all end bytes short.1)

@@ -1,7 +1,7 @@
 -- The fields of an attribute's bytes, and what a view shows.
 use Rattle.std.specs.Prelude.{ℕ, ◌+◌, ◌≤◌, ◌%◌, ◌^◌, Bool, nat_le, List, length, slice_range}
 use denote.Ref.{Bor}
-use Rattle.netlink_bytes.specs.Numbers.{number_le, text_le}
+use Rattle.netlink_bytes.specs.Numbers.{number_le, bytes_le}
 use Rattle.netlink_bytes.specs.Storage.{put_at}
 use Rattle.netlink_attributes.specs.Attribute.{Attribute}
 use Rattle.netlink_attributes.specs.declared.buffer.NlaBuffer.{NlaBuffer}
@@ -16,10 +16,10 @@ raw_kind bytes = number_le (slice_range bytes 2 4)
 
 -- the bytes with another length field, and with another kind field
 abbrev pub with_length : List ℕ → ℕ → List ℕ
-with_length bytes field = put_at bytes 0 (text_le field 2)
+with_length bytes field = put_at bytes 0 (bytes_le field 2)
 
 abbrev pub with_kind : List ℕ → ℕ → List ℕ
-with_kind bytes field = put_at bytes 2 (text_le field 2)
+with_kind bytes field = put_at bytes 2 (bytes_le field 2)
 
 -- the kind without its two flag bits
 abbrev pub masked : ℕ → ℕ

@@ -4,7 +4,7 @@ use denote.Ref.{Bor}
 use Rattle.netlink_bytes.specs.Walks.{WalksAs}
 use Rattle.netlink_bytes.specs.declared.error.DecodeError.{DecodeError}
 use Rattle.netlink_bytes.specs.declared.error.DecodeError.TheVariants.{NlaBufferTooSmall, NlaLengthMismatch, NlaInvalidLength}
-use Rattle.netlink_attributes.specs.Attribute.{Attribute, FitsAttribute, attribute_text, padding}
+use Rattle.netlink_attributes.specs.Attribute.{Attribute, FitsAttribute, attribute_bytes, padding}
 use Rattle.netlink_attributes.specs.Views.{length_field, attribute_of, shown, HoldsAttribute}
 use Rattle.netlink_attributes.specs.declared.buffer.NlaBuffer.{NlaBuffer}
 
@@ -20,7 +20,7 @@ IsFault bytes _ = ⊥
 pub record Starts (bytes : List ℕ) (a : Attribute) (rest : List ℕ) : Type 0 where
   pub fits : FitsAttribute a
   pub gap : List ℕ
-  pub whole : bytes ≡ attribute_text a ++ (gap ++ rest)
+  pub whole : bytes ≡ attribute_bytes a ++ (gap ++ rest)
   pub gap_size : (length gap ≡ padding (length a.value)) ⊎ ((length gap < padding (length a.value)) × (rest ≡ []))
 
 -- the bytes are these attributes one after another, and then nothing or one fault

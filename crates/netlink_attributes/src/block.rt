@@ -1,7 +1,7 @@
 //! Blocks of attributes, written.
 
 ghost use Rattle.std.specs.Prelude.{◌≡◌, ◌↔◌, ◌+◌, ◌^◌, ◌<◌, ◌≤◌, ◌++◌, ◌⊎◌, List, [], None, Some, IfErr, IfOk, IsOk, MatchResult, OnOk, length, replicate, vec_len, vec_capacity};
-ghost use Rattle.netlink_bytes.specs.Numbers.{text_le};
+ghost use Rattle.netlink_bytes.specs.Numbers.{bytes_le};
 ghost use Rattle.netlink_bytes.specs.declared.error.DecodeError.{DecodeError};
 ghost use Rattle.netlink_attributes.specs.Attribute.{Attribute, padded, padding};
 ghost use Rattle.netlink_attributes.specs.Block.{canonical_block, IsCanonicalBlock};
@@ -122,17 +122,17 @@ pub fn append_nla(
     let size = value.len() + NLA_HEADER_SIZE;
     let whole = nla_align(size);
     block.reserve(whole)?;
-    block.extend_from_slice(&header_text(size as u16, kind))?;
+    block.extend_from_slice(&attribute_header(size as u16, kind))?;
     block.extend_from_slice(value)?;
     append_zeros(block, whole - size)?;
     Ok(())
 }
 
 /// The four bytes of an attribute's header.
-#[tactic(auto, unfolding(netlink_bytes::specs::Numbers::text_le))]
+#[tactic(auto, unfolding(netlink_bytes::specs::Numbers::bytes_le))]
 #[inline(always)]
-pub(crate) fn header_text(length: u16, kind: u16) -> [u8; 4]
-    ensures { result ≡ text_le length 2 ++ text_le kind 2 }
+pub(crate) fn attribute_header(length: u16, kind: u16) -> [u8; 4]
+    ensures { result ≡ bytes_le length 2 ++ bytes_le kind 2 }
 {
     let [length_low, length_high] = length.to_le_bytes();
     let [kind_low, kind_high] = kind.to_le_bytes();

@@ -35,8 +35,8 @@ impl<T: Storage> NlaBuffer<T> {
     #[inline]
     pub fn new_checked(buffer: T) -> Result<Self, DecodeError>
         ensures keeps { IfOk result (λ view. storage_of view ≡ buffer) }
-        ensures whole { OnOk result (HoldsAttribute (T.held buffer)) }
-        ensures refuses { IfErr result (IsFault (T.held buffer)) }
+        ensures whole { OnOk result (HoldsAttribute (T.contents buffer)) }
+        ensures refuses { IfErr result (IsFault (T.contents buffer)) }
     {
         checked_length(buffer.bytes())?;
         Ok(NlaBuffer { buffer })
@@ -47,8 +47,8 @@ impl<T: Storage> NlaBuffer<T> {
     /// one below 4 with `NlaInvalidLength`.
     #[inline]
     pub fn check_buffer_length(&self) -> Result<(), DecodeError>
-        ensures whole { OnOk result (HoldsAttribute (T.held (storage_of self.now))) }
-        ensures refuses { IfErr result (IsFault (T.held (storage_of self.now))) }
+        ensures whole { OnOk result (HoldsAttribute (T.contents (storage_of self.now))) }
+        ensures refuses { IfErr result (IsFault (T.contents (storage_of self.now))) }
     {
         checked_length(self.buffer.bytes())?;
         Ok(())
@@ -57,7 +57,7 @@ impl<T: Storage> NlaBuffer<T> {
     /// A view of the same bytes, lent: what a slice is read by, of any storage.
     #[inline]
     pub fn borrowed(&self) -> NlaBuffer<&[u8]>
-        ensures bytes { shown result ≡ T.held (storage_of self.now) }
+        ensures bytes { shown result ≡ T.contents (storage_of self.now) }
     {
         NlaBuffer::new(self.buffer.bytes())
     }
@@ -92,8 +92,8 @@ impl<T: Storage> NlaBuffer<T> {
     /// The storage has at least 2 bytes.
     #[inline]
     pub fn length(&self) -> u16
-        requires field { 2 ≤ length (T.held (storage_of self.now)) }
-        ensures number { result ≡ length_field (T.held (storage_of self.now)) }
+        requires field { 2 ≤ length (T.contents (storage_of self.now)) }
+        ensures number { result ≡ length_field (T.contents (storage_of self.now)) }
     {
         u16_at(self.buffer.bytes(), 0)
     }
@@ -102,8 +102,8 @@ impl<T: Storage> NlaBuffer<T> {
     /// least 4 bytes.
     #[inline]
     pub fn raw_kind(&self) -> u16
-        requires field { 4 ≤ length (T.held (storage_of self.now)) }
-        ensures number { result ≡ raw_kind (T.held (storage_of self.now)) }
+        requires field { 4 ≤ length (T.contents (storage_of self.now)) }
+        ensures number { result ≡ raw_kind (T.contents (storage_of self.now)) }
     {
         u16_at(self.buffer.bytes(), 2)
     }
@@ -111,8 +111,8 @@ impl<T: Storage> NlaBuffer<T> {
     /// The kind without its two flag bits. The storage has at least 4 bytes.
     #[inline]
     pub fn kind(&self) -> u16
-        requires field { 4 ≤ length (T.held (storage_of self.now)) }
-        ensures number { result ≡ masked (raw_kind (T.held (storage_of self.now))) }
+        requires field { 4 ≤ length (T.contents (storage_of self.now)) }
+        ensures number { result ≡ masked (raw_kind (T.contents (storage_of self.now))) }
     {
         self.raw_kind() & NLA_TYPE_MASK
     }
@@ -120,8 +120,8 @@ impl<T: Storage> NlaBuffer<T> {
     /// Whether the bit `NLA_F_NESTED` of the kind is set. The storage has at least 4 bytes.
     #[inline]
     pub fn nested_flag(&self) -> bool
-        requires field { 4 ≤ length (T.held (storage_of self.now)) }
-        ensures flag { result ≡ is_nested (raw_kind (T.held (storage_of self.now))) }
+        requires field { 4 ≤ length (T.contents (storage_of self.now)) }
+        ensures flag { result ≡ is_nested (raw_kind (T.contents (storage_of self.now))) }
     {
         is_nested_kind(self.raw_kind())
     }
@@ -129,8 +129,8 @@ impl<T: Storage> NlaBuffer<T> {
     /// Whether the bit `NLA_F_NET_BYTEORDER` of the kind is set. The storage has at least 4 bytes.
     #[inline]
     pub fn network_byte_order_flag(&self) -> bool
-        requires field { 4 ≤ length (T.held (storage_of self.now)) }
-        ensures flag { result ≡ is_network_byteorder (raw_kind (T.held (storage_of self.now))) }
+        requires field { 4 ≤ length (T.contents (storage_of self.now)) }
+        ensures flag { result ≡ is_network_byteorder (raw_kind (T.contents (storage_of self.now))) }
     {
         is_network_kind(self.raw_kind())
     }
@@ -139,9 +139,9 @@ impl<T: Storage> NlaBuffer<T> {
     /// least 2 bytes, and the length field is at least 4.
     #[inline]
     pub fn value_length(&self) -> usize
-        requires field { 2 ≤ length (T.held (storage_of self.now)) }
-        requires least { 4 ≤ length_field (T.held (storage_of self.now)) }
-        ensures number { result + 4 ≡ length_field (T.held (storage_of self.now)) }
+        requires field { 2 ≤ length (T.contents (storage_of self.now)) }
+        requires least { 4 ≤ length_field (T.contents (storage_of self.now)) }
+        ensures number { result + 4 ≡ length_field (T.contents (storage_of self.now)) }
     {
         self.length() as usize - NLA_HEADER_SIZE
     }
@@ -151,9 +151,9 @@ impl<T: StorageMut> NlaBuffer<T> {
     /// Sets the length field (`nla_len`), and no other byte. The storage has at least 2 bytes.
     #[inline]
     pub fn set_length(&mut self, value: u16)
-        requires field { 2 ≤ length (T.held (storage_of self.old)) }
-        ensures bytes { T.held (storage_of self.new) ≡ with_length (T.held (storage_of self.old)) value }
-        ensures same_storage { storage_of self.new ≡ T.holding (storage_of self.old) (with_length (T.held (storage_of self.old)) value) }
+        requires field { 2 ≤ length (T.contents (storage_of self.old)) }
+        ensures bytes { T.contents (storage_of self.new) ≡ with_length (T.contents (storage_of self.old)) value }
+        ensures same_storage { storage_of self.new ≡ T.with_contents (storage_of self.old) (with_length (T.contents (storage_of self.old)) value) }
     {
         put_u16(self.buffer.bytes_mut(), 0, value);
     }
@@ -162,9 +162,9 @@ impl<T: StorageMut> NlaBuffer<T> {
     /// field. The storage has at least 4 bytes.
     #[inline]
     pub fn set_kind(&mut self, kind: u16)
-        requires field { 4 ≤ length (T.held (storage_of self.old)) }
-        ensures bytes { T.held (storage_of self.new) ≡ with_kind (T.held (storage_of self.old)) (masked kind) }
-        ensures same_storage { storage_of self.new ≡ T.holding (storage_of self.old) (with_kind (T.held (storage_of self.old)) (masked kind)) }
+        requires field { 4 ≤ length (T.contents (storage_of self.old)) }
+        ensures bytes { T.contents (storage_of self.new) ≡ with_kind (T.contents (storage_of self.old)) (masked kind) }
+        ensures same_storage { storage_of self.new ≡ T.with_contents (storage_of self.old) (with_kind (T.contents (storage_of self.old)) (masked kind)) }
     {
         self.set_raw_kind(kind & NLA_TYPE_MASK)
     }
@@ -173,9 +173,9 @@ impl<T: StorageMut> NlaBuffer<T> {
     /// the kind field changes. The storage has at least 4 bytes.
     #[inline]
     pub fn set_nested_flag(&mut self)
-        requires field { 4 ≤ length (T.held (storage_of self.old)) }
-        ensures bytes { T.held (storage_of self.new) ≡ with_kind (T.held (storage_of self.old)) (nested (raw_kind (T.held (storage_of self.old)))) }
-        ensures same_storage { storage_of self.new ≡ T.holding (storage_of self.old) (with_kind (T.held (storage_of self.old)) (nested (raw_kind (T.held (storage_of self.old))))) }
+        requires field { 4 ≤ length (T.contents (storage_of self.old)) }
+        ensures bytes { T.contents (storage_of self.new) ≡ with_kind (T.contents (storage_of self.old)) (nested (raw_kind (T.contents (storage_of self.old)))) }
+        ensures same_storage { storage_of self.new ≡ T.with_contents (storage_of self.old) (with_kind (T.contents (storage_of self.old)) (nested (raw_kind (T.contents (storage_of self.old))))) }
     {
         let kind = self.kind() | NLA_F_NESTED;
         self.set_raw_kind(kind)
@@ -185,9 +185,9 @@ impl<T: StorageMut> NlaBuffer<T> {
     /// the kind field changes. The storage has at least 4 bytes.
     #[inline]
     pub fn set_network_byte_order_flag(&mut self)
-        requires field { 4 ≤ length (T.held (storage_of self.old)) }
-        ensures bytes { T.held (storage_of self.new) ≡ with_kind (T.held (storage_of self.old)) (network_byteorder (raw_kind (T.held (storage_of self.old)))) }
-        ensures same_storage { storage_of self.new ≡ T.holding (storage_of self.old) (with_kind (T.held (storage_of self.old)) (network_byteorder (raw_kind (T.held (storage_of self.old))))) }
+        requires field { 4 ≤ length (T.contents (storage_of self.old)) }
+        ensures bytes { T.contents (storage_of self.new) ≡ with_kind (T.contents (storage_of self.old)) (network_byteorder (raw_kind (T.contents (storage_of self.old)))) }
+        ensures same_storage { storage_of self.new ≡ T.with_contents (storage_of self.old) (with_kind (T.contents (storage_of self.old)) (network_byteorder (raw_kind (T.contents (storage_of self.old))))) }
     {
         let kind = self.kind() | NLA_F_NET_BYTEORDER;
         self.set_raw_kind(kind)
@@ -197,9 +197,9 @@ impl<T: StorageMut> NlaBuffer<T> {
     /// The storage has at least 4 bytes.
     #[inline]
     pub fn set_raw_kind(&mut self, kind: u16)
-        requires field { 4 ≤ length (T.held (storage_of self.old)) }
-        ensures bytes { T.held (storage_of self.new) ≡ with_kind (T.held (storage_of self.old)) kind }
-        ensures same_storage { storage_of self.new ≡ T.holding (storage_of self.old) (with_kind (T.held (storage_of self.old)) kind) }
+        requires field { 4 ≤ length (T.contents (storage_of self.old)) }
+        ensures bytes { T.contents (storage_of self.new) ≡ with_kind (T.contents (storage_of self.old)) kind }
+        ensures same_storage { storage_of self.new ≡ T.with_contents (storage_of self.old) (with_kind (T.contents (storage_of self.old)) kind) }
     {
         put_u16(self.buffer.bytes_mut(), 2, kind);
     }
@@ -208,9 +208,9 @@ impl<T: StorageMut> NlaBuffer<T> {
     /// attribute, as `check_buffer_length` tells.
     #[inline]
     pub fn value_mut(&mut self) -> &mut [u8]
-        requires whole { HoldsAttribute (T.held (storage_of self.old)) }
-        ensures* writes_back { sem 𝓛 (Lends (the_row T.row) (Array byte 0) self.entry result (λ value. view_over (T.holding (storage_of self.old) (put_at (T.held (storage_of self.old)) 4 value)))) }
-        ensures value { result.now ≡ (attribute_of (T.held (storage_of self.old))).value }
+        requires whole { HoldsAttribute (T.contents (storage_of self.old)) }
+        ensures* writes_back { sem 𝓛 (Lends (the_row T.row) (Array byte 0) self.entry result (λ value. view_over (T.with_contents (storage_of self.old) (put_at (T.contents (storage_of self.old)) 4 value)))) }
+        ensures value { result.now ≡ (attribute_of (T.contents (storage_of self.old))).value }
     {
         let end = self.length() as usize;
         self.buffer.part_mut(NLA_HEADER_SIZE, end)

@@ -61,7 +61,7 @@ impl Nla for DefaultNla {
 }
 
 impl Emitable for DefaultNla {
-    ghost text = { λ nla. padded (kept_attribute nla) };
+    ghost bytes = { λ nla. padded (kept_attribute nla) };
 
     ghost can_emit = { λ nla. length (kept_attribute nla).value ≤ 65531 };
 

@@ -67,7 +67,7 @@ impl<T: Nla + Drop> NlaBlock<T> {
 }
 
 impl<T: Nla> Emitable for NlaBlock<T> {
-    ghost text = { λ block. canonical_block (attributes_of T.kind_of T.value_of block.list.items) };
+    ghost bytes = { λ block. canonical_block (attributes_of T.kind_of T.value_of block.list.items) };
 
     ghost can_emit = { λ _. Unit {0} };
 

@@ -6,7 +6,7 @@ ghost use Rattle.netlink_attributes.specs.Nla.{attribute_with};
 ghost use Rattle.netlink_attributes.specs.Views.{is_nested, is_network_byteorder};
 
 use crate::align::nla_align;
-use crate::block::header_text;
+use crate::block::attribute_header;
 use crate::buffer::{is_nested_kind, is_network_kind};
 use crate::constants::NLA_HEADER_SIZE;
 
@@ -83,7 +83,7 @@ pub fn emit_nla<T: Nla>(nla: &T, buffer: &mut [u8])
     let value_len = nla.value_len();
     let size = value_len + NLA_HEADER_SIZE;
     let (header, behind) = buffer.split_at_mut(NLA_HEADER_SIZE);
-    header.copy_from_slice(&header_text(size as u16, nla.kind()));
+    header.copy_from_slice(&attribute_header(size as u16, nla.kind()));
     let (value, behind_value) = behind.split_at_mut(value_len);
     nla.emit_value(value);
     let (padding, _) = behind_value.split_at_mut(nla_align(size) - size);

@@ -16,7 +16,7 @@ use std::alloc::Global;
 pub struct Nlas<'a, T: Nla>(pub &'a [T]);
 
 impl<'a, T: Nla> Emitable for Nlas<'a, T> {
-    ghost text = { λ nlas. canonical_block (attributes_of T.kind_of T.value_of nlas.0.now) };
+    ghost bytes = { λ nlas. canonical_block (attributes_of T.kind_of T.value_of nlas.0.now) };
 
     ghost can_emit = { λ nlas. AllFit T.value_of nlas.0.now };
 

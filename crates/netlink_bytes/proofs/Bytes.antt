@@ -5,7 +5,7 @@ use Rattle.std.proofs.lemmas.List.{length-reverse}
 use Rattle.std.proofs.lemmas.Grind.{reverse_onto}
 use Rattle.std.proofs.lemmas.Int.{ints}
 use Rattle.std.specs.Int.{w8, w16, w32, w64, w128, byte_at, bytes_low_first, from_le_bytes, from_be_bytes, to_le_bytes, to_be_bytes, cast_signed, cast_unsigned}
-use Rattle.netlink_bytes.specs.Numbers.{number_le, number_be, text_le, text_be, signed, unsigned}
+use Rattle.netlink_bytes.specs.Numbers.{number_le, number_be, bytes_le, bytes_be, signed, unsigned}
 
 -- ---- what a writer writes
 
@@ -14,44 +14,44 @@ byte_at-pow zero x = ap (λ (y : ℕ). y % 256) (sym (div-one x))
 byte_at-pow (suc k) x = refl
 
 -- k bytes of n from byte i are the text of what is left of n above byte i
-low_first : (i k n : ℕ) → text_le (n / 256 ^ i) k ≡ bytes_low_first i k n
-unfolding text_le
+low_first : (i k n : ℕ) → bytes_le (n / 256 ^ i) k ≡ bytes_low_first i k n
+unfolding bytes_le
 low_first i zero n = refl
 low_first i (suc k) n =
     let shift : n / 256 ^ i / 256 ≡ n / 256 ^ suc i = div-div-eq-div-mul n (256 ^ i) 256 ∙ ap (λ (p : ℕ). n / p) (sym (pow-suc 256 i)) in
-    let rest : text_le (n / 256 ^ i / 256) k ≡ bytes_low_first (suc i) k n = ap (λ (m : ℕ). text_le m k) shift ∙ low_first (suc i) k n in
+    let rest : bytes_le (n / 256 ^ i / 256) k ≡ bytes_low_first (suc i) k n = ap (λ (m : ℕ). bytes_le m k) shift ∙ low_first (suc i) k n in
     rw (byte_at-pow i n, rest) refl
 
-text_low_first : (k n : ℕ) → text_le n k ≡ bytes_low_first 0 k n
-text_low_first k n = ap (λ (m : ℕ). text_le m k) (sym (div-one n)) ∙ low_first 0 k n
+text_low_first : (k n : ℕ) → bytes_le n k ≡ bytes_low_first 0 k n
+text_low_first k n = ap (λ (m : ℕ). bytes_le m k) (sym (div-one n)) ∙ low_first 0 k n
 
-text_high_first : (k n : ℕ) → text_be n k ≡ reverse (bytes_low_first 0 k n)
-unfolding text_be
+text_high_first : (k n : ℕ) → bytes_be n k ≡ reverse (bytes_low_first 0 k n)
+unfolding bytes_be
 text_high_first k n = ap reverse (text_low_first k n)
 
-pub text_le_2 : (n : ℕ) → text_le n 2 ≡ to_le_bytes w16 n
-text_le_2 n = text_low_first 2 n
+pub bytes_le_2 : (n : ℕ) → bytes_le n 2 ≡ to_le_bytes w16 n
+bytes_le_2 n = text_low_first 2 n
 
-pub text_be_2 : (n : ℕ) → text_be n 2 ≡ to_be_bytes w16 n
-text_be_2 n = text_high_first 2 n
+pub bytes_be_2 : (n : ℕ) → bytes_be n 2 ≡ to_be_bytes w16 n
+bytes_be_2 n = text_high_first 2 n
 
-pub text_le_4 : (n : ℕ) → text_le n 4 ≡ to_le_bytes w32 n
-text_le_4 n = text_low_first 4 n
+pub bytes_le_4 : (n : ℕ) → bytes_le n 4 ≡ to_le_bytes w32 n
+bytes_le_4 n = text_low_first 4 n
 
-pub text_be_4 : (n : ℕ) → text_be n 4 ≡ to_be_bytes w32 n
-text_be_4 n = text_high_first 4 n
+pub bytes_be_4 : (n : ℕ) → bytes_be n 4 ≡ to_be_bytes w32 n
+bytes_be_4 n = text_high_first 4 n
 
-pub text_le_8 : (n : ℕ) → text_le n 8 ≡ to_le_bytes w64 n
-text_le_8 n = text_low_first 8 n
+pub bytes_le_8 : (n : ℕ) → bytes_le n 8 ≡ to_le_bytes w64 n
+bytes_le_8 n = text_low_first 8 n
 
-pub text_be_8 : (n : ℕ) → text_be n 8 ≡ to_be_bytes w64 n
-text_be_8 n = text_high_first 8 n
+pub bytes_be_8 : (n : ℕ) → bytes_be n 8 ≡ to_be_bytes w64 n
+bytes_be_8 n = text_high_first 8 n
 
-pub text_le_16 : (n : ℕ) → text_le n 16 ≡ to_le_bytes w128 n
-text_le_16 n = text_low_first 16 n
+pub bytes_le_16 : (n : ℕ) → bytes_le n 16 ≡ to_le_bytes w128 n
+bytes_le_16 n = text_low_first 16 n
 
-pub text_be_16 : (n : ℕ) → text_be n 16 ≡ to_be_bytes w128 n
-text_be_16 n = text_high_first 16 n
+pub bytes_be_16 : (n : ℕ) → bytes_be n 16 ≡ to_be_bytes w128 n
+bytes_be_16 n = text_high_first 16 n
 
 -- ---- what a reader reads
 
@@ -191,4 +191,4 @@ signed_1 n h = grind (arith, ints)
 pub ruleset single_byte = (number_le_1, signed_1)
 
 -- what a proof of a reader or a writer needs
-pub ruleset numbers_as_bytes = (number_le_2, number_be_2, text_le_2, text_be_2, signed_2, unsigned_2, number_le_4, number_be_4, text_le_4, text_be_4, signed_4, unsigned_4, number_le_8, number_be_8, text_le_8, text_be_8, signed_8, unsigned_8, number_le_16, number_be_16, text_le_16, text_be_16, signed_16, unsigned_16)
+pub ruleset numbers_as_bytes = (number_le_2, number_be_2, bytes_le_2, bytes_be_2, signed_2, unsigned_2, number_le_4, number_be_4, bytes_le_4, bytes_be_4, signed_4, unsigned_4, number_le_8, number_be_8, bytes_le_8, bytes_be_8, signed_8, unsigned_8, number_le_16, number_be_16, bytes_le_16, bytes_be_16, signed_16, unsigned_16)

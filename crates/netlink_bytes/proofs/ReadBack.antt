@@ -2,7 +2,7 @@
 use Rattle.std.proofs.Common.{◌≡◌, ℕ, suc, ◌+◌, ◌*◌, ◌^◌, List, [], ◌∷◌, reverse, ap, ◌∙◌, refl, arith}
 use Rattle.std.proofs.Math.Nat.{mul-add, mul_assoc, mul_comm, pow-suc}
 use Rattle.netlink_bytes.specs.Laws.{NumberIsSum, TextIsBytes, TextReadsBack, BytesReadBack, SignedReadsBack, UnsignedReadsBack, WrittenIsRead, WrittenSignedIsRead, weighed}
-use Rattle.netlink_bytes.specs.NumberLaws.{length-text_le, length-text_be, IsBytes-text_le, IsBytes-text_be, number_le-text_le, number_be-text_be, number_le-text_le_mod, number_be-text_be_mod, number_le-fits, number_be-fits, text_le-number_le, text_be-number_be, take-text_le, take-text_be, signed-unsigned, unsigned-fits, unsigned-signed, signed-fits}
+use Rattle.netlink_bytes.specs.NumberLaws.{length-bytes_le, length-bytes_be, IsBytes-bytes_le, IsBytes-bytes_be, number_le-bytes_le, number_be-bytes_be, number_le-bytes_le_mod, number_be-bytes_be_mod, number_le-fits, number_be-fits, bytes_le-number_le, bytes_be-number_be, take-bytes_le, take-bytes_be, signed-unsigned, unsigned-fits, unsigned-signed, signed-fits}
 use Rattle.netlink_bytes.specs.Numbers.{number_le, number_be, signed, unsigned}
 
 weighed-number_le : (i : ℕ) (bytes : List ℕ) → weighed i bytes ≡ 256 ^ i * number_le bytes
@@ -24,15 +24,15 @@ unfolding number_be
 number_is_sum bytes = (sum_le bytes, sum_le (reverse bytes))
 
 pub text_is_bytes : TextIsBytes
-text_is_bytes n w = (length-text_le n w, length-text_be n w, IsBytes-text_le n w, IsBytes-text_be n w)
+text_is_bytes n w = (length-bytes_le n w, length-bytes_be n w, IsBytes-bytes_le n w, IsBytes-bytes_be n w)
 
 pub text_reads_back : TextReadsBack
-text_reads_back n w = (number_le-text_le_mod n w, number_be-text_be_mod n w)
+text_reads_back n w = (number_le-bytes_le_mod n w, number_be-bytes_be_mod n w)
 
 pub bytes_read_back : BytesReadBack
 bytes_read_back bytes w size each = (
-  rw size at (text_le-number_le bytes each),
-  rw size at (text_be-number_be bytes each),
+  rw size at (bytes_le-number_le bytes each),
+  rw size at (bytes_be-number_be bytes each),
   rw size at (number_le-fits bytes each),
   rw size at (number_be-fits bytes each),
 )
@@ -45,7 +45,7 @@ unsigned_reads_back w n fits = (signed-fits w n fits, unsigned-signed (suc w) n 
 
 pub written_is_read : WrittenIsRead
 written_is_read n w rest fits =
-    (ap number_le (take-text_le n w rest) ∙ number_le-text_le n w fits, ap number_be (take-text_be n w rest) ∙ number_be-text_be n w fits)
+    (ap number_le (take-bytes_le n w rest) ∙ number_le-bytes_le n w fits, ap number_be (take-bytes_be n w rest) ∙ number_be-bytes_be n w fits)
 
 pub written_signed_is_read : WrittenSignedIsRead
 written_signed_is_read w z rest fits =

@@ -3,8 +3,8 @@ use Rattle.std.specs.Prelude.{◌≡◌, ◌<◌, ◌≤◌, ℕ, ◌+◌, ◌-�
 use Rattle.std.proofs.Common.{ap, arith, sym, ◌∙◌, append_assoc, append-nil, length-drop}
 use Rattle.std.proofs.lemmas.List.{drop-drop, drop_all, drop_at, length-take-le}
 use Rattle.std.proofs.lemmas.List.Sums.{sum_by-cons}
-use Rattle.netlink_bytes.specs.Numbers.{IsBytes, number_le, signed, text_le, unsigned}
-use Rattle.netlink_bytes.specs.NumberLaws.{IsBytes-drop, front-fits, number_le-text_le, split_number, take-text_le, unsigned-signed}
+use Rattle.netlink_bytes.specs.Numbers.{IsBytes, number_le, signed, bytes_le, unsigned}
+use Rattle.netlink_bytes.specs.NumberLaws.{IsBytes-drop, front-fits, number_le-bytes_le, split_number, take-bytes_le, unsigned-signed}
 use Rattle.netlink_bytes.specs.Storage.{put_at}
 
 -- the number of the w bytes from a place on
@@ -14,8 +14,8 @@ number_at at w bytes = number_le (slice_range bytes at (at + w))
 -- the numbers of these widths that stand one behind another from a place on, written again
 abbrev pub fields_at : ℕ → List ℕ → List ℕ → List ℕ
 fields_at at [] bytes = []
-fields_at at (w ∷ []) bytes = text_le (number_at at w bytes) w
-fields_at at (w ∷ v ∷ widths) bytes = text_le (number_at at w bytes) w ++ fields_at (at + w) (v ∷ widths) bytes
+fields_at at (w ∷ []) bytes = bytes_le (number_at at w bytes) w
+fields_at at (w ∷ v ∷ widths) bytes = bytes_le (number_at at w bytes) w ++ fields_at (at + w) (v ∷ widths) bytes
 
 -- fields that were read and are written again are the bytes that they were read from
 abbrev pub FieldsKept : Type 0
@@ -27,7 +27,7 @@ FieldsKept =
 abbrev pub PlacedIsRead : Type 0
 PlacedIsRead =
     (bytes : List ℕ) (at w n : ℕ) → at ≤ length bytes → n < 256 ^ w
-    → number_at at w (put_at bytes at (text_le n w)) ≡ n
+    → number_at at w (put_at bytes at (bytes_le n w)) ≡ n
 
 -- ---- lemmas for callers to cite
 
@@ -47,17 +47,17 @@ number_at-fits at w bytes each long =
 
 -- bytes from a place on are the text of the number there, and what follows it
 pub number_at-text : (at w : ℕ) (bytes : List ℕ) → IsBytes bytes → at + w ≤ length bytes
-    → drop at bytes ≡ text_le (number_at at w bytes) w ++ drop (at + w) bytes
+    → drop at bytes ≡ bytes_le (number_at at w bytes) w ++ drop (at + w) bytes
 number_at-text at w bytes each long =
     split_number w (drop at bytes) (IsBytes-drop at bytes each) (enough at w bytes long)
-    ∙ ap (λ (more : List ℕ). text_le (number_le (take w (drop at bytes))) w ++ more) (drop-drop w at bytes)
-    ∙ ap (λ (n : ℕ). text_le n w ++ drop (at + w) bytes) (sym (number_at-drop at w bytes))
+    ∙ ap (λ (more : List ℕ). bytes_le (number_le (take w (drop at bytes))) w ++ more) (drop-drop w at bytes)
+    ∙ ap (λ (n : ℕ). bytes_le n w ++ drop (at + w) bytes) (sym (number_at-drop at w bytes))
 
 -- the text of a number that was read with its sign is that of the number without
 pub number_at-signed : (at w : ℕ) (bytes : List ℕ) → IsBytes bytes → at + w ≤ length bytes
-    → text_le (unsigned w (signed w (number_at at w bytes))) w ≡ text_le (number_at at w bytes) w
+    → bytes_le (unsigned w (signed w (number_at at w bytes))) w ≡ bytes_le (number_at at w bytes) w
 number_at-signed at w bytes each long =
-    ap (λ (n : ℕ). text_le n w) (unsigned-signed w (number_at at w bytes) (number_at-fits at w bytes each long))
+    ap (λ (n : ℕ). bytes_le n w) (unsigned-signed w (number_at at w bytes) (number_at-fits at w bytes each long))
 
 sum-cons : (w : ℕ) (widths : List ℕ) → sum (w ∷ widths) ≡ w + sum widths
 sum-cons w widths = sum_by-cons (λ (n : ℕ). n) w widths
@@ -67,14 +67,14 @@ fields_kept at [] bytes each long = ap (λ (n : ℕ). drop n bytes) (omega arith
 fields_kept at (w ∷ []) bytes each long =
     let whole = sum-cons w [] in
     number_at-text at w bytes each (omega (arith, whole, long))
-    ∙ ap (λ (n : ℕ). text_le (number_at at w bytes) w ++ drop n bytes) (omega (arith, whole))
+    ∙ ap (λ (n : ℕ). bytes_le (number_at at w bytes) w ++ drop n bytes) (omega (arith, whole))
 fields_kept at (w ∷ v ∷ widths) bytes each long =
     let whole = sum-cons w (v ∷ widths) in
     let rest = fields_kept (at + w) (v ∷ widths) bytes each (omega (arith, whole, long)) in
     let end : at + w + sum (v ∷ widths) ≡ at + sum (w ∷ v ∷ widths) = omega (arith, whole) in
     number_at-text at w bytes each (omega (arith, whole, long))
-    ∙ ap (λ (more : List ℕ). text_le (number_at at w bytes) w ++ more) (rest ∙ ap (λ (n : ℕ). fields_at (at + w) (v ∷ widths) bytes ++ drop n bytes) end)
-    ∙ sym (append_assoc (text_le (number_at at w bytes) w) (fields_at (at + w) (v ∷ widths) bytes) (drop (at + sum (w ∷ v ∷ widths)) bytes))
+    ∙ ap (λ (more : List ℕ). bytes_le (number_at at w bytes) w ++ more) (rest ∙ ap (λ (n : ℕ). fields_at (at + w) (v ∷ widths) bytes ++ drop n bytes) end)
+    ∙ sym (append_assoc (bytes_le (number_at at w bytes) w) (fields_at (at + w) (v ∷ widths) bytes) (drop (at + sum (w ∷ v ∷ widths)) bytes))
 
 -- bytes of the size of their fields are these
 pub all_fields_kept : (widths bytes : List ℕ) → IsBytes bytes → length bytes ≡ sum widths → fields_at 0 widths bytes ≡ bytes
@@ -85,8 +85,8 @@ all_fields_kept widths bytes each size =
 pub placed_is_read : PlacedIsRead
 placed_is_read bytes at w n inside fits =
     let front : length (take at bytes) ≡ at = length-take-le at bytes inside in
-    let rest : List ℕ = drop (at + length (text_le n w)) bytes in
-    let from_there : drop at (put_at bytes at (text_le n w)) ≡ text_le n w ++ rest = drop_at (take at bytes) (text_le n w ++ rest) at front in
-    number_at-drop at w (put_at bytes at (text_le n w))
+    let rest : List ℕ = drop (at + length (bytes_le n w)) bytes in
+    let from_there : drop at (put_at bytes at (bytes_le n w)) ≡ bytes_le n w ++ rest = drop_at (take at bytes) (bytes_le n w ++ rest) at front in
+    number_at-drop at w (put_at bytes at (bytes_le n w))
     ∙ ap (λ (more : List ℕ). number_le (take w more)) from_there
-    ∙ ap number_le (take-text_le n w rest) ∙ number_le-text_le n w fits
+    ∙ ap number_le (take-bytes_le n w rest) ∙ number_le-bytes_le n w fits

@@ -1,6 +1,6 @@
 -- What holds of numbers and their bytes at every width.
 use Rattle.std.specs.Prelude.{◌≡◌, ◌<◌, ◌+◌, ◌*◌, ◌%◌, ◌^◌, ℕ, ℤ, suc, List, [], ◌∷◌, ◌++◌, length, reverse, take}
-use Rattle.netlink_bytes.specs.Numbers.{IsBytes, IsSigned, number_le, number_be, text_le, text_be, signed, unsigned}
+use Rattle.netlink_bytes.specs.Numbers.{IsBytes, IsSigned, number_le, number_be, bytes_le, bytes_be, signed, unsigned}
 
 -- byte 0 times 256 to the power i, byte 1 times 256 to the power i + 1, and so on, added up
 abbrev pub weighed : ℕ → List ℕ → ℕ
@@ -15,18 +15,18 @@ NumberIsSum =
 -- a text of w bytes is a list of w bytes
 abbrev pub TextIsBytes : Type 0
 TextIsBytes =
-    (n w : ℕ) → (length (text_le n w) ≡ w) × (length (text_be n w) ≡ w) × IsBytes (text_le n w) × IsBytes (text_be n w)
+    (n w : ℕ) → (length (bytes_le n w) ≡ w) × (length (bytes_be n w) ≡ w) × IsBytes (bytes_le n w) × IsBytes (bytes_be n w)
 
 -- the number of a text of w bytes is the remainder by 256 to the power w
 abbrev pub TextReadsBack : Type 0
 TextReadsBack =
-    (n w : ℕ) → (number_le (text_le n w) ≡ n % 256 ^ w) × (number_be (text_be n w) ≡ n % 256 ^ w)
+    (n w : ℕ) → (number_le (bytes_le n w) ≡ n % 256 ^ w) × (number_be (bytes_be n w) ≡ n % 256 ^ w)
 
 -- bytes are the text of their number, which fits them
 abbrev pub BytesReadBack : Type 0
 BytesReadBack =
     (bytes : List ℕ) (w : ℕ) → length bytes ≡ w → IsBytes bytes
-    → (text_le (number_le bytes) w ≡ bytes) × (text_be (number_be bytes) w ≡ bytes)
+    → (bytes_le (number_le bytes) w ≡ bytes) × (bytes_be (number_be bytes) w ≡ bytes)
     × (number_le bytes < 256 ^ w) × (number_be bytes < 256 ^ w)
 
 -- a signed number stands for one number of its width, which stands for it
@@ -44,10 +44,10 @@ UnsignedReadsBack =
 abbrev pub WrittenIsRead : Type 0
 WrittenIsRead =
     (n w : ℕ) (rest : List ℕ) → n < 256 ^ w
-    → (number_le (take w (text_le n w ++ rest)) ≡ n) × (number_be (take w (text_be n w ++ rest)) ≡ n)
+    → (number_le (take w (bytes_le n w ++ rest)) ≡ n) × (number_be (take w (bytes_be n w ++ rest)) ≡ n)
 
 abbrev pub WrittenSignedIsRead : Type 0
 WrittenSignedIsRead =
     (w : ℕ) (z : ℤ) (rest : List ℕ) → IsSigned (suc w) z
-    → (signed (suc w) (number_le (take (suc w) (text_le (unsigned (suc w) z) (suc w) ++ rest))) ≡ z)
-    × (signed (suc w) (number_be (take (suc w) (text_be (unsigned (suc w) z) (suc w) ++ rest))) ≡ z)
+    → (signed (suc w) (number_le (take (suc w) (bytes_le (unsigned (suc w) z) (suc w) ++ rest))) ≡ z)
+    × (signed (suc w) (number_be (take (suc w) (bytes_be (unsigned (suc w) z) (suc w) ++ rest))) ≡ z)

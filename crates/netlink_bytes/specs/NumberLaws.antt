@@ -8,21 +8,21 @@ use Rattle.std.proofs.lemmas.Grind.{reverse_onto}
 use Rattle.std.proofs.lemmas.Int.{ints}
 use Rattle.std.proofs.lemmas.List.{get_or-drop, length-reverse, length-take-le, reverse-reverse, take-append-drop}
 use Rattle.std.proofs.lemmas.Nat.{div_below}
-use Rattle.netlink_bytes.specs.Numbers.{IsBytes, IsSigned, number_le, number_be, text_le, text_be, signed, unsigned}
+use Rattle.netlink_bytes.specs.Numbers.{IsBytes, IsSigned, number_le, number_be, bytes_le, bytes_be, signed, unsigned}
 
 -- the text of w bytes has w bytes
-pub length-text_le : (n w : ℕ) → length (text_le n w) ≡ w
-unfolding text_le
-length-text_le n zero = refl
-length-text_le n (suc w) = let rest = length-text_le (n / 256) w in omega (arith, rest)
+pub length-bytes_le : (n w : ℕ) → length (bytes_le n w) ≡ w
+unfolding bytes_le
+length-bytes_le n zero = refl
+length-bytes_le n (suc w) = let rest = length-bytes_le (n / 256) w in omega (arith, rest)
 
 -- a number that fits reads back from its text
-pub number_le-text_le : (n w : ℕ) → n < 256 ^ w → number_le (text_le n w) ≡ n
-unfolding number_le text_le
-number_le-text_le n zero fits = omega arith
-number_le-text_le n (suc w) fits =
+pub number_le-bytes_le : (n w : ℕ) → n < 256 ^ w → number_le (bytes_le n w) ≡ n
+unfolding number_le bytes_le
+number_le-bytes_le n zero fits = omega arith
+number_le-bytes_le n (suc w) fits =
     let less : n / 256 < 256 ^ w = div_below n 256 (256 ^ w) (omega arith) (rw (pow-suc 256 w) at fits) in
-    let rest = number_le-text_le (n / 256) w less in
+    let rest = number_le-bytes_le (n / 256) w less in
     rw rest (omega arith)
 
 IsBytes-tail : (b : ℕ) (bytes : List ℕ) → IsBytes (b ∷ bytes) → IsBytes bytes
@@ -38,14 +38,14 @@ number_le-fits (b ∷ bytes) each =
     rw (pow-suc 256 (length bytes)) (omega arith)
 
 -- bytes are the text of their number
-pub text_le-number_le : (bytes : List ℕ) → IsBytes bytes → text_le (number_le bytes) (length bytes) ≡ bytes
-unfolding number_le text_le
-text_le-number_le [] each = refl
-text_le-number_le (b ∷ bytes) each =
+pub bytes_le-number_le : (bytes : List ℕ) → IsBytes bytes → bytes_le (number_le bytes) (length bytes) ≡ bytes
+unfolding number_le bytes_le
+bytes_le-number_le [] each = refl
+bytes_le-number_le (b ∷ bytes) each =
     let byte : b < 256 = each 0 in
     let low : (b + 256 * number_le bytes) % 256 ≡ b = omega arith in
     let high : (b + 256 * number_le bytes) / 256 ≡ number_le bytes = omega arith in
-    rw (low, high, text_le-number_le bytes (IsBytes-tail b bytes each)) refl
+    rw (low, high, bytes_le-number_le bytes (IsBytes-tail b bytes each)) refl
 
 -- a signed number reads back from the number that stands for it
 pub signed-unsigned : (w : ℕ) (z : ℤ) → IsSigned (suc w) z → signed (suc w) (unsigned (suc w) z) ≡ z
@@ -73,41 +73,41 @@ signed-fits w n fits = grind (arith, ints)
 
 -- ---- any number, and the highest byte first
 
-pub length-text_be : (n w : ℕ) → length (text_be n w) ≡ w
-unfolding text_be
-length-text_be n w = length-reverse (text_le n w) ∙ length-text_le n w
+pub length-bytes_be : (n w : ℕ) → length (bytes_be n w) ≡ w
+unfolding bytes_be
+length-bytes_be n w = length-reverse (bytes_le n w) ∙ length-bytes_le n w
 
 -- how long a text is
-pub ruleset text_sizes = (length-text_le, length-text_be)
+pub ruleset text_sizes = (length-bytes_le, length-bytes_be)
 
 pow-positive : (w : ℕ) → 0 < 256 ^ w
 pow-positive zero = omega arith
 pow-positive (suc w) = let less : 0 < 256 ^ w = pow-positive w in rw (pow-suc 256 w) (omega arith)
 
 -- a text of w bytes is that of the remainder by 256 to the power w
-pub number_le-text_le_mod : (n w : ℕ) → number_le (text_le n w) ≡ n % 256 ^ w
-unfolding number_le text_le
-number_le-text_le_mod n zero = omega arith
-number_le-text_le_mod n (suc w) =
-    let rest = number_le-text_le_mod (n / 256) w in
+pub number_le-bytes_le_mod : (n w : ℕ) → number_le (bytes_le n w) ≡ n % 256 ^ w
+unfolding number_le bytes_le
+number_le-bytes_le_mod n zero = omega arith
+number_le-bytes_le_mod n (suc w) =
+    let rest = number_le-bytes_le_mod (n / 256) w in
     let power : 256 ^ suc w ≡ 256 ^ w * 256 = pow-suc 256 w in
     let digits : n % (256 ^ w * 256) ≡ (n / 256 % 256 ^ w) * 256 + n % 256 = mod-mul n (pow-positive w) (omega arith) in
     rw (rest, power, digits) (omega arith)
 
-pub number_be-text_be_mod : (n w : ℕ) → number_be (text_be n w) ≡ n % 256 ^ w
-unfolding number_be text_be
-number_be-text_be_mod n w = ap number_le (reverse-reverse (text_le n w)) ∙ number_le-text_le_mod n w
+pub number_be-bytes_be_mod : (n w : ℕ) → number_be (bytes_be n w) ≡ n % 256 ^ w
+unfolding number_be bytes_be
+number_be-bytes_be_mod n w = ap number_le (reverse-reverse (bytes_le n w)) ∙ number_le-bytes_le_mod n w
 
-pub number_be-text_be : (n w : ℕ) → n < 256 ^ w → number_be (text_be n w) ≡ n
-unfolding number_be text_be
-number_be-text_be n w fits = ap number_le (reverse-reverse (text_le n w)) ∙ number_le-text_le n w fits
+pub number_be-bytes_be : (n w : ℕ) → n < 256 ^ w → number_be (bytes_be n w) ≡ n
+unfolding number_be bytes_be
+number_be-bytes_be n w fits = ap number_le (reverse-reverse (bytes_le n w)) ∙ number_le-bytes_le n w fits
 
 -- the items of a text are bytes
-pub IsBytes-text_le : (n w : ℕ) → IsBytes (text_le n w)
-unfolding text_le
-IsBytes-text_le n zero i = omega arith
-IsBytes-text_le n (suc w) zero = omega arith
-IsBytes-text_le n (suc w) (suc i) = IsBytes-text_le (n / 256) w i
+pub IsBytes-bytes_le : (n w : ℕ) → IsBytes (bytes_le n w)
+unfolding bytes_le
+IsBytes-bytes_le n zero i = omega arith
+IsBytes-bytes_le n (suc w) zero = omega arith
+IsBytes-bytes_le n (suc w) (suc i) = IsBytes-bytes_le (n / 256) w i
 
 pub IsBytes-append : (xs ys : List ℕ) → IsBytes xs → IsBytes ys → IsBytes (xs ++ ys)
 IsBytes-append [] ys first later i = later i
@@ -123,26 +123,26 @@ IsBytes-reverse [] each = each
 IsBytes-reverse (b ∷ bytes) each =
     rw (reverse_onto bytes b []) (IsBytes-append (reverse bytes) (b ∷ []) (IsBytes-reverse bytes (IsBytes-tail b bytes each)) (IsBytes-alone b (each 0)))
 
-pub IsBytes-text_be : (n w : ℕ) → IsBytes (text_be n w)
-unfolding text_be
-IsBytes-text_be n w = IsBytes-reverse (text_le n w) (IsBytes-text_le n w)
+pub IsBytes-bytes_be : (n w : ℕ) → IsBytes (bytes_be n w)
+unfolding bytes_be
+IsBytes-bytes_be n w = IsBytes-reverse (bytes_le n w) (IsBytes-bytes_le n w)
 
 pub number_be-fits : (bytes : List ℕ) → IsBytes bytes → number_be bytes < 256 ^ length bytes
 unfolding number_be
 number_be-fits bytes each = rw (length-reverse bytes) at (number_le-fits (reverse bytes) (IsBytes-reverse bytes each))
 
-pub text_be-number_be : (bytes : List ℕ) → IsBytes bytes → text_be (number_be bytes) (length bytes) ≡ bytes
-unfolding number_be text_be
-text_be-number_be bytes each =
-    let backward : text_le (number_le (reverse bytes)) (length bytes) ≡ reverse bytes = ap (text_le (number_le (reverse bytes))) (sym (length-reverse bytes)) ∙ text_le-number_le (reverse bytes) (IsBytes-reverse bytes each) in
+pub bytes_be-number_be : (bytes : List ℕ) → IsBytes bytes → bytes_be (number_be bytes) (length bytes) ≡ bytes
+unfolding number_be bytes_be
+bytes_be-number_be bytes each =
+    let backward : bytes_le (number_le (reverse bytes)) (length bytes) ≡ reverse bytes = ap (bytes_le (number_le (reverse bytes))) (sym (length-reverse bytes)) ∙ bytes_le-number_le (reverse bytes) (IsBytes-reverse bytes each) in
     ap reverse backward ∙ reverse-reverse bytes
 
 -- a text in front is read again, whatever follows
-pub take-text_le : (n w : ℕ) (rest : List ℕ) → take w (text_le n w ++ rest) ≡ text_le n w
-take-text_le n w rest = ap (λ (k : ℕ). take k (text_le n w ++ rest)) (sym (length-text_le n w)) ∙ take-append_seam (text_le n w) rest
+pub take-bytes_le : (n w : ℕ) (rest : List ℕ) → take w (bytes_le n w ++ rest) ≡ bytes_le n w
+take-bytes_le n w rest = ap (λ (k : ℕ). take k (bytes_le n w ++ rest)) (sym (length-bytes_le n w)) ∙ take-append_seam (bytes_le n w) rest
 
-pub take-text_be : (n w : ℕ) (rest : List ℕ) → take w (text_be n w ++ rest) ≡ text_be n w
-take-text_be n w rest = ap (λ (k : ℕ). take k (text_be n w ++ rest)) (sym (length-text_be n w)) ∙ take-append_seam (text_be n w) rest
+pub take-bytes_be : (n w : ℕ) (rest : List ℕ) → take w (bytes_be n w ++ rest) ≡ bytes_be n w
+take-bytes_be n w rest = ap (λ (k : ℕ). take k (bytes_be n w ++ rest)) (sym (length-bytes_be n w)) ∙ take-append_seam (bytes_be n w) rest
 
 -- ---- parts of bytes
 
@@ -156,11 +156,11 @@ IsBytes-take (suc n) (x ∷ bytes) each zero = each zero
 IsBytes-take (suc n) (x ∷ bytes) each (suc i) = IsBytes-take n bytes (λ j. each (suc j)) i
 
 -- bytes are the text of the number in front, and what follows it
-pub split_number : (w : ℕ) (bytes : List ℕ) → IsBytes bytes → w ≤ length bytes → bytes ≡ text_le (number_le (take w bytes)) w ++ drop w bytes
+pub split_number : (w : ℕ) (bytes : List ℕ) → IsBytes bytes → w ≤ length bytes → bytes ≡ bytes_le (number_le (take w bytes)) w ++ drop w bytes
 split_number w bytes each long =
     let size : length (take w bytes) ≡ w = length-take-le w bytes long in
-    let text : text_le (number_le (take w bytes)) w ≡ take w bytes =
-    ap (text_le (number_le (take w bytes))) (sym size) ∙ text_le-number_le (take w bytes) (IsBytes-take w bytes each) in
+    let text : bytes_le (number_le (take w bytes)) w ≡ take w bytes =
+    ap (bytes_le (number_le (take w bytes))) (sym size) ∙ bytes_le-number_le (take w bytes) (IsBytes-take w bytes each) in
     sym (take-append-drop w bytes) ∙ ap (λ (front : List ℕ). front ++ drop w bytes) (sym text)
 
 -- and that number fits its bytes

@@ -13,16 +13,16 @@ number_le [] = 0
 number_le (b ∷ bytes) = b + 256 * number_le bytes
 
 -- the w bytes whose number is the remainder of n by 256 to the power w, the lowest first
-unfoldable pub text_le : ℕ → ℕ → List ℕ
-text_le n zero = []
-text_le n (suc w) = n % 256 ∷ text_le (n / 256) w
+unfoldable pub bytes_le : ℕ → ℕ → List ℕ
+bytes_le n zero = []
+bytes_le n (suc w) = n % 256 ∷ bytes_le (n / 256) w
 
 -- the same with the highest byte first
 unfoldable pub number_be : List ℕ → ℕ
 number_be bytes = number_le (reverse bytes)
 
-unfoldable pub text_be : ℕ → ℕ → List ℕ
-text_be n w = reverse (text_le n w)
+unfoldable pub bytes_be : ℕ → ℕ → List ℕ
+bytes_be n w = reverse (bytes_le n w)
 
 -- two's complement of w bytes: the number, less 256 to the power w where it is at least half of
 -- that

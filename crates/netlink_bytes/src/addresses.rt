@@ -6,7 +6,7 @@ ghost use Rattle.netlink_bytes.specs.Numbers.{Reads, number_le, signed};
 ghost use Rattle.netlink_bytes.specs.declared.error.DecodeError.TheVariants.{InvalidIpAddress, InvalidMacAddress};
 
 use crate::error::DecodeError;
-use crate::numbers::exactly;
+use crate::numbers::array_of;
 
 /// An IP address by its bytes, in the order in which they are sent.
 #[derive(Clone, Copy, Debug, PartialEq, Eq)]
@@ -21,7 +21,7 @@ pub enum IpAddr {
 pub fn parse_u8(payload: &[u8]) -> Result<u8, DecodeError>
     ensures reads { Reads number_le 1 payload.now result }
 {
-    let [byte] = exactly::<1>(payload)?;
+    let [byte] = array_of::<1>(payload)?;
     Ok(byte)
 }
 
@@ -40,7 +40,7 @@ pub fn parse_mac(payload: &[u8]) -> Result<[u8; 6], DecodeError>
     ensures ok { length payload.now ≡ 6 → result ≡ Ok payload.now }
     ensures err { length payload.now ≢ 6 → result ≡ Err (InvalidMacAddress (length payload.now)) }
 {
-    match exactly(payload) {
+    match array_of(payload) {
         Ok(address) => Ok(address),
         Err(_) => Err(DecodeError::InvalidMacAddress {
             received: payload.len(),
@@ -54,7 +54,7 @@ pub fn parse_ipv6(payload: &[u8]) -> Result<[u8; 16], DecodeError>
     ensures ok { length payload.now ≡ 16 → result ≡ Ok payload.now }
     ensures err { length payload.now ≢ 16 → result ≡ Err (InvalidIpAddress (length payload.now)) }
 {
-    match exactly(payload) {
+    match array_of(payload) {
         Ok(address) => Ok(address),
         Err(_) => Err(DecodeError::InvalidIpAddress {
             received: payload.len(),
@@ -71,7 +71,7 @@ pub fn parse_ip(payload: &[u8]) -> Result<IpAddr, DecodeError>
         → result ≡ Err (InvalidIpAddress (length payload.now)) }
 {
     if payload.len() == 4 {
-        Ok(IpAddr::V4(exactly(payload)?))
+        Ok(IpAddr::V4(array_of(payload)?))
     } else {
         Ok(IpAddr::V6(parse_ipv6(payload)?))
     }

@@ -4,7 +4,7 @@
 
 ghost use Rattle.std.specs.Prelude.{◌≡◌, ◌≤◌, ◌+◌, length, slice_range};
 ghost use Rattle.netlink_bytes.specs.Fields.{number_at};
-ghost use Rattle.netlink_bytes.specs.Numbers.{signed, text_le, unsigned};
+ghost use Rattle.netlink_bytes.specs.Numbers.{signed, bytes_le, unsigned};
 ghost use Rattle.netlink_bytes.specs.Storage.{put_at};
 
 /// The number in the 2 bytes from a place on, native order; the place plus 2 is at most the size.
@@ -40,7 +40,7 @@ pub fn i32_at(bytes: &[u8], at: usize) -> i32
 #[inline]
 pub fn put_u16(bytes: &mut [u8], at: usize, value: u16)
     requires inside { at + 2 ≤ length bytes.old }
-    ensures written { bytes.new ≡ put_at bytes.old at (text_le value 2) }
+    ensures written { bytes.new ≡ put_at bytes.old at (bytes_le value 2) }
 {
     put::<2>(bytes, at, value.to_ne_bytes());
 }
@@ -50,7 +50,7 @@ pub fn put_u16(bytes: &mut [u8], at: usize, value: u16)
 #[inline]
 pub fn put_u32(bytes: &mut [u8], at: usize, value: u32)
     requires inside { at + 4 ≤ length bytes.old }
-    ensures written { bytes.new ≡ put_at bytes.old at (text_le value 4) }
+    ensures written { bytes.new ≡ put_at bytes.old at (bytes_le value 4) }
 {
     put::<4>(bytes, at, value.to_ne_bytes());
 }
@@ -60,7 +60,7 @@ pub fn put_u32(bytes: &mut [u8], at: usize, value: u32)
 #[inline]
 pub fn put_i32(bytes: &mut [u8], at: usize, value: i32)
     requires inside { at + 4 ≤ length bytes.old }
-    ensures written { bytes.new ≡ put_at bytes.old at (text_le (unsigned 4 value) 4) }
+    ensures written { bytes.new ≡ put_at bytes.old at (bytes_le (unsigned 4 value) 4) }
 {
     put_u32(bytes, at, value.cast_unsigned());
 }

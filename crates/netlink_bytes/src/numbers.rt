@@ -9,7 +9,7 @@ ghost use Rattle.netlink_bytes.specs.Numbers.{Reads, Writes};
 use crate::error::DecodeError;
 
 /// The bytes, where there are exactly `N`.
-pub(crate) fn exactly<const N: usize>(payload: &[u8]) -> Result<[u8; N], DecodeError>
+pub(crate) fn array_of<const N: usize>(payload: &[u8]) -> Result<[u8; N], DecodeError>
     ensures reads { Reads (λ bytes. bytes) N payload.now result }
 {
     if payload.len() != N {
@@ -24,7 +24,7 @@ pub(crate) fn exactly<const N: usize>(payload: &[u8]) -> Result<[u8; N], DecodeE
 }
 
 /// Writes the bytes at the front.
-fn front<const N: usize>(buf: &mut [u8], bytes: [u8; N]) -> Result<(), DecodeError>
+fn write_front<const N: usize>(buf: &mut [u8], bytes: [u8; N]) -> Result<(), DecodeError>
     ensures writes { Writes bytes.entry N buf.old buf.new result }
 {
     if buf.len() < N {

@@ -12,40 +12,40 @@ ghost use Rattle.std.proofs.lemmas.Grind.{common_steps};
 /// Something that holds bytes, which a view looks at in place.
 pub trait Storage: Drop {
     /// The bytes that it holds.
-    ghost held: { Self → List ℕ };
+    ghost contents: { Self → List ℕ };
 
     /// The bytes that it holds, lent. Asks for no memory.
     fn bytes(&self) -> &[u8]
-        ensures held { result.now ≡ held self.now };
+        ensures contents { result.now ≡ contents self.now };
 }
 
 /// Something that holds bytes which can be written in place. Writing keeps their number.
 pub trait StorageMut: Storage {
     /// The same with these bytes in place of its own.
-    ghost holding: { Self → List ℕ → Self };
+    ghost with_contents: { Self → List ℕ → Self };
 
     /// The bytes that it holds, lent for writing. Asks for no memory.
     fn bytes_mut(&mut self) -> &mut [u8]
-        ensures* writes_back { sem 𝓛 (Lends Self.row (Array byte 0) self.entry result (holding self.old)) }
-        ensures value { result.now ≡ Self.held self.old };
+        ensures* writes_back { sem 𝓛 (Lends Self.row (Array byte 0) self.entry result (with_contents self.old)) }
+        ensures value { result.now ≡ Self.contents self.old };
 
     /// The bytes from `start` up to `end`, lent for writing; `start` is at most `end`, and `end` at
     /// most their number. Asks for no memory.
     fn part_mut(&mut self, start: usize, end: usize) -> &mut [u8]
         requires order { start ≤ end }
-        requires inside { end ≤ length (Self.held self.old) }
-        ensures* writes_back { sem 𝓛 (Lends Self.row (Array byte 0) self.entry result (λ part. holding self.old (put_at (Self.held self.old) start part))) }
-        ensures value { result.now ≡ slice_range (Self.held self.old) start end };
+        requires inside { end ≤ length (Self.contents self.old) }
+        ensures* writes_back { sem 𝓛 (Lends Self.row (Array byte 0) self.entry result (λ part. with_contents self.old (put_at (Self.contents self.old) start part))) }
+        ensures value { result.now ≡ slice_range (Self.contents self.old) start end };
 
     /// As many bytes as it held are held as they were written.
-    ghost held_holding: { (s : Self) (bytes : List ℕ) → length bytes ≡ length (Self.held s) → Self.held (holding s bytes) ≡ bytes };
+    ghost contents_of_with_contents: { (s : Self) (bytes : List ℕ) → length bytes ≡ length (Self.contents s) → Self.contents (with_contents s bytes) ≡ bytes };
 
     /// Of two writes of as many bytes as it held the later one stays.
-    ghost holding_holding: { (s : Self) (first later : List ℕ) → length first ≡ length (Self.held s) → length later ≡ length (Self.held s) → holding (holding s first) later ≡ holding s later };
+    ghost with_contents_twice: { (s : Self) (first later : List ℕ) → length first ≡ length (Self.contents s) → length later ≡ length (Self.contents s) → with_contents (with_contents s first) later ≡ with_contents s later };
 }
 
 impl<'a> Storage for &'a [u8] {
-    ghost held = { λ slice. slice.now };
+    ghost contents = { λ slice. slice.now };
 
     /// The slice itself.
     fn bytes(&self) -> &[u8] {
@@ -54,7 +54,7 @@ impl<'a> Storage for &'a [u8] {
 }
 
 impl<'a> Storage for &'a mut [u8] {
-    ghost held = { λ slice. slice.now };
+    ghost contents = { λ slice. slice.now };
 
     /// The slice itself.
     fn bytes(&self) -> &[u8] {
@@ -63,7 +63,7 @@ impl<'a> Storage for &'a mut [u8] {
 }
 
 impl Storage for Vec<u8> {
-    ghost held = { λ vec. vec.items };
+    ghost contents = { λ vec. vec.items };
 
     /// Its items.
     fn bytes(&self) -> &[u8] {
@@ -72,11 +72,11 @@ impl Storage for Vec<u8> {
 }
 
 impl<'a> StorageMut for &'a mut [u8] {
-    ghost holding = { at_last };
+    ghost with_contents = { at_last };
 
-    ghost held_holding = { λ _ _ _. refl };
+    ghost contents_of_with_contents = { λ _ _ _. refl };
 
-    ghost holding_holding = { λ _ _ _ _ _. refl };
+    ghost with_contents_twice = { λ _ _ _ _ _. refl };
 
     /// The slice itself.
     fn bytes_mut(&mut self) -> &mut [u8] {
@@ -90,11 +90,11 @@ impl<'a> StorageMut for &'a mut [u8] {
 }
 
 impl StorageMut for Vec<u8> {
-    ghost holding = { with_items };
+    ghost with_contents = { with_items };
 
-    ghost held_holding = { λ s bytes same. Prim.grind (arith, common_steps) };
+    ghost contents_of_with_contents = { λ s bytes same. Prim.grind (arith, common_steps) };
 
-    ghost holding_holding = { with_items-with_items };
+    ghost with_contents_twice = { with_items-with_items };
 
     /// Its items.
     fn bytes_mut(&mut self) -> &mut [u8] {

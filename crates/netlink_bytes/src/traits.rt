@@ -11,26 +11,26 @@ use std::alloc::Global;
 /// A value that is written as bytes.
 pub trait Emitable {
     /// The bytes that stand for a value.
-    ghost text: { Self → List ℕ };
+    ghost bytes: { Self → List ℕ };
 
     /// The value can be written.
     ghost can_emit: { Self → Type 0 };
 
-    /// A buffer longer than the text is taken; otherwise it has to be of the text's size.
+    /// A buffer longer than the bytes is taken; otherwise it has to be of the size of its bytes.
     ghost takes_longer: { Bool };
 
-    /// The size of the text in bytes, which has to be below 2 to the power of 64. Asks for no
+    /// The size in bytes, which has to be below 2 to the power of 64. Asks for no
     /// memory.
     fn buffer_len(&self) -> usize
-        requires in_size { length (text self.now) < 2 ^ 64 }
-        ensures size { result ≡ length (text self.now) };
+        requires in_size { length (bytes self.now) < 2 ^ 64 }
+        ensures size { result ≡ length (bytes self.now) };
 
-    /// Writes the text at the start of the buffer and leaves the rest. The value can be written,
-    /// and the buffer has the text's size, or more where a longer one is taken. Asks for no memory.
+    /// Writes the bytes at the start of the buffer and leaves the rest. The value can be written,
+    /// and the buffer has the size of its bytes, or more where a longer one is taken. Asks for no memory.
     fn emit(&self, buffer: &mut [u8])
         requires can { can_emit self.now }
-        requires room { HasRoom takes_longer (length (text self.now)) (length buffer.old) }
-        ensures written { buffer.new ≡ text self.now ++ drop (length (text self.now)) buffer.old };
+        requires room { HasRoom takes_longer (length (bytes self.now)) (length buffer.old) }
+        ensures written { buffer.new ≡ bytes self.now ++ drop (length (bytes self.now)) buffer.old };
 }
 
 /// A value that is read from a `T`.

@@ -1,5 +1,5 @@
-mod Ending
-mod Putting
-mod Refusing
+mod EndLemmas
+mod PutLemmas
+mod RefusalLemmas
 mod Texts
-mod Walking
+mod WalkLemmas

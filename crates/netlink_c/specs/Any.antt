@@ -15,7 +15,7 @@ any_reading h payload = if is_protocol_type h.message_type then Some (h.message_
     None
 
 abbrev pub any_encoding : Encoding AnyMessage
-any_encoding = record { type_of = λ m. m.kind.number; text_of = λ m. m.bytes.items }
+any_encoding = record { type_of = λ m. m.kind.number; bytes_of = λ m. m.bytes.items }
 
 abbrev pub any_decoding : Decoding AnyMessage
 any_decoding = record {

@@ -1,7 +1,7 @@
 -- Frames and nests that are begun and ended in a buffer.
 use Rattle.std.specs.Prelude.{◌≡◌, ℕ, ◌+◌, ◌-◌, ◌%◌, ◌^◌, ◌<◌, ◌≤◌, List, ◌++◌, length, replicate}
 use Rattle.netlink_packet_core.specs.Attribute.{padding}
-use Rattle.netlink_packet_core.specs.Header.{header_text}
+use Rattle.netlink_packet_core.specs.Header.{header_bytes}
 use Rattle.netlink_packet_core.specs.Storage.{put_at}
 use Rattle.netlink_packet_core.specs.declared.header.NetlinkHeader.{NetlinkHeader}
 use Rattle.netlink_c.specs.declared.frame.HeaderFields.{HeaderFields}
@@ -30,8 +30,8 @@ begun_header h size = record {
   port_number = h.port_number;
 }
 
-abbrev pub frame_text : HeaderFields → List ℕ → List ℕ
-frame_text h fixed = header_text (begun_header h (length fixed)) ++ fixed
+abbrev pub frame_bytes : HeaderFields → List ℕ → List ℕ
+frame_bytes h fixed = header_bytes (begun_header h (length fixed)) ++ fixed
 
 -- the size of that with its padding
 abbrev pub begun_size : ℕ → ℕ
@@ -47,5 +47,5 @@ pub record AnswersPutFrame (size room at answer : ℕ) : Type 0 where
 -- and the cursor is behind it
 pub record PutsFrame (h : HeaderFields) (fixed buffer : List ℕ) (at : ℕ) (new : List ℕ)
     (next : ℕ) : Type 0 where
-  pub bytes : new ≡ put_at buffer at (frame_text h fixed ++ replicate (padding (length fixed)) 0)
+  pub bytes : new ≡ put_at buffer at (frame_bytes h fixed ++ replicate (padding (length fixed)) 0)
   pub cursor : next ≡ at + begun_size (length fixed)

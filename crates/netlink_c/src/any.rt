@@ -73,7 +73,7 @@ impl NetlinkSerializable for AnyMessage {
     }
 
     /// Asks for no memory.
-    fn is_text(&self, _alloc: Global, bytes: &[u8]) -> Result<bool, AllocError> {
+    fn is_written_as(&self, _alloc: Global, bytes: &[u8]) -> Result<bool, AllocError> {
         Ok(bytes == self.bytes.as_slice())
     }
 }

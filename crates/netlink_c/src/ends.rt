@@ -3,14 +3,14 @@
 ghost use Rattle.std.specs.Prelude.{◌≡◌, ◌≢◌, ◌+◌, ◌-◌, ◌<◌, ◌≤◌, ◌++◌, ◌^◌, ◌%◌, ◌↔◌};
 ghost use Rattle.std.specs.Prelude.{IsTrue, drop, length, replicate, slice_range};
 ghost use Rattle.netlink_packet_core.specs.Attribute.{padding};
-ghost use Rattle.netlink_packet_core.specs.Header.{header_text};
+ghost use Rattle.netlink_packet_core.specs.Header.{header_bytes};
 ghost use Rattle.netlink_packet_core.specs.Nla.{attribute_with};
-ghost use Rattle.netlink_packet_core.specs.Numbers.{text_le};
+ghost use Rattle.netlink_packet_core.specs.Numbers.{bytes_le};
 ghost use Rattle.netlink_packet_core.specs.Storage.{put_at};
 ghost use Rattle.netlink_packet_core.specs.Views.{attribute_of, raw_kind, HoldsAttribute};
 ghost use Rattle.netlink_tree.specs.FrameWalk.{StartsFrame};
 ghost use Rattle.netlink_c.specs.Ends.{AnswersEnd, AnswersPutFrame, IsStretch, PutsFrame};
-ghost use Rattle.netlink_c.specs.Ends.{begun_size, frame_text};
+ghost use Rattle.netlink_c.specs.Ends.{begun_size, frame_bytes};
 
 use crate::answers::{NO_PLACE, NO_ROOM, OK, TOO_LONG};
 use crate::frame::HeaderFields;
@@ -27,7 +27,7 @@ use netlink_packet_core::{
 pub extern "C" fn nlp_nest_end(buffer: &mut [u8], cursor: usize, start: usize) -> u32
     ensures answers { AnswersEnd 4 (2 ^ 16) (length buffer.old) start cursor result }
     ensures written { result ≡ 0 → buffer.new
-        ≡ put_at buffer.old start (text_le (cursor - start) 2) }
+        ≡ put_at buffer.old start (bytes_le (cursor - start) 2) }
     ensures reads_back { result ≡ 0 → HoldsAttribute (drop start buffer.new)
         × (attribute_of (drop start buffer.new)
         ≡ attribute_with (raw_kind (drop start buffer.old))
@@ -63,7 +63,7 @@ pub extern "C" fn nlp_frame_put(
     ensures written { result ≡ 0
         → PutsFrame header.now fixed.now buffer.old cursor.old buffer.new cursor.new }
     ensures reads_back { result ≡ 0
-        → StartsFrame (drop cursor.old buffer.new) (frame_text header.now fixed.now)
+        → StartsFrame (drop cursor.old buffer.new) (frame_bytes header.now fixed.now)
         (drop cursor.new buffer.new) }
     ensures unchanged { result ≢ 0 → (buffer.new ≡ buffer.old) × (cursor.new ≡ cursor.old) }
 {
@@ -97,7 +97,7 @@ pub extern "C" fn nlp_frame_put(
 pub extern "C" fn nlp_frame_end(buffer: &mut [u8], cursor: usize, start: usize) -> u32
     ensures answers { AnswersEnd 16 (2 ^ 32) (length buffer.old) start cursor result }
     ensures written { result ≡ 0 → buffer.new
-        ≡ put_at buffer.old start (text_le (cursor - start) 4) }
+        ≡ put_at buffer.old start (bytes_le (cursor - start) 4) }
     ensures reads_back { result ≡ 0
         → StartsFrame (drop start buffer.new) (slice_range buffer.new start cursor)
         (drop cursor buffer.new) }
@@ -127,16 +127,16 @@ fn put_frame_at(buffer: &mut [u8], at: usize, whole: usize, header: &NetlinkHead
     requires size { whole ≡ begun_size (length fixed.now) }
     requires room { at + whole ≤ length buffer.old }
     ensures { buffer.new ≡ put_at buffer.old at
-        ((header_text header.now ++ fixed.now) ++ replicate (padding (length fixed.now)) 0) }
+        ((header_bytes header.now ++ fixed.now) ++ replicate (padding (length fixed.now)) 0) }
 {
     write_frame(&mut buffer[at..at + whole], header, fixed);
 }
 
 /// Fills the buffer with a header of this length, the bytes, and zeros.
-#[tactic(auto, using(crate::proofs::Ending::frame_sizes))]
+#[tactic(auto, using(crate::proofs::EndLemmas::frame_sizes))]
 fn write_frame(buffer: &mut [u8], header: &NetlinkHeader, fixed: &[u8])
     requires room { length fixed.now + 16 ≤ length buffer.old }
-    ensures { buffer.new ≡ (header_text header.now ++ fixed.now) ++ replicate
+    ensures { buffer.new ≡ (header_bytes header.now ++ fixed.now) ++ replicate
         (length buffer.old - (16 + length fixed.now)) 0 }
 {
     let (front, rest) = buffer.split_at_mut(NETLINK_HEADER_LEN);

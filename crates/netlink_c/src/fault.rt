@@ -22,7 +22,7 @@ pub struct FaultNumbers {
 }
 
 /// Writes the numbers of a cause, and answers the cause's own.
-#[tactic(auto, using(crate::proofs::Refusing::cause_some))]
+#[tactic(auto, using(crate::proofs::RefusalLemmas::cause_some))]
 pub(crate) fn refused(fault: &mut FaultNumbers, cause: &DecodeError) -> u32
     ensures number { result ≡ cause_number cause.now }
     ensures numbers { fault.new ≡ numbers_of cause.now }

@@ -3,7 +3,7 @@
 ghost use Rattle.std.specs.Prelude.{◌≡◌, ◌≢◌, ◌+◌, ◌<◌, ◌≤◌, ◌^◌, ◌++◌, ◌∷◌, [], drop, length};
 ghost use Rattle.netlink_packet_core.specs.Attribute.{padded};
 ghost use Rattle.netlink_packet_core.specs.Nla.{attribute_with};
-ghost use Rattle.netlink_packet_core.specs.Numbers.{text_le};
+ghost use Rattle.netlink_packet_core.specs.Numbers.{bytes_le};
 ghost use Rattle.netlink_packet_core.specs.Storage.{put_at};
 ghost use Rattle.netlink_packet_core.specs.Views.{nested};
 ghost use Rattle.netlink_packet_core.specs.Walk.{Starts};
@@ -73,16 +73,16 @@ pub extern "C" fn nlp_attr_put_u16(
     kind: u16,
     value: u16,
 ) -> u32
-    ensures answers { AnswersPut (attribute_with kind (text_le value 2)) buffer.old cursor.old
+    ensures answers { AnswersPut (attribute_with kind (bytes_le value 2)) buffer.old cursor.old
         result }
     ensures written { result ≡ 0
-        → PutsAttribute (attribute_with kind (text_le value 2)) buffer.old cursor.old buffer.new
+        → PutsAttribute (attribute_with kind (bytes_le value 2)) buffer.old cursor.old buffer.new
         cursor.new }
     ensures block { result ≡ 0
-        → GrowsBlock (attribute_with kind (text_le value 2)) buffer.old cursor.old buffer.new
+        → GrowsBlock (attribute_with kind (bytes_le value 2)) buffer.old cursor.old buffer.new
         cursor.new }
     ensures reads_back { result ≡ 0
-        → Starts (drop cursor.old buffer.new) (attribute_with kind (text_le value 2))
+        → Starts (drop cursor.old buffer.new) (attribute_with kind (bytes_le value 2))
         (drop cursor.new buffer.new) }
     ensures unchanged { result ≢ 0 → (buffer.new ≡ buffer.old) × (cursor.new ≡ cursor.old) }
 {
@@ -99,16 +99,16 @@ pub extern "C" fn nlp_attr_put_u32(
     kind: u16,
     value: u32,
 ) -> u32
-    ensures answers { AnswersPut (attribute_with kind (text_le value 4)) buffer.old cursor.old
+    ensures answers { AnswersPut (attribute_with kind (bytes_le value 4)) buffer.old cursor.old
         result }
     ensures written { result ≡ 0
-        → PutsAttribute (attribute_with kind (text_le value 4)) buffer.old cursor.old buffer.new
+        → PutsAttribute (attribute_with kind (bytes_le value 4)) buffer.old cursor.old buffer.new
         cursor.new }
     ensures block { result ≡ 0
-        → GrowsBlock (attribute_with kind (text_le value 4)) buffer.old cursor.old buffer.new
+        → GrowsBlock (attribute_with kind (bytes_le value 4)) buffer.old cursor.old buffer.new
         cursor.new }
     ensures reads_back { result ≡ 0
-        → Starts (drop cursor.old buffer.new) (attribute_with kind (text_le value 4))
+        → Starts (drop cursor.old buffer.new) (attribute_with kind (bytes_le value 4))
         (drop cursor.new buffer.new) }
     ensures unchanged { result ≢ 0 → (buffer.new ≡ buffer.old) × (cursor.new ≡ cursor.old) }
 {
@@ -125,16 +125,16 @@ pub extern "C" fn nlp_attr_put_u64(
     kind: u16,
     value: u64,
 ) -> u32
-    ensures answers { AnswersPut (attribute_with kind (text_le value 8)) buffer.old cursor.old
+    ensures answers { AnswersPut (attribute_with kind (bytes_le value 8)) buffer.old cursor.old
         result }
     ensures written { result ≡ 0
-        → PutsAttribute (attribute_with kind (text_le value 8)) buffer.old cursor.old buffer.new
+        → PutsAttribute (attribute_with kind (bytes_le value 8)) buffer.old cursor.old buffer.new
         cursor.new }
     ensures block { result ≡ 0
-        → GrowsBlock (attribute_with kind (text_le value 8)) buffer.old cursor.old buffer.new
+        → GrowsBlock (attribute_with kind (bytes_le value 8)) buffer.old cursor.old buffer.new
         cursor.new }
     ensures reads_back { result ≡ 0
-        → Starts (drop cursor.old buffer.new) (attribute_with kind (text_le value 8))
+        → Starts (drop cursor.old buffer.new) (attribute_with kind (bytes_le value 8))
         (drop cursor.new buffer.new) }
     ensures unchanged { result ≢ 0 → (buffer.new ≡ buffer.old) × (cursor.new ≡ cursor.old) }
 {
@@ -188,7 +188,7 @@ pub extern "C" fn nlp_nest_begin(buffer: &mut [u8], cursor: &mut usize, kind: u1
 }
 
 /// Adds an attribute where there is room.
-#[tactic(auto, using(crate::proofs::Putting::put_reads_back))]
+#[tactic(auto, using(crate::proofs::PutLemmas::put_reads_back))]
 fn put<T: Nla>(buffer: &mut [u8], cursor: &mut usize, nla: &T) -> u32
     ensures answers { AnswersPut (attribute_with (T.kind_of nla.now) (T.value_of nla.now))
         buffer.old cursor.old result }
@@ -217,7 +217,7 @@ fn put<T: Nla>(buffer: &mut [u8], cursor: &mut usize, nla: &T) -> u32
 }
 
 /// Writes an attribute of this size at a place.
-#[tactic(auto, using(crate::proofs::Putting::put_sizes))]
+#[tactic(auto, using(crate::proofs::PutLemmas::put_sizes))]
 fn emit_at<T: Nla>(nla: &T, buffer: &mut [u8], at: usize, size: usize)
     requires fits { length (T.value_of nla.now) ≤ 65531 }
     requires size { size

@@ -30,7 +30,7 @@ pub struct AttributeItem {
 ///
 /// Answers 0; or `END` where no bytes are left; or `FrameShort`, `FrameCut` or `FrameLength`, and
 /// the cursor is then at the end. Wraps `Frames`. Asks for no memory.
-#[tactic(auto, using(crate::proofs::Walking::frame_fits))]
+#[tactic(auto, using(crate::proofs::WalkLemmas::frame_fits))]
 #[unsafe(no_mangle)]
 pub extern "C" fn nlp_frames_next(
     bytes: &[u8],

@@ -11,8 +11,8 @@ abbrev pub generic_type : GenericMessage → ℕ
 generic_type m = m.family.number
 
 -- the command, the version, two reserved bytes that are zero, and the payload
-abbrev pub generic_text : GenericMessage → List ℕ
-generic_text m = m.command ∷ m.version ∷ 0 ∷ 0 ∷ m.payload.items
+abbrev pub generic_bytes : GenericMessage → List ℕ
+generic_bytes m = m.command ∷ m.version ∷ 0 ∷ 0 ∷ m.payload.items
 
 -- a message type of 16 bits that a family may have
 abbrev pub is_family : ℕ → Bool
@@ -32,12 +32,12 @@ abbrev pub generic_in_range : GenericMessage → Bool
 generic_in_range m = nat_lt m.family.number (2 ^ 16) && (nat_lt m.command (2 ^ 8) && nat_lt m.version (2 ^ 8))
 
 abbrev pub generic_encoding : Encoding GenericMessage
-generic_encoding = record { type_of = generic_type; text_of = generic_text }
+generic_encoding = record { type_of = generic_type; bytes_of = generic_bytes }
 
 abbrev pub generic_decoding : Decoding GenericMessage
 generic_decoding = record {
   reading = generic_reading;
-  stands_for = λ m. (generic_type m, generic_text m);
+  stands_for = λ m. (generic_type m, generic_bytes m);
   in_range = generic_in_range;
 }
 

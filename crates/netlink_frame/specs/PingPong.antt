@@ -11,9 +11,9 @@ abbrev pub ping_pong_type : PingPongMessage → ℕ
 ping_pong_type (Ping bytes) = 18
 ping_pong_type (Pong bytes) = 20
 
-abbrev pub ping_pong_text : PingPongMessage → List ℕ
-ping_pong_text (Ping bytes) = bytes.items
-ping_pong_text (Pong bytes) = bytes.items
+abbrev pub ping_pong_bytes : PingPongMessage → List ℕ
+ping_pong_bytes (Ping bytes) = bytes.items
+ping_pong_bytes (Pong bytes) = bytes.items
 
 -- the two types read any payload
 abbrev pub ping_pong_reading : NetlinkHeader → List ℕ → Option (ℕ × List ℕ)
@@ -21,13 +21,13 @@ ping_pong_reading h payload =
     if h.message_type == 18 then Some (18, payload) else if h.message_type == 20 then Some (20, payload) else None
 
 abbrev pub ping_pong_encoding : Encoding PingPongMessage
-ping_pong_encoding = record { type_of = ping_pong_type; text_of = ping_pong_text }
+ping_pong_encoding = record { type_of = ping_pong_type; bytes_of = ping_pong_bytes }
 
 -- every value is in range
 abbrev pub ping_pong_decoding : Decoding PingPongMessage
 ping_pong_decoding = record {
   reading = ping_pong_reading;
-  stands_for = λ v. (ping_pong_type v, ping_pong_text v);
+  stands_for = λ v. (ping_pong_type v, ping_pong_bytes v);
   in_range = λ _. true;
 }
 

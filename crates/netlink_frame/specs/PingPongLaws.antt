@@ -5,7 +5,7 @@ use Rattle.std.specs.Cmp.Lexicographic.{bytes_decides}
 use Rattle.std.proofs.Common.{arith, ap, sym, ◌∙◌, subst}
 use Rattle.netlink_packet_core.specs.Protocol.{IsLawful}
 use Rattle.netlink_packet_core.specs.declared.header.NetlinkHeader.{NetlinkHeader}
-use Rattle.netlink_frame.specs.PingPong.{ping_pong_decoding, ping_pong_reading, ping_pong_text, ping_pong_type}
+use Rattle.netlink_frame.specs.PingPong.{ping_pong_decoding, ping_pong_reading, ping_pong_bytes, ping_pong_type}
 use Rattle.netlink_frame.specs.declared.ping_pong.PingPongMessage.{PingPongMessage}
 use Rattle.netlink_frame.specs.declared.ping_pong.PingPongMessage.TheVariants.{Ping, Pong}
 
@@ -24,7 +24,7 @@ pong_is_lawful bytes = record {
 }
 
 -- what a value stands for is lawful
-pub value_is_lawful : (v : PingPongMessage) → IsLawful ping_pong_decoding (ping_pong_type v, ping_pong_text v)
+pub value_is_lawful : (v : PingPongMessage) → IsLawful ping_pong_decoding (ping_pong_type v, ping_pong_bytes v)
 value_is_lawful (Ping bytes) = ping_is_lawful bytes.items
 value_is_lawful (Pong bytes) = pong_is_lawful bytes.items
 

@@ -10,8 +10,8 @@ use Rattle.netlink_frame.specs.declared.samples.Zeros.{Zeros}
 abbrev pub are_zeros : List ℕ → Bool
 are_zeros bytes = list_all (λ b. b == 0) bytes
 
-abbrev pub zeros_text : Zeros → List ℕ
-zeros_text v = replicate v.0 0
+abbrev pub zeros_bytes : Zeros → List ℕ
+zeros_bytes v = replicate v.0 0
 
 -- zeros are read as they stand, and a count as that many of them
 abbrev pub zeros_reading : NetlinkHeader → List ℕ → Option (ℕ × List ℕ)
@@ -21,12 +21,12 @@ zeros_reading h payload =
     else None
 
 abbrev pub zeros_encoding : Encoding Zeros
-zeros_encoding = record { type_of = λ _. 18; text_of = zeros_text }
+zeros_encoding = record { type_of = λ _. 18; bytes_of = zeros_bytes }
 
 -- a count of 64 bits
 abbrev pub zeros_decoding : Decoding Zeros
 zeros_decoding = record {
   reading = zeros_reading;
-  stands_for = λ v. (18, zeros_text v);
+  stands_for = λ v. (18, zeros_bytes v);
   in_range = λ v. nat_lt v.0 (2 ^ 64);
 }

@@ -6,7 +6,7 @@ use Rattle.std.proofs.lemmas.Bool.Decides.{Decides-eqb}
 use Rattle.netlink_packet_core.specs.Numbers.{number_le}
 use Rattle.netlink_packet_core.specs.Protocol.{IsLawful}
 use Rattle.netlink_packet_core.specs.declared.header.NetlinkHeader.{NetlinkHeader}
-use Rattle.netlink_frame.specs.Zeros.{are_zeros, zeros_decoding, zeros_reading, zeros_text}
+use Rattle.netlink_frame.specs.Zeros.{are_zeros, zeros_decoding, zeros_reading, zeros_bytes}
 use Rattle.netlink_frame.specs.declared.samples.Zeros.{Zeros}
 
 are_zeros-replicate : (n : ℕ) → are_zeros (replicate n 0) ≡ true
@@ -34,7 +34,7 @@ zeros_are_lawful n = record {
 }
 
 -- what a value stands for is lawful
-pub value_is_lawful : (v : Zeros) → IsLawful zeros_decoding (18, zeros_text v)
+pub value_is_lawful : (v : Zeros) → IsLawful zeros_decoding (18, zeros_bytes v)
 value_is_lawful v = zeros_are_lawful v.0
 
 by_type : (is_zeros all_zero is_count has_width : Bool) (payload : List ℕ) (n : ℕ) (pair : ℕ × List ℕ) → (all_zero ≡ true → payload ≡ replicate (length payload) 0)

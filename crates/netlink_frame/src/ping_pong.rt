@@ -94,7 +94,7 @@ impl NetlinkSerializable for PingPongMessage {
     }
 
     /// Asks for no memory.
-    fn is_text(&self, _alloc: Global, bytes: &[u8]) -> Result<bool, AllocError> {
+    fn is_written_as(&self, _alloc: Global, bytes: &[u8]) -> Result<bool, AllocError> {
         match self {
             PingPongMessage::Ping(text) | PingPongMessage::Pong(text) => {
                 Ok(bytes == text.as_slice())

@@ -3,8 +3,8 @@ use Rattle.std.proofs.Common.{◌≡◌, ℕ, ◌+◌, ◌<◌, ◌≤◌, Bool,
 use Rattle.std.proofs.lemmas.List.{length-take, take-take, nil_from_length, append-nil}
 use Rattle.netlink_bytes.specs.Numbers.{number_le}
 use Rattle.netlink_bytes.specs.declared.error.DecodeError.TheVariants.{FrameShort, FrameCut}
-use Rattle.netlink_packet_core.specs.Header.{header_text, header_of, field, HoldsFrame}
-use Rattle.netlink_packet_core.specs.Payload.{payload_text, payload_type}
+use Rattle.netlink_packet_core.specs.Header.{header_bytes, header_of, field, HoldsFrame}
+use Rattle.netlink_packet_core.specs.Payload.{payload_bytes, payload_type}
 use Rattle.netlink_packet_core.specs.Protocol.{Encoding, Decoding, IsOwnType}
 use Rattle.netlink_packet_core.specs.Frame.{Begins, Body, Frame}
 use Rattle.netlink_packet_core.specs.Canonical.{finalized, canonical_frame, IsCanonicalFrame}
@@ -18,7 +18,7 @@ use Rattle.netlink_packet_core.specs.declared.payload.NetlinkPayload.TheVariants
 
 -- what canonical bytes are, by a header and a payload
 pub record CanonicalParts {I : Type 0} (decoding : Decoding I) (bytes : List ℕ) (h : NetlinkHeader) (payload : List ℕ) : Type 0 where
-  pub whole : bytes ≡ header_text h ++ payload
+  pub whole : bytes ≡ header_bytes h ++ payload
   pub body : IsCanonicalBody decoding h payload
 
 -- a canonical frame is a header and a payload, with nothing behind them
@@ -33,7 +33,7 @@ canonical_parts decoding bytes h payload canonical begins =
     let kind : field 4 2 bytes ≡ h.message_type = ap (λ (j : NetlinkHeader). j.message_type) head in
     let rest : drop 16 bytes ≡ payload = behind-begins bytes h payload begins ∙ alone in
     record {
-      whole = begins.whole ∙ ap (λ (q : List ℕ). header_text h ++ q) alone;
+      whole = begins.whole ∙ ap (λ (q : List ℕ). header_bytes h ++ q) alone;
       body = record {
         noop = λ e. let size = canonical.noop (kind ∙ e) in omega arith;
         error = λ e. let size = canonical.error (kind ∙ e) in omega arith;
@@ -51,7 +51,7 @@ canonical_holds decoding bytes canonical =
     record { header = long; least = omega arith; most = omega arith }
 
 -- what a canonical payload reads as is of its type, and is written as it
-pub body_back : {I : Type 0} {eq : I → I → Bool} {encoding : Encoding I} {decoding : Decoding I} → Laws eq encoding decoding → (x : NetlinkPayload I) (h : NetlinkHeader) (payload : List ℕ) → Body decoding h payload x → IsCanonicalBody decoding h payload → (payload_type encoding x ≡ h.message_type) × (payload_text encoding x ≡ payload)
+pub body_back : {I : Type 0} {eq : I → I → Bool} {encoding : Encoding I} {decoding : Decoding I} → Laws eq encoding decoding → (x : NetlinkPayload I) (h : NetlinkHeader) (payload : List ℕ) → Body decoding h payload x → IsCanonicalBody decoding h payload → (payload_type encoding x ≡ h.message_type) × (payload_bytes encoding x ≡ payload)
 body_back laws (Done m) h payload (kind, inl none) canonical = let some = canonical.done kind in absurd (omega (arith, ap length none.0))
 body_back laws (Done m) h payload (kind, inr some) canonical = (sym kind, sym some.whole)
 body_back laws (Error m) h payload body canonical = (sym body.0, sym body.1.whole)
@@ -60,7 +60,7 @@ body_back laws (Overrun bytes) h payload body canonical = (sym body.0, body.1)
 body_back {encoding = encoding} {decoding = decoding} laws (InnerMessage v) h payload body canonical =
     let two : Some (decoding.stands_for v) ≡ Some (h.message_type, payload) = sym body.2 ∙ canonical.own body.0 in
     let pairs : decoding.stands_for v ≡ (h.message_type, payload) = cc in
-    let own : (encoding.type_of v, encoding.text_of v) ≡ (h.message_type, payload) = sym (laws.own_pair v) ∙ pairs in
+    let own : (encoding.type_of v, encoding.bytes_of v) ≡ (h.message_type, payload) = sym (laws.own_pair v) ∙ pairs in
     (ap (λ (q : ℕ × List ℕ). q.0) own, ap (λ (q : ℕ × List ℕ). q.1) own)
 
 -- a canonical frame of a message is what is written of it
@@ -69,10 +69,10 @@ canonical_is_written {encoding = encoding} {decoding = decoding} laws bytes m ca
     let h : NetlinkHeader = m.header in
     let parts = canonical_parts decoding bytes h payload canonical begins in
     let back = body_back laws m.payload h payload body parts.body in
-    let size : 16 + length (payload_text encoding m.payload) ≡ h.length = ap (λ (q : List ℕ). 16 + length q) back.1 ∙ sym begins.size in
+    let size : 16 + length (payload_bytes encoding m.payload) ≡ h.length = ap (λ (q : List ℕ). 16 + length q) back.1 ∙ sym begins.size in
     let same : (finalized encoding m).header ≡ h = same_header _ h size back.0 refl refl refl in
-    ap (λ (j : NetlinkHeader). header_text j ++ payload_text encoding m.payload) same
-    ∙ (ap (λ (q : List ℕ). header_text h ++ q) back.1 ∙ sym parts.whole)
+    ap (λ (j : NetlinkHeader). header_bytes j ++ payload_bytes encoding m.payload) same
+    ∙ (ap (λ (q : List ℕ). header_bytes h ++ q) back.1 ∙ sym parts.whole)
 
 -- the first k bytes keep their number, and from 4 on the length field
 cut_size : (bytes : List ℕ) (k : ℕ) → k ≤ length bytes → length (take k bytes) ≡ k

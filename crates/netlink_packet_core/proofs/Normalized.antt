@@ -2,7 +2,7 @@
 use Rattle.std.proofs.Common.{◌≡◌, ℕ, ◌+◌, ◌<◌, ◌^◌, Bool, true, List, length, inl, inr, arith, sym, ap, refl, subst, Some, None}
 use Rattle.netlink_bytes.specs.declared.error.DecodeError.{DecodeError}
 use Rattle.netlink_bytes.specs.declared.error.DecodeError.TheVariants.{DoneShort, ErrorShort, Message, OutOfMemory}
-use Rattle.netlink_packet_core.specs.Payload.{payload_text}
+use Rattle.netlink_packet_core.specs.Payload.{payload_bytes}
 use Rattle.netlink_packet_core.specs.Protocol.{Encoding, Decoding}
 use Rattle.netlink_packet_core.specs.Frame.{Frame}
 use Rattle.netlink_packet_core.specs.Canonical.{Fits, IsTooLong, IsCanonicalFrame, canonical_frame}
@@ -35,7 +35,7 @@ canonical_refused decoding wants bytes e canonical (inr (h, payload, begins, fau
     canonical_body_refused decoding wants h payload e (canonical_parts decoding bytes h payload canonical begins).body fault
 
 -- a message that was read fits where its length does
-fits_read : {I : Type 0} (encoding : Encoding I) (decoding : Decoding I) (bytes : List ℕ) (m : NetlinkMessage I) → Frame decoding bytes m → 16 + length (payload_text encoding m.payload) < 2 ^ 32 → Fits encoding m
+fits_read : {I : Type 0} (encoding : Encoding I) (decoding : Decoding I) (bytes : List ℕ) (m : NetlinkMessage I) → Frame decoding bytes m → 16 + length (payload_bytes encoding m.payload) < 2 ^ 32 → Fits encoding m
 fits_read encoding decoding bytes m (payload, begins, body) size =
     record { size = size; header = begins.in_range; payload = (body_in_range decoding m.payload m.header payload body).0 }
 
@@ -43,13 +43,13 @@ fits_read encoding decoding bytes m (payload, begins, body) size =
 pub fits_alike : {I : Type 0} {eq : I → I → Bool} {encoding : Encoding I} {decoding : Decoding I} → Laws eq encoding decoding → (bytes : List ℕ) (m n : NetlinkMessage I) → Frame decoding bytes m → Frame decoding bytes n → Fits encoding n → Fits encoding m
 fits_alike {encoding = encoding} {decoding = decoding} laws bytes m n f k fits =
     let same = frame_once laws bytes m n f k in
-    let size : length (payload_text encoding m.payload) ≡ length (payload_text encoding n.payload) = ap length same.text in
+    let size : length (payload_bytes encoding m.payload) ≡ length (payload_bytes encoding n.payload) = ap length same.text in
     fits_read encoding decoding bytes m f (omega (arith, fits.size))
 
 pub long_alike : {I : Type 0} {eq : I → I → Bool} {encoding : Encoding I} {decoding : Decoding I} → Laws eq encoding decoding → (bytes : List ℕ) (m n : NetlinkMessage I) → Frame decoding bytes m → Frame decoding bytes n → IsTooLong encoding n → IsTooLong encoding m
 long_alike {encoding = encoding} laws bytes m n f k long =
     let same = frame_once laws bytes m n f k in
-    let size : length (payload_text encoding m.payload) ≡ length (payload_text encoding n.payload) = ap length same.text in
+    let size : length (payload_bytes encoding m.payload) ≡ length (payload_bytes encoding n.payload) = ap length same.text in
     omega (arith, long)
 
 -- and are written alike
@@ -60,7 +60,7 @@ written_alike {encoding = encoding} laws bytes m n f k = written_same encoding m
 pub canonical_fits : {I : Type 0} {eq : I → I → Bool} {encoding : Encoding I} {decoding : Decoding I} → Laws eq encoding decoding → (bytes : List ℕ) (m : NetlinkMessage I) → IsCanonicalFrame decoding bytes → Frame decoding bytes m → Fits encoding m
 canonical_fits {encoding = encoding} {decoding = decoding} laws bytes m canonical (payload, begins, body) =
     let parts = canonical_parts decoding bytes m.header payload canonical begins in
-    let text : length (payload_text encoding m.payload) ≡ length payload = ap length (body_back laws m.payload m.header payload body parts.body).1 in
+    let text : length (payload_bytes encoding m.payload) ≡ length payload = ap length (body_back laws m.payload m.header payload body parts.body).1 in
     fits_read encoding decoding bytes m (payload, begins, body) (omega (arith, begins.size, begins.in_range.length))
 
 -- what is written of a message that was read is canonical

@@ -1,7 +1,7 @@
 -- Bytes are the frame of one message.
 use Rattle.std.proofs.Common.{◌≡◌, ℕ, ◌+◌, Bool, List, length, Some, inl, inr, arith, sym, ap, refl, ◌∙◌, subst, IsTrue, nat_eq, ◌&&◌}
 use Rattle.netlink_bytes.specs.Numbers.{IsSigned}
-use Rattle.netlink_packet_core.specs.Payload.{payload_text, payload_type, PayloadInRange, InnerInRange}
+use Rattle.netlink_packet_core.specs.Payload.{payload_bytes, payload_type, PayloadInRange, InnerInRange}
 use Rattle.netlink_packet_core.specs.Protocol.{Encoding, Decoding}
 use Rattle.netlink_packet_core.specs.Frame.{Body, Frame, IsDone, SamePayload}
 use Rattle.netlink_packet_core.specs.Canonical.{canonical_frame, finalized}
@@ -51,13 +51,13 @@ payload_same decoding (InnerMessage a) (InnerMessage b) h payload p q =
     let same : Some (decoding.stands_for a) ≡ Some (decoding.stands_for b) = sym p.2 ∙ q.2 in cc
 
 -- and payloads that say the same have one type and one text
-pub same_text : {I : Type 0} {eq : I → I → Bool} {encoding : Encoding I} {decoding : Decoding I} → Laws eq encoding decoding → (x y : NetlinkPayload I) → SamePayload decoding x y → (payload_type encoding x ≡ payload_type encoding y) × (payload_text encoding x ≡ payload_text encoding y)
+pub same_text : {I : Type 0} {eq : I → I → Bool} {encoding : Encoding I} {decoding : Decoding I} → Laws eq encoding decoding → (x y : NetlinkPayload I) → SamePayload decoding x y → (payload_type encoding x ≡ payload_type encoding y) × (payload_bytes encoding x ≡ payload_bytes encoding y)
 same_text laws (Done a) (Done b) same = (refl, cc)
 same_text laws (Error a) (Error b) same = (refl, cc)
 same_text laws Noop Noop same = (refl, refl)
 same_text laws (Overrun a) (Overrun b) same = (refl, same)
 same_text {encoding = encoding} laws (InnerMessage a) (InnerMessage b) same =
-    let own : (encoding.type_of a, encoding.text_of a) ≡ (encoding.type_of b, encoding.text_of b) = sym (laws.own_pair a) ∙ same ∙ laws.own_pair b in
+    let own : (encoding.type_of a, encoding.bytes_of a) ≡ (encoding.type_of b, encoding.bytes_of b) = sym (laws.own_pair a) ∙ same ∙ laws.own_pair b in
     (ap (λ (s : ℕ × List ℕ). s.0) own, ap (λ (s : ℕ × List ℕ). s.1) own)
 same_text laws _ _ same = absurd same
 
@@ -70,7 +70,7 @@ frame_same decoding bytes m n (p, begins, body) (q, begins', body') =
 pub record SameMessage {I : Type 0} (encoding : Encoding I) (m n : NetlinkMessage I) : Type 0 where
   pub header : m.header ≡ n.header
   pub kind : payload_type encoding m.payload ≡ payload_type encoding n.payload
-  pub text : payload_text encoding m.payload ≡ payload_text encoding n.payload
+  pub text : payload_bytes encoding m.payload ≡ payload_bytes encoding n.payload
 
 -- two messages of one frame have one header, one type and one text
 pub frame_once : {I : Type 0} {eq : I → I → Bool} {encoding : Encoding I} {decoding : Decoding I} → Laws eq encoding decoding → (bytes : List ℕ) (m n : NetlinkMessage I) → Frame decoding bytes m → Frame decoding bytes n → SameMessage encoding m n

@@ -1,2 +1,3 @@
--- The sizes of attributes, passed on. A file of its own here, since an attribute names words by a file.
-pub use Rattle.netlink_attributes.specs.Sizes.{length-attribute_text, length-padded, length-written, length-canonical_block, written_sizes}
+-- The sizes of attributes, passed on. A file of its own here, since an attribute names words by a
+-- file.
+pub use Rattle.netlink_attributes.specs.Sizes.{length-attribute_bytes, length-padded, length-written, length-canonical_block, written_sizes}

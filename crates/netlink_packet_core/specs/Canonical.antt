@@ -2,8 +2,8 @@
 use Rattle.std.specs.Prelude.{◌≡◌, ◌+◌, ◌<◌, ◌≤◌, ◌^◌, ◌⊎◌, ℕ, Bool, List, ◌++◌, Some, length, drop}
 use Rattle.netlink_bytes.specs.declared.error.DecodeError.{DecodeError}
 use Rattle.netlink_bytes.specs.declared.error.DecodeError.TheVariants.{TooLong, OutOfMemory}
-use Rattle.netlink_packet_core.specs.Header.{header_text, header_of, field, HeaderInRange}
-use Rattle.netlink_packet_core.specs.Payload.{payload_text, payload_type, PayloadInRange}
+use Rattle.netlink_packet_core.specs.Header.{header_bytes, header_of, field, HeaderInRange}
+use Rattle.netlink_packet_core.specs.Payload.{payload_bytes, payload_type, PayloadInRange}
 use Rattle.netlink_packet_core.specs.Protocol.{Encoding, Decoding, IsOwnType}
 use Rattle.netlink_packet_core.specs.Frame.{Frame}
 use Rattle.netlink_packet_core.specs.Refusal.{IsRefusal}
@@ -11,18 +11,18 @@ use Rattle.netlink_packet_core.specs.declared.message.NetlinkMessage.{NetlinkMes
 
 -- a message whose length fits 32 bits, with a header and a code of their widths
 pub record Fits {I : Type 0} (encoding : Encoding I) (m : NetlinkMessage I) : Type 0 where
-  pub size : 16 + length (payload_text encoding m.payload) < 2 ^ 32
+  pub size : 16 + length (payload_bytes encoding m.payload) < 2 ^ 32
   pub header : HeaderInRange m.header
   pub payload : PayloadInRange m.payload
 
 -- the message with that length and with its payload's type
 abbrev pub finalized : {I : Type 0} → Encoding I → NetlinkMessage I → NetlinkMessage I
 finalized encoding m =
-    record m { header = record m.header { length = 16 + length (payload_text encoding m.payload); message_type = payload_type encoding m.payload } }
+    record m { header = record m.header { length = 16 + length (payload_bytes encoding m.payload); message_type = payload_type encoding m.payload } }
 
 -- what is written of a message
 abbrev pub canonical_frame : {I : Type 0} → Encoding I → NetlinkMessage I → List ℕ
-canonical_frame encoding m = header_text (finalized encoding m).header ++ payload_text encoding m.payload
+canonical_frame encoding m = header_bytes (finalized encoding m).header ++ payload_bytes encoding m.payload
 
 -- bytes that are a canonical frame: they are as long as they say, type 1 has no payload,
 -- types 2 and 3 have a code, and any other but 4 has a payload that reads as itself
@@ -36,7 +36,7 @@ pub record IsCanonicalFrame {I : Type 0} (decoding : Decoding I) (bytes : List �
 
 -- a message whose length does not fit 32 bits
 abbrev pub IsTooLong : {I : Type 0} → Encoding I → NetlinkMessage I → Type 0
-IsTooLong encoding m = 2 ^ 32 ≤ 16 + length (payload_text encoding m.payload)
+IsTooLong encoding m = 2 ^ 32 ≤ 16 + length (payload_bytes encoding m.payload)
 
 -- why bytes have no canonical frame: they are refused, or they are the frame of a message that is
 -- too long, or memory was refused for the canonical frame of one that fits

@@ -1,8 +1,8 @@
 -- When bytes begin with the frame of a message.
 use Rattle.std.specs.Prelude.{◌≡◌, ◌+◌, ◌⊎◌, ℕ, ℤ, pos, List, [], ◌++◌, Some, length, IsTrue}
 use Rattle.netlink_bytes.specs.Numbers.{IsSigned}
-use Rattle.netlink_packet_core.specs.Header.{header_text, HeaderInRange}
-use Rattle.netlink_packet_core.specs.Payload.{code_text, raw_code}
+use Rattle.netlink_packet_core.specs.Header.{header_bytes, HeaderInRange}
+use Rattle.netlink_packet_core.specs.Payload.{code_bytes, raw_code}
 use Rattle.netlink_packet_core.specs.Protocol.{Decoding, IsOwnType}
 use Rattle.netlink_packet_core.specs.declared.header.NetlinkHeader.{NetlinkHeader}
 use Rattle.netlink_packet_core.specs.declared.done.DoneMessage.{DoneMessage}
@@ -13,7 +13,7 @@ use Rattle.netlink_packet_core.specs.declared.message.NetlinkMessage.{NetlinkMes
 
 -- a payload is a code in four bytes, and then the rest
 pub record IsCodeAndRest (payload : List ℕ) (code : ℤ) (rest : List ℕ) : Type 0 where
-  pub whole : payload ≡ code_text code ++ rest
+  pub whole : payload ≡ code_bytes code ++ rest
   pub in_range : IsSigned 4 code
 
 -- no bytes at all stand for code 0 with no bytes
@@ -37,7 +37,7 @@ Body decoding h payload (InnerMessage v) =
 -- bytes begin with this header and this payload, whatever follows
 pub record Begins (bytes : List ℕ) (h : NetlinkHeader) (payload : List ℕ) : Type 0 where
   pub rest : List ℕ
-  pub whole : bytes ≡ header_text h ++ (payload ++ rest)
+  pub whole : bytes ≡ header_bytes h ++ (payload ++ rest)
   pub size : h.length ≡ 16 + length payload
   pub in_range : HeaderInRange h
 

@@ -4,16 +4,16 @@ use Rattle.std.proofs.lemmas.Bool.{cases_lt}
 use Rattle.std.proofs.lemmas.List.{length-replicate}
 use Rattle.std.specs.Prelude.{false, replicate}
 use Rattle.netlink_attributes.specs.Attribute.{padding}
-use Rattle.netlink_bytes.specs.Numbers.{text_le}
-use Rattle.netlink_bytes.specs.NumberLaws.{number_le-text_le}
+use Rattle.netlink_bytes.specs.Numbers.{bytes_le}
+use Rattle.netlink_bytes.specs.NumberLaws.{number_le-bytes_le}
 use Rattle.netlink_bytes.specs.Walks.{NextStep, StepLaws, has_one, walks_join, walks_once}
 use Rattle.netlink_bytes.specs.declared.error.DecodeError.{DecodeError}
 use Rattle.netlink_bytes.specs.declared.error.DecodeError.TheVariants.{FrameShort, FrameCut, FrameLength}
 use Rattle.netlink_packet_core.specs.Canonical.{Fits, IsCanonicalFrame, canonical_frame, finalized}
 use Rattle.netlink_packet_core.specs.FrameStartLaws.{starts_frame-frame_of, starts_frame-length, starts_frame-rest, starts_frame-fault, starts_frame_held, starts_frame-holds, no_frame_starts, frame_fault_once}
 use Rattle.netlink_packet_core.specs.FrameWalk.{FrameWalk, IsWholeFrame, StartsFrame, datagram_of, frame_of, padded_frame}
-use Rattle.netlink_packet_core.specs.Header.{field, header_text, HoldsFrame}
-use Rattle.netlink_packet_core.specs.Payload.{payload_text}
+use Rattle.netlink_packet_core.specs.Header.{field, header_bytes, HoldsFrame}
+use Rattle.netlink_packet_core.specs.Payload.{payload_bytes}
 use Rattle.netlink_packet_core.specs.Protocol.{Decoding, Encoding}
 use Rattle.netlink_packet_core.specs.Refusal.{IsFrameFault}
 use Rattle.netlink_packet_core.specs.Sizes.{length-header_and}
@@ -103,15 +103,15 @@ pub canonical_whole : {I : Type 0} (decoding : Decoding I) (bytes : List ℕ)
 canonical_whole decoding bytes canonical = record { size = canonical.whole; least = canonical.header }
 
 length-said : (h : NetlinkHeader) (more : List ℕ) → h.length < 2 ^ 32
-    → field 0 4 (header_text h ++ more) ≡ h.length
-unfolding text_le
-length-said h more fits = number_le-text_le h.length 4 fits
+    → field 0 4 (header_bytes h ++ more) ≡ h.length
+unfolding bytes_le
+length-said h more fits = number_le-bytes_le h.length 4 fits
 
 -- and so is what is written of a message that fits
 pub message_whole : {I : Type 0} (encoding : Encoding I) (m : NetlinkMessage I) → Fits encoding m
     → IsWholeFrame (canonical_frame encoding m)
 message_whole encoding m fits =
-    let text : List ℕ = payload_text encoding m.payload in
+    let text : List ℕ = payload_bytes encoding m.payload in
     let h : NetlinkHeader = (finalized encoding m).header in
     let size : length (canonical_frame encoding m) ≡ 16 + length text = length-header_and h text in
     record { size = length-said h text fits.size ∙ sym size; least = omega (arith, size) }

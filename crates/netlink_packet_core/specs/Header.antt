@@ -1,12 +1,12 @@
 -- The header of a message: its text, and what bytes say of it.
 use Rattle.std.specs.Prelude.{◌≡◌, ℕ, ◌+◌, ◌<◌, ◌≤◌, ◌^◌, List, ◌++◌, length, slice_range}
-use Rattle.netlink_bytes.specs.Numbers.{number_le, text_le}
+use Rattle.netlink_bytes.specs.Numbers.{number_le, bytes_le}
 use Rattle.netlink_packet_core.specs.declared.header.NetlinkHeader.{NetlinkHeader}
 
 -- the five fields in their order, 16 bytes
-abbrev pub header_text : NetlinkHeader → List ℕ
-header_text h =
-    text_le h.length 4 ++ (text_le h.message_type 2 ++ (text_le h.flags 2 ++ (text_le h.sequence_number 4 ++ text_le h.port_number 4)))
+abbrev pub header_bytes : NetlinkHeader → List ℕ
+header_bytes h =
+    bytes_le h.length 4 ++ (bytes_le h.message_type 2 ++ (bytes_le h.flags 2 ++ (bytes_le h.sequence_number 4 ++ bytes_le h.port_number 4)))
 
 -- each field is a number of its width
 pub record HeaderInRange (h : NetlinkHeader) : Type 0 where
@@ -19,7 +19,7 @@ pub record HeaderInRange (h : NetlinkHeader) : Type 0 where
 -- bytes begin with this header, whatever follows
 pub record IsHeader (bytes : List ℕ) (h : NetlinkHeader) : Type 0 where
   pub rest : List ℕ
-  pub whole : bytes ≡ header_text h ++ rest
+  pub whole : bytes ≡ header_bytes h ++ rest
   pub in_range : HeaderInRange h
 
 -- a header of five zeros

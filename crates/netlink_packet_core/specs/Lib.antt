@@ -1,7 +1,7 @@
 pub mod AttributeSizes
 pub mod Canonical
 pub mod Frame
-pub mod FramePassing
+pub mod FrameProgress
 pub mod FrameStartLaws
 pub mod FrameWalk
 pub mod FrameWalkLaws
@@ -22,7 +22,7 @@ pub use Rattle.netlink_attributes.specs.FieldLaws
 pub use Rattle.netlink_attributes.specs.Kinds
 pub use Rattle.netlink_attributes.specs.Nla
 pub use Rattle.netlink_attributes.specs.OlderBlock
-pub use Rattle.netlink_attributes.specs.Passing
+pub use Rattle.netlink_attributes.specs.Progress
 pub use Rattle.netlink_attributes.specs.Places
 pub use Rattle.netlink_attributes.specs.ReadingLaws
 pub use Rattle.netlink_attributes.specs.StartLaws

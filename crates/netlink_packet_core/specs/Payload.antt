@@ -1,6 +1,6 @@
 -- What is written of a payload.
 use Rattle.std.specs.Prelude.{ℕ, ℤ, pos, List, [], ◌++◌, Option, Some, None, IsTrue, codes, decimal, unsigned_abs}
-use Rattle.netlink_bytes.specs.Numbers.{IsSigned, text_le, unsigned}
+use Rattle.netlink_bytes.specs.Numbers.{IsSigned, bytes_le, unsigned}
 use Rattle.netlink_bytes.specs.NonZero.{number_of}
 use Rattle.netlink_bytes.specs.declared.nonzero.NonZeroI32.{NonZeroI32}
 use Rattle.netlink_packet_core.specs.Protocol.{Encoding, Decoding}
@@ -8,8 +8,8 @@ use Rattle.netlink_packet_core.specs.declared.payload.NetlinkPayload.{NetlinkPay
 use Rattle.netlink_packet_core.specs.declared.payload.NetlinkPayload.TheVariants.{Done, Error, Noop, Overrun, InnerMessage}
 
 -- the four bytes of a code
-abbrev pub code_text : ℤ → List ℕ
-code_text code = text_le (unsigned 4 code) 4
+abbrev pub code_bytes : ℤ → List ℕ
+code_bytes code = bytes_le (unsigned 4 code) 4
 
 -- the number of an error's code, 0 where there is none
 abbrev pub raw_code : Option NonZeroI32 → ℤ
@@ -29,12 +29,12 @@ payload_type encoding (Overrun bytes) = 4
 payload_type encoding (InnerMessage v) = encoding.type_of v
 
 -- the bytes of a payload
-abbrev pub payload_text : {I : Type 0} → Encoding I → NetlinkPayload I → List ℕ
-payload_text encoding (Done m) = code_text m.code ++ m.extended_ack.items
-payload_text encoding (Error m) = code_text (raw_code m.code) ++ m.header.items
-payload_text encoding Noop = []
-payload_text encoding (Overrun bytes) = bytes.items
-payload_text encoding (InnerMessage v) = encoding.text_of v
+abbrev pub payload_bytes : {I : Type 0} → Encoding I → NetlinkPayload I → List ℕ
+payload_bytes encoding (Done m) = code_bytes m.code ++ m.extended_ack.items
+payload_bytes encoding (Error m) = code_bytes (raw_code m.code) ++ m.header.items
+payload_bytes encoding Noop = []
+payload_bytes encoding (Overrun bytes) = bytes.items
+payload_bytes encoding (InnerMessage v) = encoding.bytes_of v
 
 -- a code is a number of its width
 abbrev pub PayloadInRange : {I : Type 0} → NetlinkPayload I → Type 0

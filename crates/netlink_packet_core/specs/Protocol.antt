@@ -5,7 +5,7 @@ use Rattle.netlink_packet_core.specs.declared.header.NetlinkHeader.{NetlinkHeade
 -- what is written of a value: its message type and its text
 pub record Encoding (I : Type 0) : Type 0 where
   pub type_of : I → ℕ
-  pub text_of : I → List ℕ
+  pub bytes_of : I → List ℕ
 
 -- what is read: the type and the text that a header and a payload give, if any;
 -- the type and the text that a value stands for; and which values hold numbers of their widths

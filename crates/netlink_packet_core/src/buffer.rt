@@ -3,7 +3,7 @@
 ghost use Rattle.std.specs.Prelude.{◌≡◌, ◌+◌, ◌≤◌, length, OnOk, IfErr, IfOk, false};
 ghost use Rattle.std.specs.Borrow.{Lends, Array, sem, u8 as byte};
 ghost use Rattle.netlink_packet_core.specs.contracts.buffer.NetlinkBuffer.{the_row};
-ghost use Rattle.netlink_bytes.specs.Numbers.{text_le};
+ghost use Rattle.netlink_bytes.specs.Numbers.{bytes_le};
 ghost use Rattle.netlink_bytes.specs.Storage.{put_at};
 ghost use Rattle.netlink_packet_core.specs.Header.{field, header_of, payload_of, HoldsFrame, IsHeader};
 ghost use Rattle.netlink_packet_core.specs.Refusal.{IsFrameFault};
@@ -37,8 +37,8 @@ impl<T: Storage> NetlinkBuffer<T> {
     /// storage is then given up.
     pub fn new_checked(buffer: T) -> Result<Self, DecodeError>
         ensures keeps { IfOk result (λ view. view.buffer ≡ buffer) }
-        ensures whole { OnOk result (HoldsFrame (T.held buffer)) }
-        ensures refuses { IfErr result (IsFrameFault false (T.held buffer)) }
+        ensures whole { OnOk result (HoldsFrame (T.contents buffer)) }
+        ensures refuses { IfErr result (IsFrameFault false (T.contents buffer)) }
     {
         check_frame(buffer.bytes(), false)?;
         Ok(NetlinkBuffer { buffer })
@@ -48,8 +48,8 @@ impl<T: Storage> NetlinkBuffer<T> {
     /// hold 4 bytes at least.
     #[inline]
     pub fn length(&self) -> u32
-        requires field { 4 ≤ length (T.held self.now.buffer) }
-        ensures number { result ≡ field 0 4 (T.held self.now.buffer) }
+        requires field { 4 ≤ length (T.contents self.now.buffer) }
+        ensures number { result ≡ field 0 4 (T.contents self.now.buffer) }
     {
         u32_at(self.buffer.bytes(), 0)
     }
@@ -57,8 +57,8 @@ impl<T: Storage> NetlinkBuffer<T> {
     /// The message type. The storage has to hold 6 bytes at least.
     #[inline]
     pub fn message_type(&self) -> u16
-        requires field { 6 ≤ length (T.held self.now.buffer) }
-        ensures number { result ≡ field 4 2 (T.held self.now.buffer) }
+        requires field { 6 ≤ length (T.contents self.now.buffer) }
+        ensures number { result ≡ field 4 2 (T.contents self.now.buffer) }
     {
         u16_at(self.buffer.bytes(), 4)
     }
@@ -66,8 +66,8 @@ impl<T: Storage> NetlinkBuffer<T> {
     /// The flags. The storage has to hold 8 bytes at least.
     #[inline]
     pub fn flags(&self) -> u16
-        requires field { 8 ≤ length (T.held self.now.buffer) }
-        ensures number { result ≡ field 6 2 (T.held self.now.buffer) }
+        requires field { 8 ≤ length (T.contents self.now.buffer) }
+        ensures number { result ≡ field 6 2 (T.contents self.now.buffer) }
     {
         u16_at(self.buffer.bytes(), 6)
     }
@@ -75,8 +75,8 @@ impl<T: Storage> NetlinkBuffer<T> {
     /// The sequence number. The storage has to hold 12 bytes at least.
     #[inline]
     pub fn sequence_number(&self) -> u32
-        requires field { 12 ≤ length (T.held self.now.buffer) }
-        ensures number { result ≡ field 8 4 (T.held self.now.buffer) }
+        requires field { 12 ≤ length (T.contents self.now.buffer) }
+        ensures number { result ≡ field 8 4 (T.contents self.now.buffer) }
     {
         u32_at(self.buffer.bytes(), 8)
     }
@@ -84,8 +84,8 @@ impl<T: Storage> NetlinkBuffer<T> {
     /// The port number. The storage has to hold 16 bytes at least.
     #[inline]
     pub fn port_number(&self) -> u32
-        requires field { 16 ≤ length (T.held self.now.buffer) }
-        ensures number { result ≡ field 12 4 (T.held self.now.buffer) }
+        requires field { 16 ≤ length (T.contents self.now.buffer) }
+        ensures number { result ≡ field 12 4 (T.contents self.now.buffer) }
     {
         u32_at(self.buffer.bytes(), 12)
     }
@@ -94,9 +94,9 @@ impl<T: Storage> NetlinkBuffer<T> {
     /// The storage has to hold 4 bytes at least, and the length field has to be 16 at least.
     #[inline]
     pub fn payload_length(&self) -> usize
-        requires field { 4 ≤ length (T.held self.now.buffer) }
-        requires header { 16 ≤ field 0 4 (T.held self.now.buffer) }
-        ensures size { 16 + result ≡ field 0 4 (T.held self.now.buffer) }
+        requires field { 4 ≤ length (T.contents self.now.buffer) }
+        requires header { 16 ≤ field 0 4 (T.contents self.now.buffer) }
+        ensures size { 16 + result ≡ field 0 4 (T.contents self.now.buffer) }
     {
         self.length() as usize - NETLINK_HEADER_LEN
     }
@@ -104,7 +104,7 @@ impl<T: Storage> NetlinkBuffer<T> {
     /// A view of the same bytes, lent: what a slice is read by, of any storage.
     #[inline]
     pub fn borrowed(&self) -> NetlinkBuffer<&[u8]>
-        ensures bytes { result.buffer.now ≡ T.held self.now.buffer }
+        ensures bytes { result.buffer.now ≡ T.contents self.now.buffer }
     {
         NetlinkBuffer::new(self.buffer.bytes())
     }
@@ -122,9 +122,9 @@ impl<T: StorageMut> NetlinkBuffer<T> {
     /// Sets the length field, and changes nothing else. The storage has to hold 4 bytes at least.
     #[inline]
     pub fn set_length(&mut self, value: u32)
-        requires field { 4 ≤ length (T.held self.old.buffer) }
-        ensures bytes { T.held self.new.buffer ≡ put_at (T.held self.old.buffer) 0 (text_le value 4) }
-        ensures same_storage { self.new.buffer ≡ T.holding self.old.buffer (put_at (T.held self.old.buffer) 0 (text_le value 4)) }
+        requires field { 4 ≤ length (T.contents self.old.buffer) }
+        ensures bytes { T.contents self.new.buffer ≡ put_at (T.contents self.old.buffer) 0 (bytes_le value 4) }
+        ensures same_storage { self.new.buffer ≡ T.with_contents self.old.buffer (put_at (T.contents self.old.buffer) 0 (bytes_le value 4)) }
     {
         put_u32(self.buffer.bytes_mut(), 0, value);
     }
@@ -132,9 +132,9 @@ impl<T: StorageMut> NetlinkBuffer<T> {
     /// Sets the message type, and changes nothing else. The storage has to hold 6 bytes at least.
     #[inline]
     pub fn set_message_type(&mut self, value: u16)
-        requires field { 6 ≤ length (T.held self.old.buffer) }
-        ensures bytes { T.held self.new.buffer ≡ put_at (T.held self.old.buffer) 4 (text_le value 2) }
-        ensures same_storage { self.new.buffer ≡ T.holding self.old.buffer (put_at (T.held self.old.buffer) 4 (text_le value 2)) }
+        requires field { 6 ≤ length (T.contents self.old.buffer) }
+        ensures bytes { T.contents self.new.buffer ≡ put_at (T.contents self.old.buffer) 4 (bytes_le value 2) }
+        ensures same_storage { self.new.buffer ≡ T.with_contents self.old.buffer (put_at (T.contents self.old.buffer) 4 (bytes_le value 2)) }
     {
         put_u16(self.buffer.bytes_mut(), 4, value);
     }
@@ -142,9 +142,9 @@ impl<T: StorageMut> NetlinkBuffer<T> {
     /// Sets the flags, and changes nothing else. The storage has to hold 8 bytes at least.
     #[inline]
     pub fn set_flags(&mut self, value: u16)
-        requires field { 8 ≤ length (T.held self.old.buffer) }
-        ensures bytes { T.held self.new.buffer ≡ put_at (T.held self.old.buffer) 6 (text_le value 2) }
-        ensures same_storage { self.new.buffer ≡ T.holding self.old.buffer (put_at (T.held self.old.buffer) 6 (text_le value 2)) }
+        requires field { 8 ≤ length (T.contents self.old.buffer) }
+        ensures bytes { T.contents self.new.buffer ≡ put_at (T.contents self.old.buffer) 6 (bytes_le value 2) }
+        ensures same_storage { self.new.buffer ≡ T.with_contents self.old.buffer (put_at (T.contents self.old.buffer) 6 (bytes_le value 2)) }
     {
         put_u16(self.buffer.bytes_mut(), 6, value);
     }
@@ -153,9 +153,9 @@ impl<T: StorageMut> NetlinkBuffer<T> {
     /// least.
     #[inline]
     pub fn set_sequence_number(&mut self, value: u32)
-        requires field { 12 ≤ length (T.held self.old.buffer) }
-        ensures bytes { T.held self.new.buffer ≡ put_at (T.held self.old.buffer) 8 (text_le value 4) }
-        ensures same_storage { self.new.buffer ≡ T.holding self.old.buffer (put_at (T.held self.old.buffer) 8 (text_le value 4)) }
+        requires field { 12 ≤ length (T.contents self.old.buffer) }
+        ensures bytes { T.contents self.new.buffer ≡ put_at (T.contents self.old.buffer) 8 (bytes_le value 4) }
+        ensures same_storage { self.new.buffer ≡ T.with_contents self.old.buffer (put_at (T.contents self.old.buffer) 8 (bytes_le value 4)) }
     {
         put_u32(self.buffer.bytes_mut(), 8, value);
     }
@@ -163,9 +163,9 @@ impl<T: StorageMut> NetlinkBuffer<T> {
     /// Sets the port number, and changes nothing else. The storage has to hold 16 bytes at least.
     #[inline]
     pub fn set_port_number(&mut self, value: u32)
-        requires field { 16 ≤ length (T.held self.old.buffer) }
-        ensures bytes { T.held self.new.buffer ≡ put_at (T.held self.old.buffer) 12 (text_le value 4) }
-        ensures same_storage { self.new.buffer ≡ T.holding self.old.buffer (put_at (T.held self.old.buffer) 12 (text_le value 4)) }
+        requires field { 16 ≤ length (T.contents self.old.buffer) }
+        ensures bytes { T.contents self.new.buffer ≡ put_at (T.contents self.old.buffer) 12 (bytes_le value 4) }
+        ensures same_storage { self.new.buffer ≡ T.with_contents self.old.buffer (put_at (T.contents self.old.buffer) 12 (bytes_le value 4)) }
     {
         put_u32(self.buffer.bytes_mut(), 12, value);
     }
@@ -173,9 +173,9 @@ impl<T: StorageMut> NetlinkBuffer<T> {
     /// The payload, lent for writing: the bytes from 16 up to the length become what is written,
     /// and no others. The storage has to hold a whole frame, as `new_checked` tests.
     pub fn payload_mut(&mut self) -> &mut [u8]
-        requires whole { HoldsFrame (T.held self.old.buffer) }
-        ensures* writes_back { sem 𝓛 (Lends (the_row T.row) (Array byte 0) self.entry result (λ part. record { buffer = T.holding self.old.buffer (put_at (T.held self.old.buffer) 16 part) })) }
-        ensures value { result.now ≡ payload_of (T.held self.old.buffer) }
+        requires whole { HoldsFrame (T.contents self.old.buffer) }
+        ensures* writes_back { sem 𝓛 (Lends (the_row T.row) (Array byte 0) self.entry result (λ part. record { buffer = T.with_contents self.old.buffer (put_at (T.contents self.old.buffer) 16 part) })) }
+        ensures value { result.now ≡ payload_of (T.contents self.old.buffer) }
     {
         let end = self.length() as usize;
         self.buffer.part_mut(NETLINK_HEADER_LEN, end)

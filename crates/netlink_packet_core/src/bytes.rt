@@ -1,7 +1,7 @@
 //! A code and what stands behind it.
 
 ghost use Rattle.std.specs.Prelude.{◌≡◌, ◌+◌, ◌≤◌, ◌++◌, length, OnOk};
-ghost use Rattle.netlink_packet_core.specs.Payload.{code_text};
+ghost use Rattle.netlink_packet_core.specs.Payload.{code_bytes};
 ghost use Rattle.netlink_packet_core.specs.Frame.{IsCodeAndRest};
 
 use netlink_bytes::{i32_at, put_i32};
@@ -17,19 +17,19 @@ pub(crate) fn split_code(payload: &[u8]) -> (i32, &[u8])
 }
 
 /// Writes a code and what stands behind it.
-#[tactic(auto, unfolding(netlink_bytes::specs::Numbers::text_le))]
+#[tactic(auto, unfolding(netlink_bytes::specs::Numbers::bytes_le))]
 pub(crate) fn put_code(buffer: &mut [u8], code: i32, rest: &[u8])
     requires { length buffer.old ≡ 4 + length rest.now }
-    ensures { buffer.new ≡ code_text code ++ rest.now }
+    ensures { buffer.new ≡ code_bytes code ++ rest.now }
 {
     put_i32(buffer, 0, code);
     buffer[4..].copy_from_slice(rest);
 }
 
 /// Adds a code and what stands behind it at the end of a frame.
-#[tactic(auto, unfolding(netlink_bytes::specs::Numbers::text_le))]
+#[tactic(auto, unfolding(netlink_bytes::specs::Numbers::bytes_le))]
 pub(crate) fn append_code(frame: &mut Vec<u8>, code: i32, rest: &[u8]) -> Result<(), AllocError>
-    ensures { OnOk result (frame.new.items ≡ frame.old.items ++ (code_text code ++ rest.now)) }
+    ensures { OnOk result (frame.new.items ≡ frame.old.items ++ (code_bytes code ++ rest.now)) }
 {
     let mut front = [0; 4];
     put_i32(&mut front, 0, code);

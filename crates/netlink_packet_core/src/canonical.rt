@@ -46,7 +46,7 @@ pub fn normalize<I: NetlinkProtocol>(alloc: Global, bytes: &[u8]) -> Result<Vec<
 /// What `NetlinkMessage::deserialize` refuses for another cause than want of memory is not
 /// canonical.
 /// The only error is `OutOfMemory`, and it comes only where the type is the protocol's own: memory
-/// is asked for the protocol's reading, and by `is_text` for a value's text of the payload's size.
+/// is asked for the protocol's reading, and by `is_written_as` for a value's text of the payload's size.
 pub fn is_canonical_frame<I: NetlinkProtocol>(
     alloc: Global,
     bytes: &[u8],
@@ -88,7 +88,7 @@ fn reads_as_itself<I: NetlinkProtocol>(
             if value.message_type() != header.message_type {
                 return Ok(false);
             }
-            Ok(value.is_text(alloc, payload)?)
+            Ok(value.is_written_as(alloc, payload)?)
         }
         Err(error) if I::is_out_of_memory(&error) => Err(DecodeError::OutOfMemory),
         Err(_) => Ok(false),

@@ -7,7 +7,7 @@ ghost use Rattle.netlink_bytes.specs.NonZero.{number_of};
 ghost use Rattle.netlink_bytes.specs.Numbers.{signed};
 ghost use Rattle.netlink_bytes.specs.Storage.{put_at};
 ghost use Rattle.netlink_packet_core.specs.Header.{field};
-ghost use Rattle.netlink_packet_core.specs.Payload.{code_text, errno_text, raw_code};
+ghost use Rattle.netlink_packet_core.specs.Payload.{code_bytes, errno_text, raw_code};
 
 use crate::bytes::{put_code, split_code};
 use netlink_bytes::{
@@ -37,8 +37,8 @@ impl<T: Storage> ErrorBuffer<T> {
     /// up.
     pub fn new_checked(buffer: T) -> Result<Self, DecodeError>
         ensures keeps { IfOk result (λ view. view.buffer ≡ buffer) }
-        ensures whole { OnOk result (4 ≤ length (T.held buffer)) }
-        ensures refuses { IfErr result (λ e. (length (T.held buffer) < 4) × (e ≡ DecodeError.ErrorShort (length (T.held buffer)) false)) }
+        ensures whole { OnOk result (4 ≤ length (T.contents buffer)) }
+        ensures refuses { IfErr result (λ e. (length (T.contents buffer) < 4) × (e ≡ DecodeError.ErrorShort (length (T.contents buffer)) false)) }
     {
         let size = buffer.bytes().len();
         if size < 4 {
@@ -53,7 +53,7 @@ impl<T: Storage> ErrorBuffer<T> {
     /// A view of the same bytes, lent: what a slice is read by, of any storage.
     #[inline]
     pub fn borrowed(&self) -> ErrorBuffer<&[u8]>
-        ensures bytes { result.buffer.now ≡ T.held self.now.buffer }
+        ensures bytes { result.buffer.now ≡ T.contents self.now.buffer }
     {
         ErrorBuffer::new(self.buffer.bytes())
     }
@@ -70,8 +70,8 @@ impl<T: Storage> ErrorBuffer<T> {
     /// `new_checked` tests.
     #[inline]
     pub fn code(&self) -> Option<NonZeroI32>
-        requires field { 4 ≤ length (T.held self.now.buffer) }
-        ensures number { MatchOption result (signed 4 (field 0 4 (T.held self.now.buffer)) ≡ pos 0) (λ code. number_of code ≡ signed 4 (field 0 4 (T.held self.now.buffer))) }
+        requires field { 4 ≤ length (T.contents self.now.buffer) }
+        ensures number { MatchOption result (signed 4 (field 0 4 (T.contents self.now.buffer)) ≡ pos 0) (λ code. number_of code ≡ signed 4 (field 0 4 (T.contents self.now.buffer))) }
     {
         NonZeroI32::new(i32_at(self.buffer.bytes(), 0))
     }
@@ -94,9 +94,9 @@ impl<T: StorageMut> ErrorBuffer<T> {
     /// Sets the code, and changes nothing else. The storage has to hold 4 bytes at least.
     #[inline]
     pub fn set_code(&mut self, code: i32)
-        requires field { 4 ≤ length (T.held self.old.buffer) }
-        ensures bytes { T.held self.new.buffer ≡ put_at (T.held self.old.buffer) 0 (code_text code) }
-        ensures same_storage { self.new.buffer ≡ T.holding self.old.buffer (put_at (T.held self.old.buffer) 0 (code_text code)) }
+        requires field { 4 ≤ length (T.contents self.old.buffer) }
+        ensures bytes { T.contents self.new.buffer ≡ put_at (T.contents self.old.buffer) 0 (code_bytes code) }
+        ensures same_storage { self.new.buffer ≡ T.with_contents self.old.buffer (put_at (T.contents self.old.buffer) 0 (code_bytes code)) }
     {
         put_i32(self.buffer.bytes_mut(), 0, code);
     }
@@ -104,9 +104,9 @@ impl<T: StorageMut> ErrorBuffer<T> {
     /// The bytes behind the code: the header of the message that is answered, and what follows it,
     /// lent for writing; no others change. The storage has to hold 4 bytes at least.
     pub fn payload_mut(&mut self) -> &mut [u8]
-        requires field { 4 ≤ length (T.held self.old.buffer) }
-        ensures* writes_back { sem 𝓛 (Lends (the_row T.row) (Array byte 0) self.entry result (λ part. record { buffer = T.holding self.old.buffer (put_at (T.held self.old.buffer) 4 part) })) }
-        ensures value { result.now ≡ drop 4 (T.held self.old.buffer) }
+        requires field { 4 ≤ length (T.contents self.old.buffer) }
+        ensures* writes_back { sem 𝓛 (Lends (the_row T.row) (Array byte 0) self.entry result (λ part. record { buffer = T.with_contents self.old.buffer (put_at (T.contents self.old.buffer) 4 part) })) }
+        ensures value { result.now ≡ drop 4 (T.contents self.old.buffer) }
     {
         let end = self.buffer.bytes().len();
         self.buffer.part_mut(4, end)
@@ -211,7 +211,7 @@ impl fmt::Display for ErrorMessage {
 impl Emitable for ErrorMessage {
     ghost use Rattle.std.specs.Prelude.{◌++◌};
 
-    ghost text = { λ m. code_text (raw_code m.code) ++ m.header.items };
+    ghost bytes = { λ m. code_bytes (raw_code m.code) ++ m.header.items };
 
     ghost can_emit = { λ _. Unit {0} };
 

@@ -23,7 +23,7 @@ pub struct NetlinkHeader {
 }
 
 impl NetlinkHeader {
-    ghost use Rattle.netlink_packet_core.specs.Header.{header_text, HeaderInRange};
+    ghost use Rattle.netlink_packet_core.specs.Header.{header_bytes, HeaderInRange};
 
     /// The numbers of a header in hand are within their widths.
     pub(crate) fn known(&self)
@@ -37,10 +37,10 @@ impl NetlinkHeader {
     }
 
     /// Writes the five fields.
-    #[tactic(auto, unfolding(netlink_bytes::specs::Numbers::text_le))]
+    #[tactic(auto, unfolding(netlink_bytes::specs::Numbers::bytes_le))]
     pub(crate) fn write(&self, buffer: &mut [u8])
         requires { length buffer.old ≡ 16 }
-        ensures { buffer.new ≡ header_text self.now }
+        ensures { buffer.new ≡ header_bytes self.now }
     {
         put_u32(buffer, 0, self.length);
         put_u16(buffer, 4, self.message_type);
@@ -51,7 +51,7 @@ impl NetlinkHeader {
 
     /// The five fields as they are written.
     pub(crate) fn text(&self) -> [u8; NETLINK_HEADER_LEN]
-        ensures { result ≡ header_text self.now }
+        ensures { result ≡ header_bytes self.now }
     {
         let mut text = [0; NETLINK_HEADER_LEN];
         self.write(&mut text);
@@ -77,9 +77,9 @@ impl Default for NetlinkHeader {
 }
 
 impl Emitable for NetlinkHeader {
-    ghost use Rattle.netlink_packet_core.specs.Header.{header_text};
+    ghost use Rattle.netlink_packet_core.specs.Header.{header_bytes};
 
-    ghost text = { header_text };
+    ghost bytes = { header_bytes };
 
     ghost can_emit = { λ _. Unit {0} };
 

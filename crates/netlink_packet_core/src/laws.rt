@@ -4,7 +4,7 @@
 ghost use Rattle.std.specs.Prelude.{◌≡◌, ◌≢◌, ◌↔◌, ◌+◌, ◌<◌, ◌≤◌, ◌^◌, ◌++◌, ℕ, List, Some, true, IsTrue, take, length};
 ghost use Rattle.netlink_packet_core.specs.Canonical.{Fits, IsCanonicalFrame, canonical_frame, finalized};
 ghost use Rattle.netlink_packet_core.specs.Frame.{Frame, SamePayload};
-ghost use Rattle.netlink_packet_core.specs.Header.{HeaderInRange, field, header_text};
+ghost use Rattle.netlink_packet_core.specs.Header.{HeaderInRange, field, header_bytes};
 ghost use Rattle.netlink_packet_core.specs.Payload.{InnerInRange, raw_code};
 ghost use Rattle.netlink_packet_core.specs.Protocol.{IsOwnType};
 ghost use Rattle.netlink_packet_core.specs.Refusal.{IsFrameFault, IsRefusal, SameRefusal};
@@ -130,7 +130,7 @@ pub fn reading_is_canonical<I: NetlinkProtocol>()
         → I.decoding.reading h payload ≡ Some pair
         → (front : NetlinkHeader) → HeaderInRange front
         → front.message_type ≡ pair.0 → front.length ≡ 16 + length pair.1
-        → IsCanonicalFrame I.decoding (header_text front ++ pair.1) }
+        → IsCanonicalFrame I.decoding (header_bytes front ++ pair.1) }
 {}
 
 /// A canonical frame cut short is the frame of no message (`FrameShort` below 16 bytes, `FrameCut`

@@ -3,8 +3,8 @@
 ghost use Rattle.std.specs.Prelude.{◌≡◌, ◌≢◌, ◌+◌, ◌++◌, ◌<◌, ◌≤◌, ◌^◌, ◌⊎◌, ◌↔◌, drop, length, true, IsTrue, IfOk, IfErr, IsErrAnd, IsOkUnless, MatchResult};
 ghost use Rattle.netlink_packet_core.specs.Canonical.{Fits, IsTooLong, canonical_frame, finalized};
 ghost use Rattle.netlink_packet_core.specs.Frame.{Frame};
-ghost use Rattle.netlink_packet_core.specs.Header.{HoldsFrame, default_header, header_text};
-ghost use Rattle.netlink_packet_core.specs.Payload.{payload_text};
+ghost use Rattle.netlink_packet_core.specs.Header.{HoldsFrame, default_header, header_bytes};
+ghost use Rattle.netlink_packet_core.specs.Payload.{payload_bytes};
 ghost use Rattle.netlink_packet_core.specs.Refusal.{AsksNoMemory, IsPayloadFault, IsRefusal};
 ghost use Rattle.netlink_packet_core.specs.declared.payload.NetlinkPayload.TheVariants.{InnerMessage};
 ghost use Rattle.netlink_packet_core.specs.declared.message.NetlinkMessage.{NetlinkMessage};
@@ -131,8 +131,8 @@ impl<I: NetlinkSerializable> NetlinkMessage<I> {
     /// The size of the written message in bytes: 16 plus the size of the payload's text, which has
     /// to be below 2^64.
     pub fn buffer_len(&self) -> usize
-        requires size { 16 + length (payload_text I.encoding self.now.payload) < 2 ^ 64 }
-        ensures size { result ≡ 16 + length (payload_text I.encoding self.now.payload) }
+        requires size { 16 + length (payload_bytes I.encoding self.now.payload) < 2 ^ 64 }
+        ensures size { result ≡ 16 + length (payload_bytes I.encoding self.now.payload) }
     {
         NETLINK_HEADER_LEN + self.payload.buffer_len()
     }
@@ -152,9 +152,9 @@ impl<I: NetlinkSerializable> NetlinkMessage<I> {
     /// behind them. The header's length has to be their size, as `finalize` leaves it, and the
     /// buffer has to hold as many bytes.
     pub fn serialize(&self, buffer: &mut [u8])
-        requires length { self.now.header.length ≡ 16 + length (payload_text I.encoding self.now.payload) }
+        requires length { self.now.header.length ≡ 16 + length (payload_bytes I.encoding self.now.payload) }
         requires room { self.now.header.length ≤ length buffer.old }
-        ensures text { buffer.new ≡ header_text self.now.header ++ (payload_text I.encoding self.now.payload ++ drop self.now.header.length buffer.old) }
+        ensures text { buffer.new ≡ header_bytes self.now.header ++ (payload_bytes I.encoding self.now.payload ++ drop self.now.header.length buffer.old) }
     {
         let length = self.header.length as usize;
         let (head, rest) = buffer.split_at_mut(NETLINK_HEADER_LEN);
@@ -193,9 +193,9 @@ impl<I: NetlinkSerializable + Drop> NetlinkMessage<I> {
 }
 
 impl<I: NetlinkSerializable> Emitable for NetlinkMessage<I> {
-    ghost text = { λ m. header_text m.header ++ payload_text I.encoding m.payload };
+    ghost bytes = { λ m. header_bytes m.header ++ payload_bytes I.encoding m.payload };
 
-    ghost can_emit = { λ m. m.header.length ≡ 16 + length (payload_text I.encoding m.payload) };
+    ghost can_emit = { λ m. m.header.length ≡ 16 + length (payload_bytes I.encoding m.payload) };
 
     ghost takes_longer = { true };
 

@@ -2,7 +2,7 @@
 
 ghost use Rattle.std.specs.Prelude.{◌≡◌, ◌+◌, ◌≤◌, ◌<◌, ◌^◌, ◌↔◌, ◌++◌, List, ℕ, Some, IfOk, IfErr, IsTrue, OnOk, length, string_bytes, vec_len};
 ghost use Rattle.netlink_packet_core.specs.Frame.{Body};
-ghost use Rattle.netlink_packet_core.specs.Payload.{PayloadInRange, payload_text, payload_type};
+ghost use Rattle.netlink_packet_core.specs.Payload.{PayloadInRange, payload_bytes, payload_type};
 ghost use Rattle.netlink_packet_core.specs.Refusal.{IsBodyFault, IsInnerFault, refusal_text};
 
 use crate::bytes::{append_code, put_code};
@@ -49,8 +49,8 @@ impl<I: NetlinkSerializable> NetlinkPayload<I> {
     /// The size of the payload's text in bytes.
     #[tactic(auto, using(crate::specs::Sizes::text_sizes))]
     pub(crate) fn buffer_len(&self) -> usize
-        requires { length (payload_text I.encoding self.now) < 2 ^ 64 }
-        ensures { result ≡ length (payload_text I.encoding self.now) }
+        requires { length (payload_bytes I.encoding self.now) < 2 ^ 64 }
+        ensures { result ≡ length (payload_bytes I.encoding self.now) }
     {
         match self {
             NetlinkPayload::Done(message) => 4 + message.extended_ack.len(),
@@ -64,7 +64,7 @@ impl<I: NetlinkSerializable> NetlinkPayload<I> {
     /// Whether the payload's text has at most so many bytes.
     #[tactic(auto, using(crate::specs::Sizes::text_sizes))]
     pub(crate) fn is_at_most(&self, limit: usize) -> bool
-        ensures { IsTrue result ↔ (length (payload_text I.encoding self.now) ≤ limit) }
+        ensures { IsTrue result ↔ (length (payload_bytes I.encoding self.now) ≤ limit) }
     {
         match self {
             NetlinkPayload::Done(message) => 4 + message.extended_ack.len() <= limit,
@@ -93,8 +93,8 @@ impl<I: NetlinkSerializable> NetlinkPayload<I> {
     /// Writes the payload's text, which fills the buffer.
     #[tactic(auto, using(crate::specs::Sizes::text_sizes))]
     pub(crate) fn emit(&self, buffer: &mut [u8])
-        requires { length buffer.old ≡ length (payload_text I.encoding self.now) }
-        ensures { buffer.new ≡ payload_text I.encoding self.now }
+        requires { length buffer.old ≡ length (payload_bytes I.encoding self.now) }
+        ensures { buffer.new ≡ payload_bytes I.encoding self.now }
     {
         match self {
             NetlinkPayload::Done(message) => put_code(buffer, message.code, &message.extended_ack),
@@ -110,8 +110,8 @@ impl<I: NetlinkSerializable> NetlinkPayload<I> {
     /// Adds the payload's text at the end of a frame.
     #[tactic(auto, using(crate::specs::Sizes::text_sizes))]
     pub(crate) fn append(&self, frame: &mut Vec<u8>) -> Result<(), AllocError>
-        requires { vec_len frame.old + length (payload_text I.encoding self.now) < 2 ^ 64 }
-        ensures { OnOk result (frame.new.items ≡ frame.old.items ++ payload_text I.encoding self.now) }
+        requires { vec_len frame.old + length (payload_bytes I.encoding self.now) < 2 ^ 64 }
+        ensures { OnOk result (frame.new.items ≡ frame.old.items ++ payload_bytes I.encoding self.now) }
     {
         match self {
             NetlinkPayload::Done(message) => {

@@ -19,12 +19,12 @@ pub trait NetlinkSerializable {
 
     /// The size of the value's text in bytes.
     fn buffer_len(&self) -> usize
-        ensures size { result ≡ length (encoding.text_of self.now) };
+        ensures size { result ≡ length (encoding.bytes_of self.now) };
 
     /// Fills the buffer, which has exactly `buffer_len` bytes, with the value's text.
     fn serialize(&self, buffer: &mut [u8])
-        requires size { length buffer.old ≡ length (encoding.text_of self.now) }
-        ensures text { buffer.new ≡ encoding.text_of self.now };
+        requires size { length buffer.old ≡ length (encoding.bytes_of self.now) }
+        ensures text { buffer.new ≡ encoding.bytes_of self.now };
 
     /// Adds the value's text at the end of a vector, which has fewer than 2^64 bytes with it. Where
     /// the vector has room the answer is Ok; otherwise its allocator is asked, and an error says
@@ -33,9 +33,9 @@ pub trait NetlinkSerializable {
     /// This body makes room of zeros and fills it by `serialize`; a protocol that has its text at
     /// hand does better to copy it once.
     fn append(&self, frame: &mut Vec<u8>) -> Result<(), AllocError>
-        requires fits { vec_len frame.old + length (encoding.text_of self.now) < 2 ^ 64 }
-        ensures text { OnOk result (frame.new.items ≡ frame.old.items ++ encoding.text_of self.now) }
-        ensures room { vec_len frame.old + length (encoding.text_of self.now) ≤ vec_capacity frame.old → IsOk result }
+        requires fits { vec_len frame.old + length (encoding.bytes_of self.now) < 2 ^ 64 }
+        ensures text { OnOk result (frame.new.items ≡ frame.old.items ++ encoding.bytes_of self.now) }
+        ensures room { vec_len frame.old + length (encoding.bytes_of self.now) ≤ vec_capacity frame.old → IsOk result }
     {
         let start = frame.len();
         frame.resize(start + self.buffer_len(), 0)?;
@@ -48,9 +48,9 @@ pub trait NetlinkSerializable {
     ///
     /// This body writes the text into a buffer of its own; a protocol that has its text at hand
     /// does better to compare it.
-    fn is_text(&self, alloc: Global, bytes: &[u8]) -> Result<bool, AllocError>
-        ensures says { IfOk result (λ yes. IsTrue yes ↔ (bytes.now ≡ encoding.text_of self.now)) }
-        ensures size { OnErr result (length bytes.now ≡ length (encoding.text_of self.now)) }
+    fn is_written_as(&self, alloc: Global, bytes: &[u8]) -> Result<bool, AllocError>
+        ensures says { IfOk result (λ yes. IsTrue yes ↔ (bytes.now ≡ encoding.bytes_of self.now)) }
+        ensures size { OnErr result (length bytes.now ≡ length (encoding.bytes_of self.now)) }
     {
         if bytes.len() != self.buffer_len() {
             return Ok(false);
@@ -96,7 +96,7 @@ pub trait NetlinkProtocol: NetlinkSerializable + NetlinkDeserializable + Eq + Dr
         ensures in_range { IsTrue (Self.decoding.in_range self.now) };
 
     /// A value stands for its own type and text.
-    ghost own_pair: { (v : Self) → Self.decoding.stands_for v ≡ (Self.encoding.type_of v, Self.encoding.text_of v) };
+    ghost own_pair: { (v : Self) → Self.decoding.stands_for v ≡ (Self.encoding.type_of v, Self.encoding.bytes_of v) };
 
     /// Two values are equal exactly if they stand for the same type and text.
     ghost equal_pairs: { (v w : Self) → IsTrue (Self.decoding.in_range v) → IsTrue (Self.decoding.in_range w) → (Self.eq v w ≡ true) ↔ (Self.decoding.stands_for v ≡ Self.decoding.stands_for w) };

@@ -3,10 +3,10 @@ use Rattle.std.proofs.Common.{◌≡◌, ℕ, ◌+◌, ◌≤◌, List, [], ◌�
 use Rattle.std.proofs.lemmas.List.{drop_all}
 use Rattle.std.specs.Prelude.{sum}
 use Rattle.netlink_packet_core.specs.Fields.{fields_at, fields_kept}
-use Rattle.netlink_packet_core.specs.Numbers.{IsBytes, text_le}
+use Rattle.netlink_packet_core.specs.Numbers.{IsBytes, bytes_le}
 use Rattle.netlink_route.specs.AddressHeader.{address_header_text}
 use Rattle.netlink_route.specs.declared.address_header.AddressHeader.{AddressHeader}
-use Rattle.netlink_route.specs.LinkHeader.{header_text}
+use Rattle.netlink_route.specs.LinkHeader.{header_bytes}
 use Rattle.netlink_route.specs.declared.link_header.LinkHeader.{LinkHeader}
 
 -- fields up to the end are the bytes from there on
@@ -20,12 +20,12 @@ two_first [] long = absurd (omega arith)
 two_first (a ∷ []) long = absurd (omega arith)
 two_first (a ∷ b ∷ more) long = refl
 
-pub length-link_header : (h : LinkHeader) (more : List ℕ) → length (header_text h ++ more) ≡ 16 + length more
-unfolding text_le
+pub length-link_header : (h : LinkHeader) (more : List ℕ) → length (header_bytes h ++ more) ≡ 16 + length more
+unfolding bytes_le
 length-link_header h more = omega arith
 
 pub length-address_header : (h : AddressHeader) (more : List ℕ) → length (address_header_text h ++ more) ≡ 8 + length more
-unfolding text_le
+unfolding bytes_le
 length-address_header h more = omega arith
 
 pub ruleset address_sizes = (length-address_header)

@@ -8,7 +8,7 @@ use Rattle.std.proofs.lemmas.List.Elements.{All-nil, All-cons, All-head, All-tai
 use Rattle.netlink_packet_core.specs.Attribute.{Attribute}
 use Rattle.netlink_packet_core.specs.DecodeError.{DecodeError}
 use Rattle.netlink_packet_core.specs.Nla.{attribute_with, attributes_of, AllFit, FitBlock}
-use Rattle.netlink_packet_core.specs.Passing.{Passes, passes_ends, passes_faults, passes_walk}
+use Rattle.netlink_packet_core.specs.Progress.{Passes, passes_ends, passes_faults, passes_walk}
 use Rattle.netlink_packet_core.specs.ReadingLaws.{attributes_in-walk, attributes_in-fault}
 use Rattle.netlink_packet_core.specs.Walk.{Starts, Walk, IsFault}
 use Rattle.netlink_route.specs.Typed.{ValueReading, all_spelled, block_fits, keep_fit, spell, spelled, spelled_in, value_fits, with_first}

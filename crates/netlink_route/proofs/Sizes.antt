@@ -1,10 +1,10 @@
 -- How long texts of numbers are, and what is put over the whole of a buffer.
 use Rattle.std.proofs.Common.{◌≡◌, ℕ, ◌+◌, List, ◌++◌, length, ap, ◌∙◌, arith, append-nil}
 use Rattle.std.proofs.lemmas.List.{drop_all}
-use Rattle.netlink_packet_core.specs.NumberLaws.{length-text_le}
+use Rattle.netlink_packet_core.specs.NumberLaws.{length-bytes_le}
 use Rattle.netlink_packet_core.specs.Storage.{put_at}
 
 pub put_whole : (bytes text : List ℕ) → length bytes ≡ length text → put_at bytes 0 text ≡ text
 put_whole bytes text same = ap (λ (rest : List ℕ). text ++ rest) (drop_all (0 + length text) bytes (omega (arith, same))) ∙ append-nil text
 
-pub ruleset text_sizes = (length-text_le, put_whole)
+pub ruleset text_sizes = (length-bytes_le, put_whole)

@@ -8,8 +8,8 @@ use Rattle.std.proofs.lemmas.Str.{IsUtf8-from_is_utf8, IsUtf8-string_bytes, is_u
 use Rattle.netlink_packet_core.specs.DecodeError.{DecodeError}
 use Rattle.netlink_packet_core.specs.DecodeError.TheVariants.{OutOfMemory}
 use Rattle.netlink_packet_core.specs.Fields.{all_fields_kept, number_at}
-use Rattle.netlink_packet_core.specs.Numbers.{IsBytes, number_le, text_le}
-use Rattle.netlink_packet_core.specs.NumberLaws.{number_le-text_le}
+use Rattle.netlink_packet_core.specs.Numbers.{IsBytes, number_le, bytes_le}
+use Rattle.netlink_packet_core.specs.NumberLaws.{number_le-bytes_le}
 use Rattle.netlink_packet_core.specs.Text.{without_last_zero}
 use Rattle.netlink_route.specs.Value.{four_bytes, zero_text, keep, read_as, zero_dropped, zero_ended}
 
@@ -19,12 +19,12 @@ same_test true b there back = sym (there refl)
 same_test false true there back = back refl
 same_test false false there back = refl
 
-pub numbers_alike : (a b : ℕ) → a < 2 ^ 32 → b < 2 ^ 32 → nat_eq a b ≡ bytes_eq (text_le a 4) (text_le b 4)
+pub numbers_alike : (a b : ℕ) → a < 2 ^ 32 → b < 2 ^ 32 → nat_eq a b ≡ bytes_eq (bytes_le a 4) (bytes_le b 4)
 numbers_alike a b first second =
-    let decides = bytes_decides (text_le a 4) (text_le b 4) in
-    same_test (nat_eq a b) (bytes_eq (text_le a 4) (text_le b 4))
-    (λ e. decides.1 (ap (λ (n : ℕ). text_le n 4) (eqb-true a b e)))
-    (λ e. eq-eqb a b (sym (number_le-text_le a 4 first) ∙ ap number_le (decides.0 e) ∙ number_le-text_le b 4 second))
+    let decides = bytes_decides (bytes_le a 4) (bytes_le b 4) in
+    same_test (nat_eq a b) (bytes_eq (bytes_le a 4) (bytes_le b 4))
+    (λ e. decides.1 (ap (λ (n : ℕ). bytes_le n 4) (eqb-true a b e)))
+    (λ e. eq-eqb a b (sym (number_le-bytes_le a 4 first) ∙ ap number_le (decides.0 e) ∙ number_le-bytes_le b 4 second))
 
 pub texts_alike : (a b : List ℕ) → bytes_eq a b ≡ bytes_eq (a ++ (0 ∷ [])) (b ++ (0 ∷ []))
 texts_alike a b =
@@ -35,10 +35,10 @@ texts_alike a b =
     (λ e. one.1 (sym (zero_dropped a) ∙ ap without_last_zero (other.0 e) ∙ zero_dropped b))
 
 -- four bytes are the text of their number
-pub number_read : (value : List ℕ) (number : ℕ) → IsBytes value → length value ≡ 4 → number ≡ number_at 0 4 value → read_as four_bytes value ≡ Some (text_le number 4)
+pub number_read : (value : List ℕ) (number : ℕ) → IsBytes value → length value ≡ 4 → number ≡ number_at 0 4 value → read_as four_bytes value ≡ Some (bytes_le number 4)
 number_read value number each size is =
     let kept = all_fields_kept (4 ∷ []) value each size in
-    ap (λ (b : Bool). keep b value) (eq-eqb (length value) 4 size) ∙ ap Some (sym kept ∙ ap (λ (n : ℕ). text_le n 4) (sym is))
+    ap (λ (b : Bool). keep b value) (eq-eqb (length value) 4 size) ∙ ap Some (sym kept ∙ ap (λ (n : ℕ). bytes_le n 4) (sym is))
 
 -- a value with one zero byte, its last, is a text and that byte
 pub ended : (value : List ℕ) → zero_ended value ≡ true → without_last_zero value ++ (0 ∷ []) ≡ value

@@ -3,7 +3,7 @@ use Rattle.std.specs.Prelude.{ℕ, ◌≡◌, Bool, List, [], ◌∷◌, ◌++�
 use Rattle.std.proofs.Common.{ap}
 use Rattle.netlink_packet_core.specs.Attribute.{Attribute}
 use Rattle.netlink_packet_core.specs.Nla.{attribute_with}
-use Rattle.netlink_packet_core.specs.Numbers.{text_le}
+use Rattle.netlink_packet_core.specs.Numbers.{bytes_le}
 use Rattle.netlink_route.specs.AddressTable.{address_row, address_values}
 use Rattle.netlink_route.specs.Value.{any_bytes, itself, keep, no_row, number_itself, text_itself}
 use Rattle.netlink_route.specs.declared.address.AddressAttribute.{AddressAttribute}
@@ -24,7 +24,7 @@ address_value (Address ip) = ip.bytes.items
 address_value (Local ip) = ip.bytes.items
 address_value (Label name) = string_bytes name.text ++ (0 ∷ [])
 address_value (Broadcast ip) = ip.bytes.items
-address_value (Flags number) = text_le number 4
+address_value (Flags number) = bytes_le number 4
 address_value (Other other) = other.value.items
 
 abbrev pub address_attribute : AddressAttribute → Attribute

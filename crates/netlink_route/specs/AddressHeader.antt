@@ -1,6 +1,6 @@
 -- The header of an address (linux/if_addr.h, struct ifaddrmsg), and its message types.
 use Rattle.std.specs.Prelude.{ℕ, ◌^◌, ◌==◌, Bool, ◌&&◌, ◌||◌, List, ◌∷◌, nat_lt}
-use Rattle.netlink_packet_core.specs.Numbers.{text_le}
+use Rattle.netlink_packet_core.specs.Numbers.{bytes_le}
 use Rattle.netlink_route.specs.declared.address_header.AddressHeader.{AddressHeader}
 use Rattle.netlink_route.specs.declared.address_header.AddressVerb.{AddressVerb}
 use Rattle.netlink_route.specs.declared.address_header.AddressVerb.TheVariants.{New, Del, Get}
@@ -15,7 +15,7 @@ is_address_type t = t == 20 || (t == 21 || t == 22)
 
 -- the family, the prefix's length, the flags, the scope and the index of the link: 8 bytes
 abbrev pub address_header_text : AddressHeader → List ℕ
-address_header_text h = h.family ∷ h.prefix_len ∷ h.flags ∷ h.scope ∷ text_le h.index 4
+address_header_text h = h.family ∷ h.prefix_len ∷ h.flags ∷ h.scope ∷ bytes_le h.index 4
 
 -- each number fits its field
 abbrev pub address_header_fits : AddressHeader → Bool

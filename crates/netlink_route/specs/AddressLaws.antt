@@ -2,8 +2,8 @@
 use Rattle.std.specs.Prelude.{ℕ, ◌≡◌, ◌↔◌, ◌^◌, ◌&&◌, nat_lt, true, List, ◌++◌, take, drop, refl}
 use Rattle.std.proofs.Common.{arith, ap, sym, ◌∙◌}
 use Rattle.std.proofs.lemmas.Bool.{and_parts, and_from, ltb-true, eqb-true, eq-eqb}
-use Rattle.netlink_packet_core.specs.Numbers.{number_le, text_le}
-use Rattle.netlink_packet_core.specs.NumberLaws.{number_le-text_le}
+use Rattle.netlink_packet_core.specs.Numbers.{number_le, bytes_le}
+use Rattle.netlink_packet_core.specs.NumberLaws.{number_le-bytes_le}
 use Rattle.netlink_route.specs.AddressHeader.{address_header_fits, address_header_text, address_verb_type}
 use Rattle.netlink_route.specs.LinkLaws.{family_back}
 use Rattle.netlink_route.specs.declared.address_header.AddressHeader.{AddressHeader}
@@ -26,19 +26,19 @@ header_in bytes = record {
 }
 
 header_back : (h : AddressHeader) (more : List ℕ) → address_header_fits h ≡ true → header_in (address_header_text h ++ more) ≡ h
-unfolding header_in text_le
+unfolding header_in bytes_le
 header_back h more fits =
     let p = and_parts (nat_lt h.family (2 ^ 8)) (nat_lt h.prefix_len (2 ^ 8) && (nat_lt h.flags (2 ^ 8) && (nat_lt h.scope (2 ^ 8) && nat_lt h.index (2 ^ 32)))) fits in
     let q = and_parts (nat_lt h.prefix_len (2 ^ 8)) (nat_lt h.flags (2 ^ 8) && (nat_lt h.scope (2 ^ 8) && nat_lt h.index (2 ^ 32))) p.1 in
     let r = and_parts (nat_lt h.flags (2 ^ 8)) (nat_lt h.scope (2 ^ 8) && nat_lt h.index (2 ^ 32)) q.1 in
     let s = and_parts (nat_lt h.scope (2 ^ 8)) (nat_lt h.index (2 ^ 32)) r.1 in
     same_header _ _ (family_back h.family) (family_back h.prefix_len) (family_back h.flags) (family_back h.scope)
-    (number_le-text_le h.index 4 (ltb-true _ _ s.1))
+    (number_le-bytes_le h.index 4 (ltb-true _ _ s.1))
 
 -- headers in front of two texts
 pub same_address_front : (g h : AddressHeader) (x y : List ℕ) → address_header_fits g ≡ true → address_header_fits h ≡ true
     → address_header_text g ++ x ≡ address_header_text h ++ y → (g ≡ h) × (x ≡ y)
-unfolding text_le
+unfolding bytes_le
 same_address_front g h x y first second same = (sym (header_back g x first) ∙ ap header_in same ∙ header_back h y second, ap (drop 8) same)
 
 -- headers are equal by `==` exactly if they are the same

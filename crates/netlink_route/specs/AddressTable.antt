@@ -1,4 +1,5 @@
--- The kinds of attributes of an address that have a variant of their own (linux/if_addr.h), and the shape of the values of each.
+-- The kinds of attributes of an address that have a variant of their own (linux/if_addr.h), and the
+-- shape of the values of each.
 use Rattle.std.specs.Prelude.{ℕ, ◌==◌, ◌||◌, Option, Some, None, if◌then◌else◌}
 use Rattle.netlink_route.specs.Typed.{ValueReading}
 use Rattle.netlink_route.specs.Value.{Shape, four_bytes, zero_text, ip_bytes, reading_by}

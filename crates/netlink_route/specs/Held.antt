@@ -1,6 +1,6 @@
 -- The values that attributes hold: what each is written as, and why a value is none of its shape.
 use Rattle.std.specs.Prelude.{ℕ, ◌≡◌, ◌⊎◌, List, [], ◌∷◌, ◌++◌, length, string_bytes}
-use Rattle.netlink_packet_core.specs.Numbers.{text_le}
+use Rattle.netlink_packet_core.specs.Numbers.{bytes_le}
 use Rattle.netlink_route.specs.Value.{Shape, four_bytes, one_byte, zero_text, ip_bytes, any_bytes, info_block}
 use Rattle.netlink_route.specs.declared.error.RouteError.{RouteError}
 use Rattle.netlink_route.specs.declared.error.RouteError.TheVariants as error
@@ -8,12 +8,12 @@ use Rattle.netlink_route.specs.declared.value.Value.{Value}
 use Rattle.netlink_route.specs.declared.value.Value.TheVariants as held
 
 -- what is written of a value
-abbrev pub value_text : Value → List ℕ
-value_text (held.Number number) = text_le number 4
-value_text (held.Byte byte) = byte ∷ []
-value_text (held.Text text) = string_bytes text.now.text ++ (0 ∷ [])
-value_text (held.Ip ip) = ip.now.bytes.items
-value_text (held.Bytes bytes) = bytes.now
+abbrev pub value_bytes : Value → List ℕ
+value_bytes (held.Number number) = bytes_le number 4
+value_bytes (held.Byte byte) = byte ∷ []
+value_bytes (held.Text text) = string_bytes text.now.text ++ (0 ∷ [])
+value_bytes (held.Ip ip) = ip.now.bytes.items
+value_bytes (held.Bytes bytes) = bytes.now
 
 abbrev pub value_shape : Value → Shape
 value_shape (held.Number number) = four_bytes

@@ -2,7 +2,7 @@
 use Rattle.std.specs.Prelude.{ℕ, List, [], ◌∷◌, ◌++◌, string_bytes}
 use Rattle.netlink_packet_core.specs.Attribute.{Attribute}
 use Rattle.netlink_packet_core.specs.Nla.{attribute_with}
-use Rattle.netlink_packet_core.specs.Numbers.{text_le}
+use Rattle.netlink_packet_core.specs.Numbers.{bytes_le}
 use Rattle.netlink_route.specs.LinkTable.{link_row}
 use Rattle.netlink_route.specs.Typed.{ValueReading}
 use Rattle.netlink_route.specs.LinkHeld.{info_block_text}
@@ -34,17 +34,17 @@ abbrev pub value_of : LinkAttribute → List ℕ
 value_of (Address bytes) = bytes.items
 value_of (Broadcast bytes) = bytes.items
 value_of (IfName name) = string_bytes name.text ++ (0 ∷ [])
-value_of (Mtu number) = text_le number 4
-value_of (Link number) = text_le number 4
+value_of (Mtu number) = bytes_le number 4
+value_of (Link number) = bytes_le number 4
 value_of (Qdisc name) = string_bytes name.text ++ (0 ∷ [])
-value_of (Master number) = text_le number 4
-value_of (TxQueueLen number) = text_le number 4
+value_of (Master number) = bytes_le number 4
+value_of (TxQueueLen number) = bytes_le number 4
 value_of (OperState byte) = byte ∷ []
 value_of (LinkInfo block) = info_block_text block.list.items
 value_of (NestedLinkInfo block) = info_block_text block.list.items
 value_of (IfAlias name) = string_bytes name.text ++ (0 ∷ [])
-value_of (Group number) = text_le number 4
-value_of (ExtMask number) = text_le number 4
+value_of (Group number) = bytes_le number 4
+value_of (ExtMask number) = bytes_le number 4
 value_of (Carrier byte) = byte ∷ []
 value_of (Other other) = other.value.items
 

@@ -1,6 +1,6 @@
 -- The header of a link (linux/rtnetlink.h, struct ifinfomsg), and its message types.
 use Rattle.std.specs.Prelude.{ℕ, ◌^◌, ◌==◌, Bool, ◌&&◌, ◌||◌, List, ◌∷◌, ◌++◌, nat_lt}
-use Rattle.netlink_packet_core.specs.Numbers.{text_le}
+use Rattle.netlink_packet_core.specs.Numbers.{bytes_le}
 use Rattle.netlink_route.specs.declared.link_header.LinkHeader.{LinkHeader}
 use Rattle.netlink_route.specs.declared.link_header.LinkVerb.{LinkVerb}
 use Rattle.netlink_route.specs.declared.link_header.LinkVerb.TheVariants.{New, Del, Get, Set}
@@ -15,8 +15,8 @@ abbrev pub is_link_type : ℕ → Bool
 is_link_type t = t == 16 || (t == 17 || (t == 18 || t == 19))
 
 -- the family, a zero, the layer's type, the index, the flags and their mask: 16 bytes
-abbrev pub header_text : LinkHeader → List ℕ
-header_text h = h.family ∷ 0 ∷ (text_le h.layer_type 2 ++ (text_le h.index 4 ++ (text_le h.flags 4 ++ text_le h.change_mask 4)))
+abbrev pub header_bytes : LinkHeader → List ℕ
+header_bytes h = h.family ∷ 0 ∷ (bytes_le h.layer_type 2 ++ (bytes_le h.index 4 ++ (bytes_le h.flags 4 ++ bytes_le h.change_mask 4)))
 
 -- each number fits its field
 abbrev pub header_fits : LinkHeader → Bool

@@ -13,10 +13,10 @@ use Rattle.netlink_route.specs.LinkHeld.{info_block_text}
 use Rattle.netlink_route.specs.Nest.{info_text, nested_itself}
 use Rattle.netlink_route.specs.TypedLaws.{block_again, block_spelled}
 use Rattle.netlink_route.specs.declared.info.InfoAttribute.{InfoAttribute}
-use Rattle.netlink_packet_core.specs.Numbers.{number_le, text_le}
-use Rattle.netlink_packet_core.specs.NumberLaws.{number_le-text_le}
+use Rattle.netlink_packet_core.specs.Numbers.{number_le, bytes_le}
+use Rattle.netlink_packet_core.specs.NumberLaws.{number_le-bytes_le}
 use Rattle.netlink_route.specs.Link.{kind_of, link_values, value_of}
-use Rattle.netlink_route.specs.LinkHeader.{header_fits, header_text, verb_type}
+use Rattle.netlink_route.specs.LinkHeader.{header_fits, header_bytes, verb_type}
 use Rattle.netlink_route.specs.LinkTable.{link_row}
 use Rattle.netlink_route.specs.Value.{any_bytes, no_row, number_itself, text_itself}
 use Rattle.netlink_route.specs.declared.link.LinkAttribute.{LinkAttribute}
@@ -72,8 +72,8 @@ header_in bytes = record {
   change_mask = number_le (take 4 (drop 12 bytes));
 }
 
-header_back : (h : LinkHeader) (more : List ℕ) → header_fits h ≡ true → header_in (header_text h ++ more) ≡ h
-unfolding header_in text_le
+header_back : (h : LinkHeader) (more : List ℕ) → header_fits h ≡ true → header_in (header_bytes h ++ more) ≡ h
+unfolding header_in bytes_le
 header_back h more fits =
     let p = and_parts _ _ fits in
     let q = and_parts _ _ p.1 in
@@ -81,14 +81,14 @@ header_back h more fits =
     let s = and_parts _ _ r.1 in
     same_header _ _
     (family_back h.family)
-    (number_le-text_le h.layer_type 2 (ltb-true _ _ q.0))
-    (number_le-text_le h.index 4 (ltb-true _ _ r.0))
-    (number_le-text_le h.flags 4 (ltb-true _ _ s.0))
-    (number_le-text_le h.change_mask 4 (ltb-true _ _ s.1))
+    (number_le-bytes_le h.layer_type 2 (ltb-true _ _ q.0))
+    (number_le-bytes_le h.index 4 (ltb-true _ _ r.0))
+    (number_le-bytes_le h.flags 4 (ltb-true _ _ s.0))
+    (number_le-bytes_le h.change_mask 4 (ltb-true _ _ s.1))
 
 -- headers in front of two texts
-pub same_front : (g h : LinkHeader) (x y : List ℕ) → header_fits g ≡ true → header_fits h ≡ true → header_text g ++ x ≡ header_text h ++ y → (g ≡ h) × (x ≡ y)
-unfolding text_le
+pub same_front : (g h : LinkHeader) (x y : List ℕ) → header_fits g ≡ true → header_fits h ≡ true → header_bytes g ++ x ≡ header_bytes h ++ y → (g ≡ h) × (x ≡ y)
+unfolding bytes_le
 same_front g h x y first second same = (sym (header_back g x first) ∙ ap header_in same ∙ header_back h y second, ap (drop 16) same)
 
 -- headers are equal by `==` exactly if they are the same

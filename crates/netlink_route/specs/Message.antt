@@ -24,8 +24,8 @@ links = record { size = 16; is_header = λ head. slice_index head 1 == 0; values
 abbrev pub link_attributes : LinkMessage → List Attribute
 link_attributes m = attributes_of link.kind_of link.value_of m.attributes.list.items
 
-abbrev pub link_text : LinkMessage → List ℕ
-link_text m = link_header.header_text m.header ++ canonical_block (link_attributes m)
+abbrev pub link_bytes : LinkMessage → List ℕ
+link_bytes m = link_header.header_bytes m.header ++ canonical_block (link_attributes m)
 
 -- addresses: any 8 bytes
 abbrev pub addresses : Family
@@ -35,16 +35,16 @@ addresses = record { size = 8; is_header = λ head. true; values = address_value
 abbrev pub address_attributes : AddressMessage → List Attribute
 address_attributes m = attributes_of address.address_kind address.address_value m.attributes.list.items
 
-abbrev pub address_text : AddressMessage → List ℕ
-address_text m = address_header.address_header_text m.header ++ canonical_block (address_attributes m)
+abbrev pub address_bytes : AddressMessage → List ℕ
+address_bytes m = address_header.address_header_text m.header ++ canonical_block (address_attributes m)
 
 abbrev pub route_type : RouteMessage → ℕ
 route_type (Link verb m) = link_header.verb_type verb
 route_type (Address verb m) = address_header.address_verb_type verb
 
-abbrev pub route_text : RouteMessage → List ℕ
-route_text (Link verb m) = link_text m
-route_text (Address verb m) = address_text m
+abbrev pub route_bytes : RouteMessage → List ℕ
+route_bytes (Link verb m) = link_bytes m
+route_bytes (Address verb m) = address_bytes m
 
 -- numbers of headers fit their fields
 abbrev pub route_in_range : RouteMessage → Bool
@@ -59,7 +59,7 @@ route_reading h payload =
     else None
 
 abbrev pub route_encoding : Encoding RouteMessage
-route_encoding = record { type_of = route_type; text_of = route_text }
+route_encoding = record { type_of = route_type; bytes_of = route_bytes }
 
 abbrev pub route_decoding : Decoding RouteMessage
-route_decoding = record { reading = route_reading; stands_for = λ m. (route_type m, route_text m); in_range = route_in_range }
+route_decoding = record { reading = route_reading; stands_for = λ m. (route_type m, route_bytes m); in_range = route_in_range }

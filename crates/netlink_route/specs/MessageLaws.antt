@@ -4,15 +4,15 @@ use Rattle.std.specs.Cmp.Lexicographic.{pointwise}
 use Rattle.std.proofs.Common.{sym, arith, ap, ◌∙◌}
 use Rattle.std.proofs.lemmas.Bool.{and_parts, and_from}
 use Rattle.netlink_packet_core.specs.Block.{canonical_block}
-use Rattle.netlink_packet_core.specs.Numbers.{text_le}
+use Rattle.netlink_packet_core.specs.Numbers.{bytes_le}
 use Rattle.netlink_packet_core.specs.Protocol.{IsLawful}
 use Rattle.netlink_packet_core.specs.declared.header.NetlinkHeader.{NetlinkHeader}
 use Rattle.netlink_route.specs.Family.{Family, IsWrittenBy, family_again, family_reading, family_written}
 use Rattle.netlink_route.specs.Link.{kind_of, link_attribute, link_values, value_of}
-use Rattle.netlink_route.specs.LinkHeader.{header_text, is_link_type, verb_type}
+use Rattle.netlink_route.specs.LinkHeader.{header_bytes, is_link_type, verb_type}
 use Rattle.netlink_route.specs.LinkLaws.{headers_decide, link_itself, same_front, same_verb, verb_types}
 use Rattle.netlink_route.specs.LinkTable.{link_row}
-use Rattle.netlink_route.specs.Message.{address_attributes, address_text, addresses, link_attributes, link_text, links, route_decoding, route_in_range, route_reading, route_text, route_type}
+use Rattle.netlink_route.specs.Message.{address_attributes, address_bytes, addresses, link_attributes, link_bytes, links, route_decoding, route_in_range, route_reading, route_bytes, route_type}
 use Rattle.netlink_route.specs.Typed.{attribute_eq}
 use Rattle.netlink_route.specs.TypedLaws.{block_spelled, equal_blocks, equal_lists}
 use Rattle.netlink_route.specs.Nest.{keeps_nested}
@@ -79,10 +79,10 @@ link_lawful t pair is by = let range = link_types t is in family_lawful links t 
 address_lawful : (t : ℕ) (pair : ℕ × List ℕ) → is_link_type t ≡ false → is_address_type t ≡ true → IsWrittenBy addresses t pair → IsLawful route_decoding pair
 address_lawful t pair not is by = let range = address_types t is in family_lawful addresses t pair (omega (arith, range)) range.1 (address_reads t not is) by
 
-link_is_written : (verb : LinkVerb) (m : LinkMessage) → IsWrittenBy links (verb_type verb) (verb_type verb, link_text m)
-unfolding text_le
+link_is_written : (verb : LinkVerb) (m : LinkMessage) → IsWrittenBy links (verb_type verb) (verb_type verb, link_bytes m)
+unfolding bytes_le
 link_is_written verb m = record {
-  head = header_text m.header;
+  head = header_bytes m.header;
   all = link_attributes m;
   whole = refl;
   size = refl;
@@ -96,8 +96,8 @@ verb_is_link Del = refl
 verb_is_link Get = refl
 verb_is_link Set = refl
 
-address_is_written : (verb : AddressVerb) (m : AddressMessage) → IsWrittenBy addresses (address_verb_type verb) (address_verb_type verb, address_text m)
-unfolding text_le
+address_is_written : (verb : AddressVerb) (m : AddressMessage) → IsWrittenBy addresses (address_verb_type verb) (address_verb_type verb, address_bytes m)
+unfolding bytes_le
 address_is_written verb m = record {
   head = address_header_text m.header;
   all = address_attributes m;
@@ -113,10 +113,10 @@ verb_is_address Del' = (refl, refl)
 verb_is_address Get' = (refl, refl)
 
 -- what a value stands for is lawful
-pub value_is_lawful : (v : RouteMessage) → IsLawful route_decoding (route_type v, route_text v)
-value_is_lawful (Link verb m) = link_lawful (verb_type verb) (verb_type verb, link_text m) (verb_is_link verb) (link_is_written verb m)
+pub value_is_lawful : (v : RouteMessage) → IsLawful route_decoding (route_type v, route_bytes v)
+value_is_lawful (Link verb m) = link_lawful (verb_type verb) (verb_type verb, link_bytes m) (verb_is_link verb) (link_is_written verb m)
 value_is_lawful (Address verb m) =
-    let is = verb_is_address verb in address_lawful (address_verb_type verb) (address_verb_type verb, address_text m) is.0 is.1 (address_is_written verb m)
+    let is = verb_is_address verb in address_lawful (address_verb_type verb) (address_verb_type verb, address_bytes m) is.0 is.1 (address_is_written verb m)
 
 by_type : (is_link is_address : Bool) (t : ℕ) (payload : List ℕ) (pair : ℕ × List ℕ) → is_link_type t ≡ is_link → is_address_type t ≡ is_address
     → by_family is_link is_address t payload ≡ Some pair → IsLawful route_decoding pair
@@ -131,21 +131,21 @@ reading_is_lawful h payload pair gives = by_type (is_link_type h.message_type) (
 -- ---- equal messages
 
 -- two messages about links are equal by `==` exactly if they are written alike
-links_decide : (v w : LinkMessage) → route_in_range (Link New v) ≡ true → route_in_range (Link New w) ≡ true → (link_eq.it v w ≡ true) ↔ (link_text v ≡ link_text w)
+links_decide : (v w : LinkMessage) → route_in_range (Link New v) ≡ true → route_in_range (Link New w) ≡ true → (link_eq.it v w ≡ true) ↔ (link_bytes v ≡ link_bytes w)
 links_decide v w first second =
     let eq = pointwise (λ a b. attribute_eq (link_attribute a) (link_attribute b)) v.attributes.list.items w.attributes.list.items in
     let lists = equal_lists link_attribute v.attributes.list.items w.attributes.list.items in
     let blocks = equal_blocks (link_attributes v) (link_attributes w) v.attributes.each w.attributes.each in
     let headers = headers_decide v.header w.header in (
       λ e. (let p = and_parts (header_eq.it v.header w.header) eq e in
-          ap (λ (h : LinkHeader). header_text h ++ canonical_block (link_attributes v)) (headers.0 p.0)
-          ∙ ap (λ (x : List ℕ). header_text w.header ++ x) (blocks.0 (lists.0 p.1))),
+          ap (λ (h : LinkHeader). header_bytes h ++ canonical_block (link_attributes v)) (headers.0 p.0)
+          ∙ ap (λ (x : List ℕ). header_bytes w.header ++ x) (blocks.0 (lists.0 p.1))),
       λ same. (let p = same_front v.header w.header (canonical_block (link_attributes v)) (canonical_block (link_attributes w)) first second same in
           and_from (header_eq.it v.header w.header) eq (headers.1 p.0) (lists.1 (blocks.1 p.1))),
     )
 
 -- and so are two about addresses
-addresses_decide : (v w : AddressMessage) → address_header_fits v.header ≡ true → address_header_fits w.header ≡ true → (address_eq.it v w ≡ true) ↔ (address_text v ≡ address_text w)
+addresses_decide : (v w : AddressMessage) → address_header_fits v.header ≡ true → address_header_fits w.header ≡ true → (address_eq.it v w ≡ true) ↔ (address_bytes v ≡ address_bytes w)
 addresses_decide v w first second =
     let eq = pointwise (λ a b. attribute_eq (address_attribute a) (address_attribute b)) v.attributes.list.items w.attributes.list.items in
     let lists = equal_lists address_attribute v.attributes.list.items w.attributes.list.items in
@@ -166,13 +166,13 @@ pub equal_pairs : (v w : RouteMessage) → route_in_range v ≡ true → route_i
 equal_pairs (Link a v) (Link b w) first second =
     let decide = links_decide v w first second in (
       λ e. (let p = and_parts (verb_eq.it a b) (link_eq.it v w) e in
-          ap (λ (x : LinkVerb). (verb_type x, link_text v)) (same_verb a b p.0) ∙ ap (λ (x : List ℕ). (verb_type b, x)) (decide.0 p.1)),
+          ap (λ (x : LinkVerb). (verb_type x, link_bytes v)) (same_verb a b p.0) ∙ ap (λ (x : List ℕ). (verb_type b, x)) (decide.0 p.1)),
       λ e. and_from (verb_eq.it a b) (link_eq.it v w) (verb_types a b (ap (λ (p : ℕ × List ℕ). p.0) e)) (decide.1 (ap (λ (p : ℕ × List ℕ). p.1) e)),
     )
 equal_pairs (Address a v) (Address b w) first second =
     let decide = addresses_decide v w first second in (
       λ e. (let p = and_parts (address_verb_eq.it a b) (address_eq.it v w) e in
-          ap (λ (x : AddressVerb). (address_verb_type x, address_text v)) (same_address_verb a b p.0) ∙ ap (λ (x : List ℕ). (address_verb_type b, x)) (decide.0 p.1)),
+          ap (λ (x : AddressVerb). (address_verb_type x, address_bytes v)) (same_address_verb a b p.0) ∙ ap (λ (x : List ℕ). (address_verb_type b, x)) (decide.0 p.1)),
       λ e. and_from (address_verb_eq.it a b) (address_eq.it v w) (address_verb_types a b (ap (λ (p : ℕ × List ℕ). p.0) e)) (decide.1 (ap (λ (p : ℕ × List ℕ). p.1) e)),
     )
 equal_pairs (Link a v) (Address b w) first second = (λ e. absurd (cc), λ e. absurd (types_apart a b (ap (λ (p : ℕ × List ℕ). p.0) e)))

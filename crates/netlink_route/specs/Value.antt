@@ -5,12 +5,13 @@ use Rattle.std.specs.declared.alloc.Global.{Global}
 use Rattle.std.proofs.Common.{ap, ◌∙◌, String, string_bytes}
 use Rattle.std.proofs.lemmas.Bool.{and_from}
 use Rattle.std.proofs.lemmas.Str.{IsUtf8-string_bytes, is_utf8-from_IsUtf8}
-use Rattle.netlink_packet_core.specs.Numbers.{text_le}
-use Rattle.netlink_packet_core.specs.NumberLaws.{length-text_le}
+use Rattle.netlink_packet_core.specs.Numbers.{bytes_le}
+use Rattle.netlink_packet_core.specs.NumberLaws.{length-bytes_le}
 use Rattle.netlink_packet_core.specs.Text.{without_last_zero}
 use Rattle.netlink_route.specs.Typed.{KeepsValues, ValueReading}
 
--- a number of 4 bytes, one byte, a text with a zero behind it, an IP address, any bytes, the attributes of a nest
+-- a number of 4 bytes, one byte, a text with a zero behind it, an IP address, any bytes, the
+-- attributes of a nest
 pub data Shape : Type 0 where
   four_bytes : Shape
   one_byte : Shape
@@ -90,8 +91,8 @@ no_row (Some shape) is = absurd (cc)
 pub itself : (shape : Shape) (row : ℕ → Option Shape) (kind : ℕ) (value : List ℕ) → shape_or (row kind) ≡ shape → read_as shape value ≡ Some value → reading_by row kind value ≡ Some value
 itself shape row kind value same is = ap (λ (s : Shape). read_as s value) same ∙ is
 
-pub number_itself : (number : ℕ) → read_as four_bytes (text_le number 4) ≡ Some (text_le number 4)
-number_itself number = let size = length-text_le number 4 in rw size refl
+pub number_itself : (number : ℕ) → read_as four_bytes (bytes_le number 4) ≡ Some (bytes_le number 4)
+number_itself number = let size = length-bytes_le number 4 in rw size refl
 
 -- a zero behind a text is dropped again
 pub zero_dropped : (text : List ℕ) → without_last_zero (text ++ (0 ∷ [])) ≡ text

@@ -3,7 +3,7 @@
 ghost use Rattle.std.specs.Cmp.{on_equiv, on_per, partial_equiv_from_equiv};
 ghost use Rattle.std.specs.Prelude.{◌≡◌, ◌↔◌, IfSome, IsSome, IsTrue};
 ghost use Rattle.netlink_packet_core.specs.Nla.{attribute_with};
-ghost use Rattle.netlink_route.specs.Held.{value_shape, value_text};
+ghost use Rattle.netlink_route.specs.Held.{value_shape, value_bytes};
 ghost use Rattle.netlink_route.specs.Address.{address_attribute, address_kind, address_value};
 ghost use Rattle.netlink_route.specs.AddressTable.{address_row, address_values};
 ghost use Rattle.netlink_route.specs.Typed.{attribute_eq};
@@ -61,7 +61,7 @@ impl AddressAttribute {
 
     /// What the attribute holds.
     fn held(&self) -> Value<'_>
-        ensures text { value_text result ≡ address_value self.now }
+        ensures text { value_bytes result ≡ address_value self.now }
         ensures shape { value_shape result ≡ shape_or (address_row (address_kind self.now)) }
     {
         match self {

@@ -4,7 +4,7 @@ ghost use Rattle.std.specs.Prelude.{◌≡◌, ◌↔◌, false, length, ℕ, If
 ghost use Rattle.netlink_route.specs.AddressHeader.{address_header_fits, address_verb_type, is_address_type};
 ghost use Rattle.netlink_route.specs.Error.{wants_memory};
 ghost use Rattle.netlink_route.specs.Family.{family_reading};
-ghost use Rattle.netlink_route.specs.Message.{address_text, addresses};
+ghost use Rattle.netlink_route.specs.Message.{address_bytes, addresses};
 
 use crate::address_header::{
     ADDRESS_HEADER_LEN, AddressVerb, read_address_header, write_address_header,
@@ -45,7 +45,7 @@ impl AddressMessage {
     /// The size of the message as it is written.
     #[tactic(auto, using(crate::proofs::Headers::address_sizes))]
     pub(crate) fn size(&self) -> usize
-        ensures { result ≡ length (address_text self.now) }
+        ensures { result ≡ length (address_bytes self.now) }
     {
         ADDRESS_HEADER_LEN + self.attributes.buffer_len()
     }
@@ -53,8 +53,8 @@ impl AddressMessage {
     /// Fills the buffer, which has exactly that size, with the message.
     #[tactic(auto, using(crate::proofs::Headers::address_sizes))]
     pub(crate) fn write(&self, buffer: &mut [u8])
-        requires { length buffer.old ≡ length (address_text self.now) }
-        ensures { buffer.new ≡ address_text self.now }
+        requires { length buffer.old ≡ length (address_bytes self.now) }
+        ensures { buffer.new ≡ address_bytes self.now }
     {
         let (header, block) = buffer.split_at_mut(ADDRESS_HEADER_LEN);
         write_address_header(&self.header, header);
@@ -64,7 +64,7 @@ impl AddressMessage {
     /// The message in a payload.
     pub(crate) fn read(alloc: Global, payload: &[u8]) -> Result<Self, RouteError>
         ensures fits { IfOk result (λ m. IsTrue (address_header_fits m.header)) }
-        ensures reads { IfOk result (λ m. (t : ℕ) → family_reading addresses t payload.now ≡ Some (t, address_text m)) }
+        ensures reads { IfOk result (λ m. (t : ℕ) → family_reading addresses t payload.now ≡ Some (t, address_bytes m)) }
         ensures refuses { IfErr result (λ e. wants_memory e ≡ false → (t : ℕ) → family_reading addresses t payload.now ≡ None) }
     {
         if payload.len() < ADDRESS_HEADER_LEN {

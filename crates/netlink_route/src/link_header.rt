@@ -1,7 +1,7 @@
 //! What stands in front of the attributes of a link.
 
 ghost use Rattle.std.specs.Prelude.{◌≡◌, length, slice_index, IsTrue};
-ghost use Rattle.netlink_route.specs.LinkHeader.{header_fits, header_text};
+ghost use Rattle.netlink_route.specs.LinkHeader.{header_fits, header_bytes};
 
 use netlink_packet_core::{put_u16, put_u32, u16_at, u32_at};
 
@@ -52,7 +52,7 @@ pub(crate) const LINK_HEADER_LEN: usize = 16;
 /// Writes the 16 bytes of a header.
 pub(crate) fn write_link_header(header: &LinkHeader, buffer: &mut [u8])
     requires { length buffer.old ≡ 16 }
-    ensures { buffer.new ≡ header_text header.now }
+    ensures { buffer.new ≡ header_bytes header.now }
 {
     let mut text = [0; LINK_HEADER_LEN];
     text[0] = header.family;
@@ -67,7 +67,7 @@ pub(crate) fn write_link_header(header: &LinkHeader, buffer: &mut [u8])
 pub(crate) fn read_link_header(bytes: &[u8]) -> LinkHeader
     requires size { length bytes.now ≡ 16 }
     requires padding { slice_index bytes.now 1 ≡ 0 }
-    ensures text { header_text result ≡ bytes.now }
+    ensures text { header_bytes result ≡ bytes.now }
     ensures fits { IsTrue (header_fits result) }
 {
     LinkHeader {

@@ -5,7 +5,7 @@ ghost use Rattle.netlink_route.specs.Error.{wants_memory};
 ghost use Rattle.netlink_route.specs.Family.{family_reading};
 ghost use Rattle.netlink_route.specs.LinkHeader.{header_fits, is_link_type, verb_type};
 ghost use Rattle.netlink_route.specs.MessageLaws.{equal_pairs, reading_is_lawful, value_is_lawful};
-ghost use Rattle.netlink_route.specs.Message.{link_text, links, route_decoding, route_encoding};
+ghost use Rattle.netlink_route.specs.Message.{link_bytes, links, route_decoding, route_encoding};
 
 use crate::address_header::AddressVerb;
 use crate::error::RouteError;
@@ -51,7 +51,7 @@ impl LinkMessage {
     /// The size of the message as it is written.
     #[tactic(auto, using(crate::proofs::Headers::link_sizes))]
     fn size(&self) -> usize
-        ensures { result ≡ length (link_text self.now) }
+        ensures { result ≡ length (link_bytes self.now) }
     {
         LINK_HEADER_LEN + self.attributes.buffer_len()
     }
@@ -59,8 +59,8 @@ impl LinkMessage {
     /// Fills the buffer, which has exactly that size, with the message.
     #[tactic(auto, using(crate::proofs::Headers::link_sizes))]
     fn write(&self, buffer: &mut [u8])
-        requires { length buffer.old ≡ length (link_text self.now) }
-        ensures { buffer.new ≡ link_text self.now }
+        requires { length buffer.old ≡ length (link_bytes self.now) }
+        ensures { buffer.new ≡ link_bytes self.now }
     {
         let (header, block) = buffer.split_at_mut(LINK_HEADER_LEN);
         write_link_header(&self.header, header);
@@ -70,7 +70,7 @@ impl LinkMessage {
     /// The message in a payload.
     fn read(alloc: Global, payload: &[u8]) -> Result<Self, RouteError>
         ensures fits { IfOk result (λ m. IsTrue (header_fits m.header)) }
-        ensures reads { IfOk result (λ m. (t : ℕ) → family_reading links t payload.now ≡ Some (t, link_text m)) }
+        ensures reads { IfOk result (λ m. (t : ℕ) → family_reading links t payload.now ≡ Some (t, link_bytes m)) }
         ensures refuses { IfErr result (λ e. wants_memory e ≡ false → (t : ℕ) → family_reading links t payload.now ≡ None) }
     {
         if payload.len() < LINK_HEADER_LEN {

@@ -1,10 +1,10 @@
 //! The values of attributes by their shape: read, written and compared.
 
 ghost use Rattle.std.specs.Prelude.{◌≡◌, ◌+◌, ◌∷◌, ◌++◌, [], bytes_eq, false, None, Some, IfErr, IfOk, length, string_bytes};
-ghost use Rattle.netlink_packet_core.specs.Numbers.{text_le};
+ghost use Rattle.netlink_packet_core.specs.Numbers.{bytes_le};
 ghost use Rattle.netlink_route.specs.Error.{wants_memory};
 ghost use Rattle.netlink_route.specs.Value.{any_bytes, four_bytes, ip_bytes, one_byte, read_as, zero_text};
-ghost use Rattle.netlink_route.specs.Held.{value_shape, value_text, IsValueFault};
+ghost use Rattle.netlink_route.specs.Held.{value_shape, value_bytes, IsValueFault};
 
 use crate::error::RouteError;
 use crate::ip::IpBytes;
@@ -31,7 +31,7 @@ impl<'a> Value<'a> {
     /// The size of the value as it is written.
     #[tactic(auto, using(crate::proofs::Sizes::text_sizes))]
     pub(crate) fn size(&self) -> usize
-        ensures { result ≡ length (value_text self.now) }
+        ensures { result ≡ length (value_bytes self.now) }
     {
         match self {
             Value::Number(_) => 4,
@@ -45,8 +45,8 @@ impl<'a> Value<'a> {
     /// Fills the buffer, which has exactly the value's size, with the value.
     #[tactic(auto, using(crate::proofs::Sizes::text_sizes))]
     pub(crate) fn emit(&self, buffer: &mut [u8])
-        requires { length buffer.old ≡ length (value_text self.now) }
-        ensures { buffer.new ≡ value_text self.now }
+        requires { length buffer.old ≡ length (value_bytes self.now) }
+        ensures { buffer.new ≡ value_bytes self.now }
     {
         match self {
             Value::Number(number) => put_u32(buffer, 0, *number),
@@ -65,7 +65,7 @@ impl<'a> Value<'a> {
     /// Whether two values of one shape are written alike.
     pub(crate) fn same(&self, other: &Value) -> bool
         requires { value_shape self.now ≡ value_shape other.now }
-        ensures { result ≡ bytes_eq (value_text self.now) (value_text other.now) }
+        ensures { result ≡ bytes_eq (value_bytes self.now) (value_bytes other.now) }
     {
         match (self, other) {
             (Value::Number(a), Value::Number(b)) => same_number(*a, *b),
@@ -81,7 +81,7 @@ impl<'a> Value<'a> {
 /// Whether two numbers are written alike.
 #[tactic(auto, using(crate::proofs::Texts::numbers_alike))]
 fn same_number(a: u32, b: u32) -> bool
-    ensures { result ≡ bytes_eq (text_le a 4) (text_le b 4) }
+    ensures { result ≡ bytes_eq (bytes_le a 4) (bytes_le b 4) }
 {
     a == b
 }
@@ -96,7 +96,7 @@ fn same_text(a: &Text, b: &Text) -> bool
 
 /// The number of a value of 4 bytes.
 pub(crate) fn read_number(kind: u16, value: &[u8]) -> Result<u32, RouteError>
-    ensures ok { IfOk result (λ number. read_as four_bytes value.now ≡ Some (text_le number 4)) }
+    ensures ok { IfOk result (λ number. read_as four_bytes value.now ≡ Some (bytes_le number 4)) }
     ensures err { IfErr result (λ _. read_as four_bytes value.now ≡ None) }
     ensures fault { IfErr result (IsValueFault four_bytes kind value.now) }
 {

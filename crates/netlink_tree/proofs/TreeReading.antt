@@ -3,7 +3,7 @@ use Rattle.std.proofs.Common.{◌≡◌, ◌≢◌, ◌⊎◌, ℕ, zero, suc, �
 use Rattle.netlink_packet_core.specs.Attribute.{Attribute}
 use Rattle.netlink_packet_core.specs.DecodeError.{DecodeError}
 use Rattle.netlink_packet_core.specs.DecodeError.TheVariants.{OutOfMemory}
-use Rattle.netlink_packet_core.specs.Passing.{Passes, passes_walks}
+use Rattle.netlink_packet_core.specs.Progress.{Passes, passes_walks}
 use Rattle.netlink_packet_core.specs.Views.{is_nested}
 use Rattle.netlink_packet_core.specs.Walk.{Starts, Walk, IsFault}
 use Rattle.netlink_tree.specs.Tree.{Tree, leaf, nest, Forest, no_trees, grow, AreWellFormed, views}

@@ -1,9 +1,9 @@
 -- Every byte list comes to an outcome.
 use Rattle.std.proofs.Common.{◌≡◌, ℕ, zero, suc, ◌+◌, List, [], ◌∷◌, ◌++◌, drop, Bool, true, false, refl, ap, ◌∙◌, inl, inr, arith, Option, Some, None, Result, Ok, Err}
 use Rattle.std.proofs.lemmas.List.{get_or-drop}
-use Rattle.netlink_packet_core.specs.Attribute.{Attribute, attribute_text}
+use Rattle.netlink_packet_core.specs.Attribute.{Attribute, attribute_bytes}
 use Rattle.netlink_packet_core.specs.DecodeError.{DecodeError}
-use Rattle.netlink_packet_core.specs.Numbers.{IsBytes, text_le}
+use Rattle.netlink_packet_core.specs.Numbers.{IsBytes, bytes_le}
 use Rattle.netlink_packet_core.specs.Views.{is_nested}
 use Rattle.netlink_packet_core.specs.StartLaws.{starts_bytes}
 use Rattle.netlink_packet_core.specs.Walk.{Starts, Walk}
@@ -26,8 +26,8 @@ front_bytes [] more each i = omega arith
 front_bytes (x ∷ v) more each zero = each 0
 front_bytes (x ∷ v) more each (suc i) = front_bytes v more (λ j. each (suc j)) i
 
-behind_header : (a : Attribute) (more : List ℕ) → drop 4 (attribute_text a ++ more) ≡ a.value ++ more
-unfolding text_le
+behind_header : (a : Attribute) (more : List ℕ) → drop 4 (attribute_bytes a ++ more) ≡ a.value ++ more
+unfolding bytes_le
 behind_header a more = refl
 
 value_bytes : (bytes : List ℕ) (a : Attribute) (rest : List ℕ) → Starts bytes a rest → IsBytes bytes → IsBytes a.value

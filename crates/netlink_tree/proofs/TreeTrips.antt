@@ -8,12 +8,12 @@ use Rattle.netlink_packet_core.specs.DecodeError.TheVariants.{OutOfMemory}
 use Rattle.netlink_packet_core.specs.Walk.{Walk}
 use Rattle.netlink_tree.specs.Tree.{Tree, leaf, nest, Forest, no_trees, grow, IsWellFormed, AreWellFormed, levels, levels_inside, TreeInRange, TreesInRange}
 use Rattle.netlink_tree.specs.Reading.{IsRead, Along, Trees}
-use Rattle.netlink_tree.specs.Writing.{written, attributes_of, tree_text, is_long, is_too_long, are_too_long, writing, IsCanonicalDeep, deep}
+use Rattle.netlink_tree.specs.Writing.{written, attributes_of, tree_bytes, is_long, is_too_long, are_too_long, writing, IsCanonicalDeep, deep}
 use Rattle.netlink_tree.specs.declared.fault.TreeFault.{TreeFault}
 use Rattle.netlink_tree.specs.declared.fault.TreeFault.TheVariants.{Decode}
 use Rattle.netlink_tree.proofs.TreeOnce.{WalksOnce}
 use Rattle.netlink_tree.proofs.TreeReading.{trees_formed}
-use Rattle.netlink_tree.proofs.TreeWriting.{IsDeep, neither, forest_fits, block_text, block_fits, text_deep, writing_ok, writing_is}
+use Rattle.netlink_tree.proofs.TreeWriting.{IsDeep, neither, forest_fits, block_bytes, block_fits, text_deep, writing_ok, writing_is}
 
 -- what is written of attributes walks as them
 abbrev pub WalksBack : Type 0
@@ -29,7 +29,7 @@ mutual
   tree_back walks (nest k no_trees) zero low formed range fit = (formed.0, refl, inl (refl, refl))
   tree_back walks (nest k (grow t ts)) zero low formed range fit = absurd (omega arith)
   tree_back walks (nest k ts) (suc n) low formed range fit =
-      let inside = neither (are_too_long ts) (is_long (tree_text ts)) fit in
+      let inside = neither (are_too_long ts) (is_long (tree_bytes ts)) fit in
       (formed.0, refl, (attributes_of ts, None, walks (attributes_of ts) (forest_fits ts range.1 inside.0), along_back walks ts n low formed.1 range.1 inside.0))
 
   along_back : WalksBack → (ts : Forest) (n : ℕ) → levels ts ≤ suc n → AreWellFormed ts → TreesInRange ts → are_too_long ts ≡ false → Along (Trees n) (attributes_of ts) None (Ok ts)
@@ -38,7 +38,7 @@ mutual
       let each = neither (is_too_long t) (are_too_long ts) fit in
       (tree_back walks t n (omega arith) formed.0 range.0 each.0, along_back walks ts n (omega arith) formed.1 range.1 each.1)
 
-trees_back : WalksBack → (ts : Forest) (n : ℕ) → levels ts ≤ suc n → AreWellFormed ts → TreesInRange ts → are_too_long ts ≡ false → Trees (suc n) (tree_text ts) (Ok ts)
+trees_back : WalksBack → (ts : Forest) (n : ℕ) → levels ts ≤ suc n → AreWellFormed ts → TreesInRange ts → are_too_long ts ≡ false → Trees (suc n) (tree_bytes ts) (Ok ts)
 unfolding Trees
 trees_back walks ts n low formed range fit = (attributes_of ts, None, walks (attributes_of ts) (forest_fits ts range fit), along_back walks ts n low formed range fit)
 
@@ -61,7 +61,7 @@ not_long v w e fits = rw e (grind arith)
 
 -- what is canonical at every depth reads as trees that are written as it
 abbrev IsWrittenAs : Forest → List ℕ → Type 0
-IsWrittenAs ts bytes = (tree_text ts ≡ bytes) × (are_too_long ts ≡ false)
+IsWrittenAs ts bytes = (tree_bytes ts ≡ bytes) × (are_too_long ts ≡ false)
 
 deep_along : (n : ℕ) → ((v : List ℕ) (ts : Forest) → IsCanonicalDeep v → Trees n v (Ok ts) → IsWrittenAs ts v) → (all : List Attribute) (ts : Forest) → All IsDeep all → All FitsAttribute all → Along (Trees n) all None (Ok ts) → (attributes_of ts ≡ all) × (are_too_long ts ≡ false)
 deep_along n inside [] no_trees are fit along = (refl, refl)
@@ -75,9 +75,9 @@ deep_along n inside (b ∷ more) (grow (leaf k v) ts) are fit along =
 deep_along n inside (b ∷ more) (grow (nest k inner) ts) are fit along =
     let later = deep_along n inside more ts (All-tail IsDeep b more are) (All-tail FitsAttribute b more fit) along.1 in
     let within = inside b.value inner (All-head IsDeep b more are along.0.0) along.0.2 in
-    let same = attribute_is b k (tree_text inner) along.0.1 within.0 in
+    let same = attribute_is b k (tree_bytes inner) along.0.1 within.0 in
     let e = later.0 in
-    (cc, rw (not_long (tree_text inner) b.value within.0 (All-head FitsAttribute b more fit).value, within.1) later.1)
+    (cc, rw (not_long (tree_bytes inner) b.value within.0 (All-head FitsAttribute b more fit).value, within.1) later.1)
 
 deep_trees : WalksOnce → WalksBack → (n : ℕ) (bytes : List ℕ) (ts : Forest) → IsCanonicalDeep bytes → Trees n bytes (Ok ts) → IsWrittenAs ts bytes
 unfolding Trees
@@ -85,7 +85,7 @@ deep_trees once walks zero bytes no_trees d trees = elim trees [ inl p ↦ (sym 
 deep_trees once walks zero bytes (grow x ts) d trees = absurd (elim trees [ inl p ↦ (let e = p.1 in cc) | inr p ↦ (let e = p.1 in cc) ])
 deep_trees once walks (suc n) _ ts (deep bytes all block inside) (found, fault, walk, along) =
     let are : All IsDeep all = All-weaker (Contains all) IsDeep inside all (All-contains_itself all) in
-    let text : canonical_block all ≡ bytes = block_text bytes all block in
+    let text : canonical_block all ≡ bytes = block_bytes bytes all block in
     let fits : All FitsAttribute all = block_fits bytes all block in
     let same = once bytes found all fault None walk (subst (λ (b : List ℕ). Walk b all None) text (walks all fits)) in
     let along_all = subst (λ (f : Option DecodeError). Along (Trees n) all f (Ok ts)) same.1 (subst (λ (each : List Attribute). Along (Trees n) each fault (Ok ts)) same.0 along) in
@@ -128,12 +128,12 @@ write_back once walks bytes ts trees = (
 
 -- ---- what a call wrote
 
-pub text_reads_back : WalksBack → (ts : Forest) (result : Result (Vec ℕ Global) TreeFault) → AreWellFormed ts → nat_lt 16 (levels ts) ≡ false → are_too_long ts ≡ false → OnOk result (TreesInRange ts) → MatchResult result (λ v. v.items ≡ tree_text ts) (λ e. e ≡ Decode OutOfMemory) → IfOk result (λ v. Trees 16 v.items (Ok ts))
+pub text_reads_back : WalksBack → (ts : Forest) (result : Result (Vec ℕ Global) TreeFault) → AreWellFormed ts → nat_lt 16 (levels ts) ≡ false → are_too_long ts ≡ false → OnOk result (TreesInRange ts) → MatchResult result (λ v. v.items ≡ tree_bytes ts) (λ e. e ≡ Decode OutOfMemory) → IfOk result (λ v. Trees 16 v.items (Ok ts))
 text_reads_back walks ts (Ok v) formed low fit range text =
     let shallow : levels ts ≤ 16 = grind (arith, low) in
     subst (λ (b : List ℕ). Trees 16 b (Ok ts)) (sym text) (trees_back walks ts 15 shallow formed range fit)
 text_reads_back walks ts (Err e) formed low fit range text = tt
 
-pub text_is_deep : (ts : Forest) (result : Result (Vec ℕ Global) TreeFault) → AreWellFormed ts → are_too_long ts ≡ false → OnOk result (TreesInRange ts) → MatchResult result (λ v. v.items ≡ tree_text ts) (λ e. e ≡ Decode OutOfMemory) → IfOk result (λ v. IsCanonicalDeep v.items)
+pub text_is_deep : (ts : Forest) (result : Result (Vec ℕ Global) TreeFault) → AreWellFormed ts → are_too_long ts ≡ false → OnOk result (TreesInRange ts) → MatchResult result (λ v. v.items ≡ tree_bytes ts) (λ e. e ≡ Decode OutOfMemory) → IfOk result (λ v. IsCanonicalDeep v.items)
 text_is_deep ts (Ok v) formed fit range text = subst IsCanonicalDeep (sym text) (text_deep ts formed range fit)
 text_is_deep ts (Err e) formed fit range text = tt

@@ -18,8 +18,8 @@ abbrev mutual
   attributes_of (grow t ts) = written t ∷ attributes_of ts
 
 -- the text of trees: the canonical block of the attributes that they are written as
-abbrev pub tree_text : Forest → List ℕ
-tree_text ts = canonical_block (attributes_of ts)
+abbrev pub tree_bytes : Forest → List ℕ
+tree_bytes ts = canonical_block (attributes_of ts)
 
 -- longer than the length field of an attribute can count
 abbrev pub is_long : List ℕ → Bool
@@ -29,7 +29,7 @@ abbrev mutual
   -- a value, or the text inside a nest, is too long
   pub is_too_long : Tree → Bool
   is_too_long (leaf kind value) = is_long value
-  is_too_long (nest kind children) = are_too_long children || is_long (tree_text children)
+  is_too_long (nest kind children) = are_too_long children || is_long (tree_bytes children)
 
   pub are_too_long : Forest → Bool
   are_too_long no_trees = false
@@ -37,7 +37,7 @@ abbrev mutual
 
 -- what the writing of trees comes to
 abbrev pub writing : Forest → Result (List ℕ) TreeFault
-writing ts = if nat_lt 16 (levels ts) then Err TooDeep else if are_too_long ts then Err TooLong else Ok (tree_text ts)
+writing ts = if nat_lt 16 (levels ts) then Err TooDeep else if are_too_long ts then Err TooLong else Ok (tree_bytes ts)
 
 -- a canonical block, and so is the value of each of its attributes with the bit of nested
 -- attributes, at every depth

@@ -4,11 +4,11 @@ ghost use Rattle.std.specs.Prelude.{◌≡◌, ◌+◌, ◌-◌, ◌≤◌, ◌�
 ghost use Rattle.netlink_packet_core.specs.Attribute.{padded};
 ghost use Rattle.netlink_packet_core.specs.Nla.{attribute_with};
 ghost use Rattle.netlink_packet_core.specs.DecodeError.{DecodeError};
-ghost use Rattle.netlink_packet_core.specs.Numbers.{text_le};
+ghost use Rattle.netlink_packet_core.specs.Numbers.{bytes_le};
 ghost use Rattle.netlink_packet_core.specs.Storage.{put_at};
 ghost use Rattle.netlink_tree.specs.Tree.{view, views, levels, AreWellFormed, TreesInRange};
 ghost use Rattle.netlink_tree.specs.Reading.{Trees};
-ghost use Rattle.netlink_tree.specs.Writing.{written, tree_text, is_long, is_too_long, are_too_long, writing, IsCanonicalDeep};
+ghost use Rattle.netlink_tree.specs.Writing.{written, tree_bytes, is_long, is_too_long, are_too_long, writing, IsCanonicalDeep};
 
 use crate::fault::TreeFault;
 use crate::tree::{GREATEST_DEPTH, NlaTree};
@@ -33,7 +33,7 @@ pub fn write_tree(alloc: Global, trees: &[NlaTree]) -> Result<Vec<u8>, TreeFault
     ensures text { MatchResult result
         (λ v. writing (views trees.now) ≡ Ok v.items)
         (λ e. (writing (views trees.now) ≡ Err e)
-        ⊎ ((e ≡ TreeFault.Decode DecodeError.OutOfMemory) × (writing (views trees.now) ≡ Ok (tree_text (views trees.now))))) }
+        ⊎ ((e ≡ TreeFault.Decode DecodeError.OutOfMemory) × (writing (views trees.now) ≡ Ok (tree_bytes (views trees.now))))) }
     ensures reads_back { IfOk result (λ v. Trees 16 v.items (Ok (views trees.now))) }
     ensures canonical { IfOk result (λ v. IsCanonicalDeep v.items) }
     ensures empty { trees.now ≡ [] → IsOk result }
@@ -45,7 +45,7 @@ pub fn write_tree(alloc: Global, trees: &[NlaTree]) -> Result<Vec<u8>, TreeFault
         None => Err(TreeFault::TooLong),
         Some(size) => {
             written_walks();
-            text_of(alloc, trees, size)
+            bytes_of(alloc, trees, size)
         }
     }
 }
@@ -73,7 +73,7 @@ fn is_too_deep(trees: &[NlaTree], limit: usize) -> bool
 fn whole_size(trees: &[NlaTree]) -> Option<usize>
     ensures { MatchOption result
         (are_too_long (views trees.now) ≡ true)
-        (λ n. (are_too_long (views trees.now) ≡ false) × (n ≡ min (length (tree_text (views trees.now))) usize.MAX)) }
+        (λ n. (are_too_long (views trees.now) ≡ false) × (n ≡ min (length (tree_bytes (views trees.now))) usize.MAX)) }
 {
     let mut size: usize = 0;
     for tree in trees {
@@ -100,8 +100,8 @@ fn value_size(tree: &NlaTree) -> Option<usize>
 #[cycle(sizes)]
 fn text_size(trees: &[NlaTree]) -> Option<usize>
     ensures { MatchOption result
-        (are_too_long (views trees.now) || is_long (tree_text (views trees.now)) ≡ true)
-        (λ n. (are_too_long (views trees.now) ≡ false) × (n ≤ 65531) × (n ≡ length (tree_text (views trees.now)))) }
+        (are_too_long (views trees.now) || is_long (tree_bytes (views trees.now)) ≡ true)
+        (λ n. (are_too_long (views trees.now) ≡ false) × (n ≤ 65531) × (n ≡ length (tree_bytes (views trees.now)))) }
 {
     let mut size = 0;
     for tree in trees {
@@ -114,10 +114,10 @@ fn text_size(trees: &[NlaTree]) -> Option<usize>
 }
 
 /// The text of trees, in a block that is asked for so many bytes at once.
-fn text_of(alloc: Global, trees: &[NlaTree], size: usize) -> Result<Vec<u8>, TreeFault>
+fn bytes_of(alloc: Global, trees: &[NlaTree], size: usize) -> Result<Vec<u8>, TreeFault>
     requires short { are_too_long (views trees.now) ≡ false }
     requires size { trees.now ≡ [] → size ≡ 0 }
-    ensures text { MatchResult result (λ v. v.items ≡ tree_text (views trees.now)) (λ e. e ≡ TreeFault.Decode DecodeError.OutOfMemory) }
+    ensures text { MatchResult result (λ v. v.items ≡ tree_bytes (views trees.now)) (λ e. e ≡ TreeFault.Decode DecodeError.OutOfMemory) }
     ensures in_range { OnOk result (TreesInRange (views trees.now)) }
     ensures empty { trees.now ≡ [] → IsOk result }
 {
@@ -130,7 +130,7 @@ fn text_of(alloc: Global, trees: &[NlaTree], size: usize) -> Result<Vec<u8>, Tre
 #[cycle(writing)]
 fn append_trees(alloc: Global, block: &mut Vec<u8>, trees: &[NlaTree]) -> Result<(), TreeFault>
     requires { are_too_long (views trees.now) ≡ false }
-    ensures ok { OnOk result (block.new.items ≡ block.old.items ++ tree_text (views trees.now)) }
+    ensures ok { OnOk result (block.new.items ≡ block.old.items ++ tree_bytes (views trees.now)) }
     ensures in_range { OnOk result (TreesInRange (views trees.now)) }
     ensures err { IfErr result (λ e. e ≡ TreeFault.Decode DecodeError.OutOfMemory) }
     ensures empty { trees.now ≡ [] → IsOk result }
@@ -154,8 +154,8 @@ fn append_nest(
     children: &[NlaTree],
 ) -> Result<(), TreeFault>
     requires inside { are_too_long (views children.now) ≡ false }
-    requires fits { length (tree_text (views children.now)) ≤ 65531 }
-    ensures ok { OnOk result (block.new.items ≡ block.old.items ++ padded (attribute_with kind (tree_text (views children.now)))) }
+    requires fits { length (tree_bytes (views children.now)) ≤ 65531 }
+    ensures ok { OnOk result (block.new.items ≡ block.old.items ++ padded (attribute_with kind (tree_bytes (views children.now)))) }
     ensures in_range { OnOk result (TreesInRange (views children.now)) }
     ensures err { IfErr result (λ e. e ≡ TreeFault.Decode DecodeError.OutOfMemory) }
 {
@@ -170,7 +170,7 @@ fn append_nest(
 fn count_from(block: &mut Vec<u8>, start: usize)
     requires inside { start + 4 ≤ length block.old.items }
     requires fits { length block.old.items ≤ start + 65535 }
-    ensures { block.new.items ≡ put_at block.old.items start (text_le (length block.old.items - start) 2) }
+    ensures { block.new.items ≡ put_at block.old.items start (bytes_le (length block.old.items - start) 2) }
 {
     let size = block.len() - start;
     put_u16(block, start, size as u16);

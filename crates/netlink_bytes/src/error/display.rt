@@ -63,7 +63,7 @@ impl fmt::Display for DecodeError {
                 "Buffer too small: {buffer_len} (should be at least {value_len} bytes"
             ),
             DecodeError::FrameShort { size, inside } => {
-                f.write_str(frame_prefix(*inside))?;
+                f.write_str(frame_line(*inside))?;
                 write!(
                     f,
                     "invalid netlink buffer length caused by invalid netlink buffer: length is {size} but netlink packets are at least 16 bytes"
@@ -74,28 +74,28 @@ impl fmt::Display for DecodeError {
                 size,
                 inside,
             } => {
-                f.write_str(frame_prefix(*inside))?;
+                f.write_str(frame_line(*inside))?;
                 write!(
                     f,
                     "invalid netlink buffer length caused by invalid netlink buffer: length field says {length} the buffer is {size} bytes long"
                 )
             }
             DecodeError::FrameLength { length, inside } => {
-                f.write_str(frame_prefix(*inside))?;
+                f.write_str(frame_line(*inside))?;
                 write!(
                     f,
                     "invalid netlink buffer length caused by invalid netlink buffer: length field says {length} but netlink packets are at least 16 bytes"
                 )
             }
             DecodeError::DoneShort { size, inside } => {
-                f.write_str(done_prefix(*inside))?;
+                f.write_str(done_line(*inside))?;
                 write!(
                     f,
                     "invalid DoneBuffer length caused by invalid DoneBuffer: length is {size} but DoneBuffer are at least 4 bytes"
                 )
             }
             DecodeError::ErrorShort { size, inside } => {
-                f.write_str(error_prefix(*inside))?;
+                f.write_str(error_line(*inside))?;
                 write!(
                     f,
                     "invalid ErrorBuffer length caused by invalid ErrorBuffer: length is {size} but ErrorBuffer are at least 4 bytes"
@@ -109,7 +109,7 @@ impl fmt::Display for DecodeError {
 }
 
 /// The line that stands in front of a frame's fault.
-fn frame_prefix(inside: bool) -> &'static str
+fn frame_line(inside: bool) -> &'static str
     ensures { result.now ≡ frame_line inside }
 {
     if inside {
@@ -120,7 +120,7 @@ fn frame_prefix(inside: bool) -> &'static str
 }
 
 /// The line that stands in front of the fault of a done message's body.
-fn done_prefix(inside: bool) -> &'static str
+fn done_line(inside: bool) -> &'static str
     ensures { result.now ≡ done_line inside }
 {
     if inside {
@@ -131,7 +131,7 @@ fn done_prefix(inside: bool) -> &'static str
 }
 
 /// The line that stands in front of the fault of an error message's body.
-fn error_prefix(inside: bool) -> &'static str
+fn error_line(inside: bool) -> &'static str
     ensures { result.now ≡ error_line inside }
 {
     if inside {

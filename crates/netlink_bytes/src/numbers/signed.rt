@@ -1,6 +1,6 @@
 //! Numbers in two's complement, by way of those without a sign.
 
-ghost use Rattle.netlink_bytes.specs.Numbers.{Reads, Writes, number_be, number_le, signed, text_be, text_le, unsigned};
+ghost use Rattle.netlink_bytes.specs.Numbers.{Reads, Writes, number_be, number_le, signed, bytes_be, bytes_le, unsigned};
 
 use crate::error::DecodeError;
 use crate::numbers::unsigned::{
@@ -38,7 +38,7 @@ pub fn parse_i16_le(payload: &[u8]) -> Result<i16, DecodeError>
 /// the rest.
 /// A shorter buffer is refused with `BufferTooSmall` and stays as it was.
 pub fn emit_i16(buf: &mut [u8], value: i16) -> Result<(), DecodeError>
-    ensures writes { Writes (text_le (unsigned 2 value) 2) 2 buf.old buf.new result }
+    ensures writes { Writes (bytes_le (unsigned 2 value) 2) 2 buf.old buf.new result }
 {
     emit_u16(buf, value.cast_unsigned())
 }
@@ -47,7 +47,7 @@ pub fn emit_i16(buf: &mut [u8], value: i16) -> Result<(), DecodeError>
 /// leaves the rest.
 /// A shorter buffer is refused with `BufferTooSmall` and stays as it was.
 pub fn emit_i16_be(buf: &mut [u8], value: i16) -> Result<(), DecodeError>
-    ensures writes { Writes (text_be (unsigned 2 value) 2) 2 buf.old buf.new result }
+    ensures writes { Writes (bytes_be (unsigned 2 value) 2) 2 buf.old buf.new result }
 {
     emit_u16_be(buf, value.cast_unsigned())
 }
@@ -56,7 +56,7 @@ pub fn emit_i16_be(buf: &mut [u8], value: i16) -> Result<(), DecodeError>
 /// leaves the rest.
 /// A shorter buffer is refused with `BufferTooSmall` and stays as it was.
 pub fn emit_i16_le(buf: &mut [u8], value: i16) -> Result<(), DecodeError>
-    ensures writes { Writes (text_le (unsigned 2 value) 2) 2 buf.old buf.new result }
+    ensures writes { Writes (bytes_le (unsigned 2 value) 2) 2 buf.old buf.new result }
 {
     emit_u16_le(buf, value.cast_unsigned())
 }
@@ -89,7 +89,7 @@ pub fn parse_i32_le(payload: &[u8]) -> Result<i32, DecodeError>
 /// the rest.
 /// A shorter buffer is refused with `BufferTooSmall` and stays as it was.
 pub fn emit_i32(buf: &mut [u8], value: i32) -> Result<(), DecodeError>
-    ensures writes { Writes (text_le (unsigned 4 value) 4) 4 buf.old buf.new result }
+    ensures writes { Writes (bytes_le (unsigned 4 value) 4) 4 buf.old buf.new result }
 {
     emit_u32(buf, value.cast_unsigned())
 }
@@ -98,7 +98,7 @@ pub fn emit_i32(buf: &mut [u8], value: i32) -> Result<(), DecodeError>
 /// leaves the rest.
 /// A shorter buffer is refused with `BufferTooSmall` and stays as it was.
 pub fn emit_i32_be(buf: &mut [u8], value: i32) -> Result<(), DecodeError>
-    ensures writes { Writes (text_be (unsigned 4 value) 4) 4 buf.old buf.new result }
+    ensures writes { Writes (bytes_be (unsigned 4 value) 4) 4 buf.old buf.new result }
 {
     emit_u32_be(buf, value.cast_unsigned())
 }
@@ -107,7 +107,7 @@ pub fn emit_i32_be(buf: &mut [u8], value: i32) -> Result<(), DecodeError>
 /// leaves the rest.
 /// A shorter buffer is refused with `BufferTooSmall` and stays as it was.
 pub fn emit_i32_le(buf: &mut [u8], value: i32) -> Result<(), DecodeError>
-    ensures writes { Writes (text_le (unsigned 4 value) 4) 4 buf.old buf.new result }
+    ensures writes { Writes (bytes_le (unsigned 4 value) 4) 4 buf.old buf.new result }
 {
     emit_u32_le(buf, value.cast_unsigned())
 }
@@ -140,7 +140,7 @@ pub fn parse_i64_le(payload: &[u8]) -> Result<i64, DecodeError>
 /// the rest.
 /// A shorter buffer is refused with `BufferTooSmall` and stays as it was.
 pub fn emit_i64(buf: &mut [u8], value: i64) -> Result<(), DecodeError>
-    ensures writes { Writes (text_le (unsigned 8 value) 8) 8 buf.old buf.new result }
+    ensures writes { Writes (bytes_le (unsigned 8 value) 8) 8 buf.old buf.new result }
 {
     emit_u64(buf, value.cast_unsigned())
 }
@@ -149,7 +149,7 @@ pub fn emit_i64(buf: &mut [u8], value: i64) -> Result<(), DecodeError>
 /// leaves the rest.
 /// A shorter buffer is refused with `BufferTooSmall` and stays as it was.
 pub fn emit_i64_be(buf: &mut [u8], value: i64) -> Result<(), DecodeError>
-    ensures writes { Writes (text_be (unsigned 8 value) 8) 8 buf.old buf.new result }
+    ensures writes { Writes (bytes_be (unsigned 8 value) 8) 8 buf.old buf.new result }
 {
     emit_u64_be(buf, value.cast_unsigned())
 }
@@ -158,7 +158,7 @@ pub fn emit_i64_be(buf: &mut [u8], value: i64) -> Result<(), DecodeError>
 /// leaves the rest.
 /// A shorter buffer is refused with `BufferTooSmall` and stays as it was.
 pub fn emit_i64_le(buf: &mut [u8], value: i64) -> Result<(), DecodeError>
-    ensures writes { Writes (text_le (unsigned 8 value) 8) 8 buf.old buf.new result }
+    ensures writes { Writes (bytes_le (unsigned 8 value) 8) 8 buf.old buf.new result }
 {
     emit_u64_le(buf, value.cast_unsigned())
 }
@@ -191,7 +191,7 @@ pub fn parse_i128_le(payload: &[u8]) -> Result<i128, DecodeError>
 /// the rest.
 /// A shorter buffer is refused with `BufferTooSmall` and stays as it was.
 pub fn emit_i128(buf: &mut [u8], value: i128) -> Result<(), DecodeError>
-    ensures writes { Writes (text_le (unsigned 16 value) 16) 16 buf.old buf.new result }
+    ensures writes { Writes (bytes_le (unsigned 16 value) 16) 16 buf.old buf.new result }
 {
     emit_u128(buf, value.cast_unsigned())
 }
@@ -200,7 +200,7 @@ pub fn emit_i128(buf: &mut [u8], value: i128) -> Result<(), DecodeError>
 /// leaves the rest.
 /// A shorter buffer is refused with `BufferTooSmall` and stays as it was.
 pub fn emit_i128_be(buf: &mut [u8], value: i128) -> Result<(), DecodeError>
-    ensures writes { Writes (text_be (unsigned 16 value) 16) 16 buf.old buf.new result }
+    ensures writes { Writes (bytes_be (unsigned 16 value) 16) 16 buf.old buf.new result }
 {
     emit_u128_be(buf, value.cast_unsigned())
 }
@@ -209,7 +209,7 @@ pub fn emit_i128_be(buf: &mut [u8], value: i128) -> Result<(), DecodeError>
 /// leaves the rest.
 /// A shorter buffer is refused with `BufferTooSmall` and stays as it was.
 pub fn emit_i128_le(buf: &mut [u8], value: i128) -> Result<(), DecodeError>
-    ensures writes { Writes (text_le (unsigned 16 value) 16) 16 buf.old buf.new result }
+    ensures writes { Writes (bytes_le (unsigned 16 value) 16) 16 buf.old buf.new result }
 {
     emit_u128_le(buf, value.cast_unsigned())
 }

@@ -2,7 +2,7 @@
 
 ghost use Rattle.std.specs.Prelude.{◌≡◌, ◌≤◌, ◌++◌, length};
 ghost use Rattle.netlink_bytes.specs.Fields.{number_at};
-ghost use Rattle.netlink_bytes.specs.Numbers.{signed, text_le, unsigned};
+ghost use Rattle.netlink_bytes.specs.Numbers.{signed, bytes_le, unsigned};
 
 use crate::laws::{fields_kept, placed_is_read};
 use crate::{i32_at, put_i32, put_u16, put_u32, u16_at, u32_at};
@@ -30,11 +30,11 @@ fn read(bytes: &[u8]) -> Place
 }
 
 /// Writes the header, which takes the whole buffer.
-#[tactic(auto, unfolding(crate::specs::Numbers::text_le))]
+#[tactic(auto, unfolding(crate::specs::Numbers::bytes_le))]
 fn write(place: Place, buffer: &mut [u8])
     requires { length buffer.old ≡ 10 }
-    ensures { buffer.new ≡ text_le place.kind 2
-        ++ (text_le (unsigned 4 place.offset) 4 ++ text_le place.size 4) }
+    ensures { buffer.new ≡ bytes_le place.kind 2
+        ++ (bytes_le (unsigned 4 place.offset) 4 ++ bytes_le place.size 4) }
 {
     put_u16(buffer, 0, place.kind);
     put_i32(buffer, 2, place.offset);

@@ -8,16 +8,16 @@ use std::test::Fail;
 
 /// How many bytes there are.
 fn count<T: Storage>(storage: &T) -> usize
-    ensures { result ≡ length (T.held storage.now) }
+    ensures { result ≡ length (T.contents storage.now) }
 {
     storage.bytes().len()
 }
 
 /// Writes one byte.
 fn set_at<T: StorageMut>(storage: &mut T, at: usize, value: u8)
-    requires { at < length (T.held storage.old) }
-    ensures held { T.held storage.new ≡ slice_set (T.held storage.old) at value }
-    ensures same { storage.new ≡ T.holding storage.old (slice_set (T.held storage.old) at value) }
+    requires { at < length (T.contents storage.old) }
+    ensures held { T.contents storage.new ≡ slice_set (T.contents storage.old) at value }
+    ensures same { storage.new ≡ T.with_contents storage.old (slice_set (T.contents storage.old) at value) }
 {
     let bytes = storage.bytes_mut();
     bytes[at] = value;
@@ -26,8 +26,8 @@ fn set_at<T: StorageMut>(storage: &mut T, at: usize, value: u8)
 /// Writes a part of the bytes.
 fn fill_part<T: StorageMut>(storage: &mut T, start: usize, end: usize, value: u8)
     requires order { start ≤ end }
-    requires inside { end ≤ length (T.held storage.old) }
-    ensures held { T.held storage.new ≡ put_at (T.held storage.old) start (replicate (end - start) value) }
+    requires inside { end ≤ length (T.contents storage.old) }
+    ensures held { T.contents storage.new ≡ put_at (T.contents storage.old) start (replicate (end - start) value) }
 {
     let part = storage.part_mut(start, end);
     part.fill(value);
@@ -42,9 +42,9 @@ struct View<T> {
 impl<T: StorageMut> View<T> {
     /// Writes one byte.
     fn set(&mut self, at: usize, value: u8)
-        requires { at < length (T.held self.old.storage) }
-        ensures held { T.held self.new.storage ≡ slice_set (T.held self.old.storage) at value }
-        ensures same { self.new.storage ≡ T.holding self.old.storage (slice_set (T.held self.old.storage) at value) }
+        requires { at < length (T.contents self.old.storage) }
+        ensures held { T.contents self.new.storage ≡ slice_set (T.contents self.old.storage) at value }
+        ensures same { self.new.storage ≡ T.with_contents self.old.storage (slice_set (T.contents self.old.storage) at value) }
     {
         set_at(&mut self.storage, at, value);
     }

@@ -2,7 +2,7 @@
 #![tactic(auto, using(crate::specs::NumberLaws::text_sizes))]
 
 ghost use Rattle.std.specs.Prelude.{◌≡◌, ◌≢◌, ◌<◌, ◌^◌, ⊤, [], true, length, if◌then◌else◌, IfOk};
-ghost use Rattle.netlink_bytes.specs.Numbers.{number_be, number_le, text_le};
+ghost use Rattle.netlink_bytes.specs.Numbers.{number_be, number_le, bytes_le};
 ghost use Rattle.netlink_bytes.specs.declared.error.DecodeError.TheVariants.{InvalidNumber};
 
 use crate::{
@@ -16,7 +16,7 @@ use std::test::Fail;
 struct Word(u16);
 
 impl Emitable for Word {
-    ghost text = { λ word. text_le word.0 2 };
+    ghost bytes = { λ word. bytes_le word.0 2 };
 
     ghost can_emit = { λ _. ⊤ };
 
@@ -77,8 +77,8 @@ impl<'a> Parseable<&'a [u8]> for Copied {
 fn written<E: Emitable>(alloc: Global, value: &E) -> Result<Vec<u8>, AllocError>
     requires can { E.can_emit value.now }
     requires longer { E.takes_longer ≡ true }
-    requires in_size { length (E.text value.now) < 2 ^ 64 }
-    ensures { IfOk result (λ bytes. bytes.items ≡ E.text value.now) }
+    requires in_size { length (E.bytes value.now) < 2 ^ 64 }
+    ensures { IfOk result (λ bytes. bytes.items ≡ E.bytes value.now) }
 {
     let mut bytes = vec![in alloc; 0; value.buffer_len()]?;
     value.emit(&mut bytes);

@@ -210,7 +210,9 @@ fn frames_are_normalised(rt: HostRuntime) -> Result<(), Fail> {
     Zeros(4).append(&mut text)?;
     PingPongMessage::Ping([5u8].to_vec(alloc)?).append(&mut text)?;
     assert!(rt; text.as_slice() == [0, 0, 0, 0, 5].as_slice());
-    assert!(rt; Zeros(4).is_text(alloc, &text[..4])? && !Zeros(5).is_text(alloc, &text)?);
+    assert!(rt;
+        Zeros(4).is_written_as(alloc, &text[..4])? && !Zeros(5).is_written_as(alloc, &text)?
+    );
     Ok(())
 }
 

@@ -26,7 +26,7 @@ impl fmt::Display for NotABeat {
 impl Error for NotABeat {}
 
 impl NetlinkSerializable for Beat {
-    ghost encoding = { record { type_of = λ _. 16; text_of = λ _. [] } };
+    ghost encoding = { record { type_of = λ _. 16; bytes_of = λ _. [] } };
 
     fn message_type(&self) -> u16 {
         16

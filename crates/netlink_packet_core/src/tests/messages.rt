@@ -156,7 +156,7 @@ struct Zeros {
 }
 
 impl NetlinkSerializable for Zeros {
-    ghost encoding = { record { type_of = λ _. 16; text_of = λ zeros. replicate zeros.count 0 } };
+    ghost encoding = { record { type_of = λ _. 16; bytes_of = λ zeros. replicate zeros.count 0 } };
 
     fn message_type(&self) -> u16 {
         16
@@ -185,7 +185,9 @@ fn a_message_that_does_not_fit(rt: HostRuntime) -> Result<(), Fail> {
     let mut frame = [7u8].to_vec(rt.alloc())?;
     two.append(&mut frame)?;
     assert_eq!(rt; frame.as_slice(), [7, 0, 0].as_slice());
-    assert!(rt; two.is_text(rt.alloc(), &[0, 0])? && !two.is_text(rt.alloc(), &[0, 1])?);
-    assert!(rt; !two.is_text(rt.alloc(), &[0])?);
+    assert!(rt;
+        two.is_written_as(rt.alloc(), &[0, 0])? && !two.is_written_as(rt.alloc(), &[0, 1])?
+    );
+    assert!(rt; !two.is_written_as(rt.alloc(), &[0])?);
     Ok(())
 }

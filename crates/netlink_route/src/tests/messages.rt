@@ -1,6 +1,9 @@
 //! Messages that are read, changed and written.
 
-use crate::{AddressAttribute, AddressVerb, InfoAttribute, IpBytes, LinkAttribute, LinkVerb, RouteMessage, Text};
+use crate::{
+    AddressAttribute, AddressVerb, InfoAttribute, IpBytes, LinkAttribute, LinkVerb, RouteMessage,
+    Text,
+};
 use netlink_packet_core::laws::reads_back;
 use netlink_packet_core::{NetlinkMessage, NetlinkPayload, Nla, normalize};
 use std::test::Fail;
@@ -82,7 +85,12 @@ fn an_address_is_read_and_written(rt: HostRuntime) -> Result<(), Fail> {
             assert!(rt; *verb == AddressVerb::New);
             assert_eq!(rt; address.header.prefix_len, 24);
             match address.attributes.list.as_slice() {
-                [AddressAttribute::Address(ip), _, AddressAttribute::Flags(0x80), _] => {
+                [
+                    AddressAttribute::Address(ip),
+                    _,
+                    AddressAttribute::Flags(0x80),
+                    _,
+                ] => {
                     assert_eq!(rt; ip.bytes.as_slice(), [192, 0, 2, 1].as_slice());
                 }
                 _ => assert!(rt; false),

@@ -1,7 +1,7 @@
 use Rattle.std.proofs.Common.{[], ◌∷◌, ◌++◌}
 use Rattle.netlink_attributes.specs.Steps.{unread}
 use Rattle.netlink_attributes.specs.Views.{attribute_of}
-use Rattle.netlink_attributes.specs.Passing.{passes_push, passes_ends, passes_faults}
+use Rattle.netlink_attributes.specs.Progress.{passes_push, passes_ends, passes_faults}
 use Rattle.netlink_attributes.proofs.block.check_walk.Goals as goal
 
 pub loop-item-preserved : goal.loop-item-preserved

@@ -1,7 +1,7 @@
 use Rattle.std.proofs.Common.{List}
 use Rattle.netlink_attributes.specs.Attribute.{Attribute}
 use Rattle.netlink_attributes.specs.Steps.{unread}
-use Rattle.netlink_attributes.specs.Passing.{Passes}
+use Rattle.netlink_attributes.specs.Progress.{Passes}
 use Rattle.netlink_attributes.proofs.block.check_walk.Given as goal
 
 -- some attributes are passed

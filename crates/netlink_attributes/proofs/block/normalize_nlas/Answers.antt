@@ -1,7 +1,7 @@
 use Rattle.std.proofs.Common.{Global, List, Ok, Result, Vec, refl, ℕ}
 use Rattle.std.proofs.lemmas.Result.{err_from_is_err_and}
 use Rattle.netlink_bytes.specs.declared.error.DecodeError.{DecodeError}
-use Rattle.netlink_attributes.proofs.Normalizing.{IsAnswer, no_fault, same_fault, no_canonical_fault, empty_canonical, answer_copied, answer_ok, answer_err, answer_writes, answer_fixed, answer_canonical, answer_unchanged}
+use Rattle.netlink_attributes.proofs.NormalLemmas.{IsAnswer, no_fault, same_fault, no_canonical_fault, empty_canonical, answer_copied, answer_ok, answer_err, answer_writes, answer_fixed, answer_canonical, answer_unchanged}
 use Rattle.netlink_attributes.proofs.block.normalize_nlas.Goals as goal
 
 pub returns-then-is_canonical_nlas : goal.returns-then-is_canonical_nlas

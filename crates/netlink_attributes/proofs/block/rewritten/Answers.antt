@@ -2,8 +2,8 @@ use Rattle.std.proofs.Common.{List, [], ◌∷◌, ◌++◌, ap, inr, sym, ◌�
 use Rattle.netlink_attributes.specs.Attribute.{Attribute}
 use Rattle.netlink_attributes.specs.Steps.{unread}
 use Rattle.netlink_attributes.specs.Views.{attribute_of, length_field}
-use Rattle.netlink_attributes.proofs.Normalizing.{written_push}
-use Rattle.netlink_attributes.specs.Passing.{passes_push, passes_ends, passes_faults}
+use Rattle.netlink_attributes.proofs.NormalLemmas.{written_push}
+use Rattle.netlink_attributes.specs.Progress.{passes_push, passes_ends, passes_faults}
 use Rattle.netlink_attributes.proofs.block.rewritten.Goals as goal
 
 pub loop-item-preserved : goal.loop-item-preserved

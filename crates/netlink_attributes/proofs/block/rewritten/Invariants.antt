@@ -2,7 +2,7 @@ use Rattle.std.proofs.Common.{List, ◌≡◌}
 use Rattle.netlink_attributes.specs.Attribute.{Attribute}
 use Rattle.netlink_attributes.specs.Block.{canonical_block}
 use Rattle.netlink_attributes.specs.Steps.{unread}
-use Rattle.netlink_attributes.specs.Passing.{Passes}
+use Rattle.netlink_attributes.specs.Progress.{Passes}
 use Rattle.netlink_attributes.proofs.block.rewritten.Given as goal
 
 -- some attributes are passed, and they are written

@@ -1,11 +1,11 @@
 use Rattle.std.proofs.Common.{ℕ, List, [], ◌∷◌, ◌++◌, ◌≡◌, ◌≢◌, ◌+◌, ap, sym, ◌∙◌, arith, length-append}
 use Rattle.netlink_attributes.specs.Attribute.{Attribute}
 use Rattle.netlink_attributes.specs.Kinds.{kind_by}
-use Rattle.netlink_attributes.specs.Passing.{passes_push, passes_ends, passes_faults}
+use Rattle.netlink_attributes.specs.Progress.{passes_push, passes_ends, passes_faults}
 use Rattle.netlink_attributes.specs.StartLaws.{starts-length}
 use Rattle.netlink_attributes.specs.Steps.{unread}
 use Rattle.netlink_attributes.specs.Views.{attribute_of, raw_kind}
-use Rattle.netlink_attributes.proofs.Finding.{none_push, found_first, none_found}
+use Rattle.netlink_attributes.proofs.FindLemmas.{none_push, found_first, none_found}
 use Rattle.netlink_attributes.proofs.find.find.Goals as goal
 
 pub returns-then-found-kind-clause-first : goal.returns-then-found-kind-clause-first

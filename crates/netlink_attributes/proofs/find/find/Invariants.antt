@@ -1,7 +1,7 @@
 use Rattle.std.proofs.Common.{List, ◌≡◌, ◌≤◌, ◌+◌, ◌*◌, length}
 use Rattle.netlink_attributes.specs.Attribute.{Attribute}
 use Rattle.netlink_attributes.specs.Kinds.{HasNone, kind_by}
-use Rattle.netlink_attributes.specs.Passing.{Passes}
+use Rattle.netlink_attributes.specs.Progress.{Passes}
 use Rattle.netlink_attributes.specs.Steps.{unread}
 use Rattle.netlink_attributes.proofs.find.find.Given as goal
 

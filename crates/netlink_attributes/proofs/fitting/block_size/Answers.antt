@@ -1,5 +1,5 @@
 use Rattle.std.proofs.Common.{arith}
-use Rattle.netlink_attributes.proofs.Sizing.{each_attribute}
+use Rattle.netlink_attributes.proofs.SizeLemmas.{each_attribute}
 use Rattle.netlink_attributes.proofs.fitting.block_size.Goals as goal
 
 pub returns-clause-each : goal.returns-clause-each

@@ -1,4 +1,4 @@
-use Rattle.netlink_attributes.proofs.Sizing.{FitSoFar}
+use Rattle.netlink_attributes.proofs.SizeLemmas.{FitSoFar}
 use Rattle.netlink_attributes.proofs.fitting.block_size.Given as goal
 
 abbrev pub invariant-loop-nla : goal.invariant-loop-nla

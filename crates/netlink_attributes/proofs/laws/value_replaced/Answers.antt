@@ -1,4 +1,4 @@
-use Rattle.netlink_attributes.proofs.Replacing.{value_replaced, written_replaced}
+use Rattle.netlink_attributes.proofs.ReplaceLemmas.{value_replaced, written_replaced}
 use Rattle.netlink_attributes.proofs.laws.value_replaced.Goals as goal
 
 pub returns-clause-walk : goal.returns-clause-walk

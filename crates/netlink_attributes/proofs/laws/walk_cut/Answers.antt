@@ -1,4 +1,4 @@
-use Rattle.netlink_attributes.proofs.Cutting.{cut_attributes, cut_is_fault, cut_no_fault}
+use Rattle.netlink_attributes.proofs.CutLemmas.{cut_attributes, cut_is_fault, cut_no_fault}
 use Rattle.netlink_attributes.proofs.laws.walk_cut.Goals as goal
 
 pub returns-clause-attributes : goal.returns-clause-attributes

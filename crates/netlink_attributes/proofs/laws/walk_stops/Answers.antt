@@ -1,4 +1,4 @@
-use Rattle.netlink_attributes.proofs.Walking.{nothing_given}
+use Rattle.netlink_attributes.proofs.WalkLemmas.{nothing_given}
 use Rattle.netlink_attributes.proofs.laws.walk_stops.Goals as goal
 
 pub returns : goal.returns

@@ -4,7 +4,7 @@ use borrow.Rule.Slice.PartMut.{put_mid}
 use Rattle.netlink_attributes.specs.Attribute.{padded}
 use Rattle.netlink_attributes.specs.Block.{canonical_block}
 use Rattle.netlink_attributes.specs.Nla.{attribute_with, attributes_of}
-use Rattle.netlink_attributes.proofs.Writing.{block-cons, moved_on, put_last}
+use Rattle.netlink_attributes.proofs.WriteLemmas.{block-cons, moved_on, put_last}
 use Rattle.netlink_attributes.proofs.nlas.write_nlas.Goals as goal
 
 pub loop-nla-preserved : goal.loop-nla-preserved

@@ -2,7 +2,7 @@ use Rattle.std.proofs.Common.{ℕ, List, length, ap, sym, ◌∙◌, arith, Bor}
 use Rattle.std.specs.Option.{option_map}
 use Rattle.netlink_attributes.specs.Places.{value_part}
 use Rattle.netlink_attributes.specs.Views.{length_field}
-use Rattle.netlink_attributes.proofs.Placing.{none_left, place_next, place_here, same_place}
+use Rattle.netlink_attributes.proofs.PlaceLemmas.{none_left, place_next, place_here, same_place}
 use Rattle.netlink_attributes.specs.StartLaws.{nothing_starts, starts-fault, starts-length}
 use Rattle.netlink_attributes.proofs.place.nla_place.Goals as goal
 

@@ -1,4 +1,4 @@
-use Rattle.netlink_c.proofs.Refusing.{again_out}
+use Rattle.netlink_c.proofs.RefusalLemmas.{again_out}
 use Rattle.netlink_c.proofs.normal.nlp_frame_normalize.Goals as goal
 
 pub returns-in-Ok-clause-again : goal.returns-in-Ok-clause-again

@@ -1,5 +1,5 @@
 use Rattle.std.proofs.Common.{arith}
-use Rattle.netlink_c.proofs.Putting.{grows_block}
+use Rattle.netlink_c.proofs.PutLemmas.{grows_block}
 use Rattle.netlink_c.proofs.put.put.Goals as goal
 
 pub returns-clause-block : goal.returns-clause-block

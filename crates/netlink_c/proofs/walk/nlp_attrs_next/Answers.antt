@@ -1,6 +1,6 @@
 use Rattle.std.proofs.Common.{◌∙◌, arith}
 use Rattle.std.proofs.lemmas.List.{take_rest}
-use Rattle.netlink_c.proofs.Walking.{attribute_given}
+use Rattle.netlink_c.proofs.WalkLemmas.{attribute_given}
 use Rattle.netlink_c.proofs.walk.nlp_attrs_next.Goals as goal
 
 pub returns-in-Some-Ok-clause-item : goal.returns-in-Some-Ok-clause-item

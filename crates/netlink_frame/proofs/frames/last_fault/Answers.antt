@@ -1,5 +1,5 @@
 use Rattle.std.proofs.Common.{[], ◌∷◌, ◌++◌, rules}
-use Rattle.netlink_packet_core.specs.FramePassing.{passes_frames_none, passes_frames_push, passes_frames_end, passes_frames_fault}
+use Rattle.netlink_packet_core.specs.FrameProgress.{passes_frames_none, passes_frames_push, passes_frames_end, passes_frames_fault}
 use Rattle.netlink_tree.specs.FrameSteps.{unread_frames}
 use Rattle.netlink_frame.proofs.frames.last_fault.Goals as goal
 

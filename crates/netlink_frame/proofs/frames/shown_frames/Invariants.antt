@@ -1,5 +1,5 @@
 use Rattle.std.proofs.Common.{List, ℕ, ◌≡◌, string_bytes}
-use Rattle.netlink_packet_core.specs.FramePassing.{PassesFrames}
+use Rattle.netlink_packet_core.specs.FrameProgress.{PassesFrames}
 use Rattle.netlink_tree.specs.FrameSteps.{unread_frames}
 use Rattle.netlink_frame.specs.Lines.{frame_lines}
 use Rattle.netlink_frame.proofs.frames.shown_frames.Given as goal

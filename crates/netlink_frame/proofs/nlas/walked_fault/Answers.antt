@@ -1,5 +1,5 @@
 use Rattle.std.proofs.Common.{[], ◌∷◌, ◌++◌, rules}
-use Rattle.netlink_packet_core.specs.Passing.{passes_none, passes_push, passes_ends, passes_faults}
+use Rattle.netlink_packet_core.specs.Progress.{passes_none, passes_push, passes_ends, passes_faults}
 use Rattle.netlink_packet_core.specs.Steps.{unread}
 use Rattle.netlink_packet_core.specs.Views.{attribute_of}
 use Rattle.netlink_frame.proofs.nlas.walked_fault.Goals as goal

@@ -1,6 +1,6 @@
 use Rattle.std.proofs.Common.{◌≡◌, ◌∙◌, ℕ, List, [], ◌∷◌, ◌++◌, ap, sym, rules, Some}
 use Rattle.netlink_packet_core.specs.Attribute.{Attribute}
-use Rattle.netlink_packet_core.specs.Passing.{passes_none, passes_push, passes_ends, passes_faults}
+use Rattle.netlink_packet_core.specs.Progress.{passes_none, passes_push, passes_ends, passes_faults}
 use Rattle.netlink_packet_core.specs.Steps.{unread}
 use Rattle.netlink_packet_core.specs.Views.{attribute_of, shown}
 use Rattle.netlink_frame.specs.Lines.{nla_line, nla_lines}

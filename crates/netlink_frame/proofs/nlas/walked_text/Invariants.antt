@@ -1,6 +1,6 @@
 use Rattle.std.proofs.Common.{List, ◌≡◌, string_bytes}
 use Rattle.netlink_packet_core.specs.Attribute.{Attribute}
-use Rattle.netlink_packet_core.specs.Passing.{Passes}
+use Rattle.netlink_packet_core.specs.Progress.{Passes}
 use Rattle.netlink_packet_core.specs.Steps.{unread}
 use Rattle.netlink_frame.specs.Lines.{nla_lines}
 use Rattle.netlink_frame.proofs.nlas.walked_text.Given as goal

@@ -18,8 +18,8 @@ fn a_message_is_written(rt: HostRuntime) -> Result<(), Fail> {
     let bytes = [0u8, 1, 2, 3].to_vec(alloc)?;
     refuse_from_here(alloc);
     let ping = PingPongMessage::Ping(bytes);
-    assert!(rt; ping.is_text(alloc, &PING[16..]).ok() == Some(true));
-    assert!(rt; ping.is_text(alloc, &PING[17..]).ok() == Some(false));
+    assert!(rt; ping.is_written_as(alloc, &PING[16..]).ok() == Some(true));
+    assert!(rt; ping.is_written_as(alloc, &PING[17..]).ok() == Some(false));
     let mut message = Message::from_inner(ping);
     assert!(rt; message.fits());
     message.finalize();

@@ -1,7 +1,7 @@
 use Rattle.std.proofs.Common.{List}
 use Rattle.netlink_packet_core.specs.Attribute.{Attribute}
 use Rattle.netlink_packet_core.specs.Nla.{attributes_of}
-use Rattle.netlink_packet_core.specs.Passing.{Passes}
+use Rattle.netlink_packet_core.specs.Progress.{Passes}
 use Rattle.netlink_packet_core.specs.Steps.{unread}
 use Rattle.netlink_route.proofs.Reading.{AreRead}
 use Rattle.netlink_route.proofs.typed.read_list.Given as goal

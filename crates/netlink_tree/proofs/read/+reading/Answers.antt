@@ -1,7 +1,7 @@
 use Rattle.std.proofs.Common.{arith, ◌≡◌, ◌⊎◌, Ok, Err, ℕ, ◌-◌, List, [], ◌∷◌, ◌++◌, sym, ap, subst, ◌∙◌, inr}
 use Rattle.std.proofs.lemmas.Result.{err_from_is_err_and}
 use Rattle.netlink_packet_core.specs.DecodeError.TheVariants.{OutOfMemory}
-use Rattle.netlink_packet_core.specs.Passing.{passes_bytes, passes_push}
+use Rattle.netlink_packet_core.specs.Progress.{passes_bytes, passes_push}
 use Rattle.netlink_packet_core.specs.StartLaws.{starts_bytes}
 use Rattle.netlink_packet_core.specs.Steps.{unread}
 use Rattle.netlink_packet_core.specs.Views.{attribute_of}

@@ -1,6 +1,6 @@
 use Rattle.std.proofs.Common.{◌+◌, ◌*◌, ◌-◌, List}
 use Rattle.netlink_packet_core.specs.Attribute.{Attribute}
-use Rattle.netlink_packet_core.specs.Passing.{Passes}
+use Rattle.netlink_packet_core.specs.Progress.{Passes}
 use Rattle.netlink_packet_core.specs.Steps.{unread}
 use Rattle.netlink_tree.specs.Tree.{views}
 use Rattle.netlink_tree.specs.Reading.{Trees}

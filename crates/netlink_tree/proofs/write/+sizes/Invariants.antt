@@ -1,6 +1,6 @@
 use Rattle.std.proofs.Common.{◌≡◌, ◌≤◌, ◌+◌, drop, length}
 use Rattle.netlink_tree.specs.Tree.{views}
-use Rattle.netlink_tree.specs.Writing.{are_too_long, tree_text}
+use Rattle.netlink_tree.specs.Writing.{are_too_long, tree_bytes}
 use Rattle.netlink_tree.proofs.write.+sizes.Given as goal
 
 -- none so far is too long, and the size is theirs
@@ -8,4 +8,4 @@ abbrev pub invariant-text_size-loop-tree : goal.invariant-text_size-loop-tree
 invariant-text_size-loop-tree l =
     (are_too_long (views l.trees) ≡ are_too_long (views (drop l.tree-index l.trees)))
     × (l.size ≤ 65531)
-    × (l.size + length (tree_text (views (drop l.tree-index l.trees))) ≡ length (tree_text (views l.trees)))
+    × (l.size + length (tree_bytes (views (drop l.tree-index l.trees))) ≡ length (tree_bytes (views l.trees)))

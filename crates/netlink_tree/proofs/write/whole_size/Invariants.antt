@@ -1,12 +1,12 @@
 use Rattle.std.proofs.Common.{◌≡◌, ◌+◌, ◌-◌, ◌^◌, ◌≤◌, drop, length}
 use Rattle.std.specs.Prelude.{min}
 use Rattle.netlink_tree.specs.Tree.{views}
-use Rattle.netlink_tree.specs.Writing.{are_too_long, tree_text}
+use Rattle.netlink_tree.specs.Writing.{are_too_long, tree_bytes}
 use Rattle.netlink_tree.proofs.write.whole_size.Given as goal
 
 -- none so far is too long, and the size is theirs as far as a number can say it
 abbrev pub invariant-loop-tree : goal.invariant-loop-tree
 invariant-loop-tree l =
     (are_too_long (views l.trees) ≡ are_too_long (views (drop l.tree-index l.trees)))
-    × (min (l.size + length (tree_text (views (drop l.tree-index l.trees)))) (2 ^ 64 - 1) ≡ min (length (tree_text (views l.trees))) (2 ^ 64 - 1))
+    × (min (l.size + length (tree_bytes (views (drop l.tree-index l.trees)))) (2 ^ 64 - 1) ≡ min (length (tree_bytes (views l.trees))) (2 ^ 64 - 1))
     × (l.size ≤ 2 ^ 64 - 1)

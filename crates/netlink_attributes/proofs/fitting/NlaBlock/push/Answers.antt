@@ -1,5 +1,5 @@
 use Rattle.std.proofs.Common.{arith}
-use Rattle.netlink_attributes.proofs.Sizing.{each_push, fit_push, length-push, too_big}
+use Rattle.netlink_attributes.proofs.SizeLemmas.{each_push, fit_push, length-push, too_big}
 use Rattle.netlink_attributes.proofs.fitting.NlaBlock.push.Goals as goal
 
 pub returns-then-more-self-clause-memory : goal.returns-then-more-self-clause-memory

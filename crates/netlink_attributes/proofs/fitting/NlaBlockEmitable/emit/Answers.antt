@@ -1,6 +1,6 @@
 use Rattle.std.proofs.Common.{sym, subst}
 use Rattle.netlink_attributes.specs.Nla.{AllFit}
-use Rattle.netlink_attributes.proofs.Sizing.{values_fit}
+use Rattle.netlink_attributes.proofs.SizeLemmas.{values_fit}
 use Rattle.netlink_attributes.proofs.fitting.NlaBlockEmitable.emit.Goals as goal
 
 pub emit-requires-clause-can : goal.emit-requires-clause-can

@@ -1,6 +1,6 @@
 use Rattle.std.proofs.Common.{arith}
 use Rattle.netlink_attributes.specs.Sizes.{length-written}
-use Rattle.netlink_attributes.proofs.Writing.{length-cons}
+use Rattle.netlink_attributes.proofs.WriteLemmas.{length-cons}
 use Rattle.netlink_attributes.proofs.nlas.NlasEmitable.buffer_len.Goals as goal
 
 pub nla_buffer_len-size-requires : goal.nla_buffer_len-size-requires

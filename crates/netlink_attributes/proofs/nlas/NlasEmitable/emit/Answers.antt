@@ -2,7 +2,7 @@ use Rattle.std.proofs.Common.{List, ℕ, ◌++◌, ◌<◌, ◌^◌, arith, leng
 use Rattle.std.proofs.lemmas.List.Elements.{AllWithin-more, at_read}
 use Rattle.netlink_attributes.specs.Attribute.{padded}
 use Rattle.netlink_attributes.specs.Nla.{attribute_with}
-use Rattle.netlink_attributes.proofs.Writing.{block-cons, put_behind, moved_on, list_walks}
+use Rattle.netlink_attributes.proofs.WriteLemmas.{block-cons, put_behind, moved_on, list_walks}
 use Rattle.netlink_attributes.proofs.nlas.NlasEmitable.emit.Goals as goal
 
 pub loop-nla-preserved : goal.loop-nla-preserved

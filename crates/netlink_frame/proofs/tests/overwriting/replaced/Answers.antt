@@ -1,6 +1,6 @@
 use Rattle.std.proofs.Common.{List, [], ◌∷◌, ℕ, refl, inl, arith, None}
 use Rattle.netlink_packet_core.specs.Attribute.{Attribute}
-use Rattle.netlink_packet_core.specs.Numbers.{text_le}
+use Rattle.netlink_packet_core.specs.Numbers.{bytes_le}
 use Rattle.netlink_packet_core.specs.Walk.{Starts, Walk}
 use Rattle.netlink_frame.proofs.tests.overwriting.replaced.Goals as goal
 
@@ -14,11 +14,11 @@ abbrev second : List ℕ
 second = 8 ∷ 0 ∷ 2 ∷ 0 ∷ 1 ∷ 2 ∷ 3 ∷ 4 ∷ []
 
 starts_one : Starts (5 ∷ 0 ∷ 1 ∷ 0 ∷ 170 ∷ 0 ∷ 0 ∷ 0 ∷ second) one second
-unfolding text_le
+unfolding bytes_le
 starts_one = record { fits = record { kind = omega arith; value = omega arith }; gap = 0 ∷ 0 ∷ 0 ∷ []; whole = refl; gap_size = inl refl }
 
 starts_two : Starts second two []
-unfolding text_le
+unfolding bytes_le
 starts_two = record { fits = record { kind = omega arith; value = omega arith }; gap = []; whole = refl; gap_size = inl refl }
 
 -- the block walks as its two attributes

@@ -3,7 +3,7 @@ use Rattle.std.specs.Prelude.{IsSome}
 use Rattle.std.proofs.lemmas.Bool.{cases_Bool}
 use Rattle.std.proofs.lemmas.Result.{err_from_is_err_and}
 use Rattle.netlink_route.specs.LinkHeader.{is_link_type}
-use Rattle.netlink_route.specs.Message.{address_text, link_text}
+use Rattle.netlink_route.specs.Message.{address_bytes, link_bytes}
 use Rattle.netlink_route.specs.MessageLaws.{address_reads, link_reads}
 use Rattle.netlink_route.specs.declared.link_header.LinkVerb.{LinkVerb}
 use Rattle.netlink_route.proofs.protocol.RouteMessageNetlinkDeserializable.deserialize.Goals as goal
@@ -27,7 +27,7 @@ returns-in-Some-clause-reads c =
     let t : ℕ = c.args.header.now.message_type in
     let is = c.in-Some.ensures.link.0 refl in
     link_reads t is c.args.header.now c.args.payload.now refl
-    ∙ c.in_ok-read.ensures.reads t ∙ ap (λ (n : ℕ). Some (n, link_text c.in_ok-read.field-0)) (sym c.in-Some.ensures.some)
+    ∙ c.in_ok-read.ensures.reads t ∙ ap (λ (n : ℕ). Some (n, link_bytes c.in_ok-read.field-0)) (sym c.in-Some.ensures.some)
 
 pub returns-in_err-message-clause-refuses : goal.returns-in_err-message-clause-refuses
 returns-in_err-message-clause-refuses c =
@@ -43,4 +43,4 @@ returns-in-Some-of_type-clause-reads c =
     let not = no_link c.of_type.result t c.in_default.is c.of_type.ensures.link in
     let is = c.in-Some-of_type.ensures.address.0 refl in
     address_reads t not is c.args.header.now c.args.payload.now refl
-    ∙ c.in_ok-message.ensures.reads t ∙ ap (λ (n : ℕ). Some (n, address_text c.in_ok-message.message)) (sym c.in-Some-of_type.ensures.some)
+    ∙ c.in_ok-message.ensures.reads t ∙ ap (λ (n : ℕ). Some (n, address_bytes c.in_ok-message.message)) (sym c.in-Some-of_type.ensures.some)

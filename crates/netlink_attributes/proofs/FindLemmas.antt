@@ -6,7 +6,7 @@ use Rattle.std.specs.Prelude.{IsSomeAnd, slice_get}
 use Rattle.netlink_bytes.specs.declared.error.DecodeError.{DecodeError}
 use Rattle.netlink_attributes.specs.Attribute.{Attribute}
 use Rattle.netlink_attributes.specs.Kinds.{HasNone, IsFirst}
-use Rattle.netlink_attributes.specs.Passing.{Passes, passes_walk}
+use Rattle.netlink_attributes.specs.Progress.{Passes, passes_walk}
 use Rattle.netlink_attributes.specs.Walk.{Starts, Walk}
 use Rattle.netlink_attributes.specs.WalkLaws.{walk_once}
 

@@ -3,7 +3,7 @@ use Rattle.std.proofs.Common.{◌≡◌, ℕ, ◌+◌, ◌-◌, ◌<◌, ◌≤�
 use Rattle.std.proofs.lemmas.List.{drop_at, drop_all, drop-append-le, drop-drop, drop-take, length-replicate, length-take, length-take-le, take_at}
 use Rattle.std.specs.Prelude.{replicate, slice_range}
 use borrow.Rule.Slice.PartMut.{put_mid}
-use Rattle.netlink_packet_core.specs.Attribute.{Attribute, attribute_text, padded, padded_size, padding}
+use Rattle.netlink_packet_core.specs.Attribute.{Attribute, attribute_bytes, padded, padded_size, padding}
 use Rattle.netlink_packet_core.specs.AttributeSizes.{length-padded, length-written}
 use Rattle.netlink_packet_core.specs.Block.{canonical_block}
 use Rattle.netlink_packet_core.specs.Storage.{put_at}
@@ -65,8 +65,8 @@ put_reads_back a buffer new at next kind value room written moved =
     record {
       fits = record { kind = kind; value = value };
       gap = replicate (padding (length a.value)) 0;
-      whole = here ∙ append_assoc (attribute_text a) (replicate (padding (length a.value)) 0) tail
-          ∙ ap (λ (x : List ℕ). attribute_text a ++ (replicate (padding (length a.value)) 0 ++ x)) (sym rest);
+      whole = here ∙ append_assoc (attribute_bytes a) (replicate (padding (length a.value)) 0) tail
+          ∙ ap (λ (x : List ℕ). attribute_bytes a ++ (replicate (padding (length a.value)) 0 ++ x)) (sym rest);
       gap_size = inl (length-replicate (padding (length a.value)) 0);
     }
 

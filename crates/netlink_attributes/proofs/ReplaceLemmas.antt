@@ -4,12 +4,12 @@ use Rattle.std.proofs.Math.Seq.{take-append-add, drop-append-add}
 use Rattle.std.proofs.lemmas.List.{drop_at}
 use Rattle.std.specs.Prelude.{IsSomeAnd, slice_get}
 use Rattle.std.specs.Option.{option_map}
-use Rattle.netlink_bytes.specs.Numbers.{text_le}
-use Rattle.netlink_bytes.specs.NumberLaws.{length-text_le}
+use Rattle.netlink_bytes.specs.Numbers.{bytes_le}
+use Rattle.netlink_bytes.specs.NumberLaws.{length-bytes_le}
 use Rattle.netlink_bytes.specs.Storage.{put_at}
 use Rattle.netlink_bytes.specs.declared.error.DecodeError.{DecodeError}
-use Rattle.netlink_attributes.specs.Attribute.{Attribute, attribute_text, padding, padded_size}
-use Rattle.netlink_attributes.specs.Sizes.{length-attribute_text}
+use Rattle.netlink_attributes.specs.Attribute.{Attribute, attribute_bytes, padding, padded_size}
+use Rattle.netlink_attributes.specs.Sizes.{length-attribute_bytes}
 use Rattle.netlink_attributes.specs.Places.{ends_from, ends_of, value_part, value_place, replaced, HasValueOf, IsWritten}
 use Rattle.netlink_attributes.specs.Walk.{Starts, Walk}
 use Rattle.netlink_attributes.specs.StartLaws.{nothing_starts}
@@ -29,13 +29,13 @@ put_front : (old rest text : List ℕ) → length text ≡ length old → put_at
 put_front old rest text same = ap (λ (x : List ℕ). text ++ x) (drop_at old rest (0 + length text) (omega (arith, same)))
 
 abbrev header : ℕ → ℕ → List ℕ
-header size kind = text_le (4 + size) 2 ++ text_le kind 2
+header size kind = bytes_le (4 + size) 2 ++ bytes_le kind 2
 
 length-header : (size kind : ℕ) → length (header size kind) ≡ 4
-length-header size kind = length-append (text_le (4 + size) 2) (text_le kind 2) ∙ omega (arith, length-text_le (4 + size) 2, length-text_le kind 2)
+length-header size kind = length-append (bytes_le (4 + size) 2) (bytes_le kind 2) ∙ omega (arith, length-bytes_le (4 + size) 2, length-bytes_le kind 2)
 
-attribute_text-append : (a : Attribute) (rest : List ℕ) → attribute_text a ++ rest ≡ header (length a.value) a.kind ++ (a.value ++ rest)
-attribute_text-append a rest = let grouped : (x y v r : List ℕ) → (x ++ (y ++ v)) ++ r ≡ (x ++ y) ++ (v ++ r) = λ x y v r. simp append_assoc in grouped (text_le (4 + length a.value) 2) (text_le a.kind 2) a.value rest
+attribute_bytes-append : (a : Attribute) (rest : List ℕ) → attribute_bytes a ++ rest ≡ header (length a.value) a.kind ++ (a.value ++ rest)
+attribute_bytes-append a rest = let grouped : (x y v r : List ℕ) → (x ++ (y ++ v)) ++ r ≡ (x ++ y) ++ (v ++ r) = λ x y v r. simp append_assoc in grouped (bytes_le (4 + length a.value) 2) (bytes_le a.kind 2) a.value rest
 
 -- the value at the front replaced
 first_replaced : (bytes : List ℕ) (a : Attribute) (rest value : List ℕ) → Starts bytes a rest → length value ≡ length a.value → Starts (put_at bytes 4 value) (record { kind = a.kind; value = value }) rest
@@ -45,11 +45,11 @@ first_replaced bytes a rest value starts same =
     record {
       fits = record { kind = starts.fits.kind; value = omega (arith, fits, same) };
       gap = starts.gap;
-      whole = ap (λ (x : List ℕ). put_at x 4 value) (starts.whole ∙ attribute_text-append a behind)
+      whole = ap (λ (x : List ℕ). put_at x 4 value) (starts.whole ∙ attribute_bytes-append a behind)
           ∙ put_behind (header (length a.value) a.kind) (a.value ++ behind) value 4 0 (omega (arith, length-header (length a.value) a.kind))
           ∙ ap (λ (x : List ℕ). header (length a.value) a.kind ++ x) (put_front a.value behind value same)
           ∙ ap (λ (n : ℕ). header n a.kind ++ (value ++ behind)) (sym same)
-          ∙ sym (attribute_text-append (record { kind = a.kind; value = value }) behind);
+          ∙ sym (attribute_bytes-append (record { kind = a.kind; value = value }) behind);
       gap_size = subst (λ (n : ℕ). (length starts.gap ≡ padding n) ⊎ ((length starts.gap < padding n) × (rest ≡ []))) (sym same) starts.gap_size;
     }
 
@@ -74,8 +74,8 @@ replaced_from at bytes (a ∷ more) fault (suc index) value place (rest, starts,
       | inl full ↦ full
       | inr short ↦ absurd (some_left (at + padded_size a) rest more fault index place walk is short.1)
     ] in
-    let front : List ℕ = attribute_text a ++ starts.gap in
-    let front_size : length front ≡ padded_size a = omega (arith, length-append (attribute_text a) starts.gap, length-attribute_text a) in
+    let front : List ℕ = attribute_bytes a ++ starts.gap in
+    let front_size : length front ≡ padded_size a = omega (arith, length-append (attribute_bytes a) starts.gap, length-attribute_bytes a) in
     let later = replaced_from (at + padded_size a) rest more fault index value place walk is size in (
       length front + later.0,
       omega (arith, later.1),
@@ -84,9 +84,9 @@ replaced_from at bytes (a ∷ more) fault (suc index) value place (rest, starts,
         record {
           fits = starts.fits;
           gap = starts.gap;
-          whole = ap (λ (x : List ℕ). put_at x (length front + later.0 + 4) value) (starts.whole ∙ sym (append_assoc (attribute_text a) starts.gap rest))
+          whole = ap (λ (x : List ℕ). put_at x (length front + later.0 + 4) value) (starts.whole ∙ sym (append_assoc (attribute_bytes a) starts.gap rest))
               ∙ put_behind front rest value (length front + later.0 + 4) (later.0 + 4) (omega arith)
-              ∙ append_assoc (attribute_text a) starts.gap (put_at rest (later.0 + 4) value);
+              ∙ append_assoc (attribute_bytes a) starts.gap (put_at rest (later.0 + 4) value);
           gap_size = inl full;
         },
         later.2,

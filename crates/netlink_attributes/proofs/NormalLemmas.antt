@@ -4,8 +4,8 @@ use Rattle.std.proofs.lemmas.List.{take_at}
 use Rattle.std.specs.Prelude.{replicate}
 use Rattle.netlink_bytes.specs.declared.error.DecodeError.{DecodeError}
 use Rattle.netlink_bytes.specs.declared.error.DecodeError.TheVariants.{OutOfMemory}
-use Rattle.netlink_attributes.specs.Attribute.{Attribute, attribute_text, padded, padding}
-use Rattle.netlink_attributes.specs.Sizes.{length-attribute_text}
+use Rattle.netlink_attributes.specs.Attribute.{Attribute, attribute_bytes, padded, padding}
+use Rattle.netlink_attributes.specs.Sizes.{length-attribute_bytes}
 use Rattle.netlink_attributes.specs.Block.{canonical_block, IsCanonicalBlock}
 use Rattle.netlink_attributes.specs.Views.{length_field, attribute_of}
 use Rattle.netlink_attributes.specs.Walk.{Walk, Starts}
@@ -73,15 +73,15 @@ answer_unchanged bytes (Ok v) (x, walk, items) = rw items (written_fixed bytes x
 answer_unchanged bytes (Err e) answer = tt
 
 -- the text of the attribute that bytes start with
-pub starts-text : (bytes : List ℕ) (a : Attribute) (rest : List ℕ) → Starts bytes a rest → take (length_field bytes) bytes ≡ attribute_text a
+pub starts-text : (bytes : List ℕ) (a : Attribute) (rest : List ℕ) → Starts bytes a rest → take (length_field bytes) bytes ≡ attribute_bytes a
 starts-text bytes a rest starts =
-    let size : length (attribute_text a) ≡ length_field bytes = length-attribute_text a ∙ sym (starts-length_field bytes a rest starts) in
-    ap (take (length_field bytes)) starts.whole ∙ take_at (attribute_text a) (starts.gap ++ rest) (length_field bytes) size
+    let size : length (attribute_bytes a) ≡ length_field bytes = length-attribute_bytes a ∙ sym (starts-length_field bytes a rest starts) in
+    ap (take (length_field bytes)) starts.whole ∙ take_at (attribute_bytes a) (starts.gap ++ rest) (length_field bytes) size
 
 -- a text and the padding of its size are the attribute as it is written
-pub padded-text : (a : Attribute) (text : List ℕ) → text ≡ attribute_text a → text ++ replicate (padding (length text)) 0 ≡ padded a
+pub padded-text : (a : Attribute) (text : List ℕ) → text ≡ attribute_bytes a → text ++ replicate (padding (length text)) 0 ≡ padded a
 padded-text a text is =
-    let size : length text ≡ 4 + length a.value = ap length is ∙ length-attribute_text a in
+    let size : length text ≡ 4 + length a.value = ap length is ∙ length-attribute_bytes a in
     let same : padding (length text) ≡ padding (length a.value) = omega arith in
     rw (same, is) refl
 
@@ -91,6 +91,6 @@ pub written_push : (done : List Attribute) (old new bytes storage : List ℕ) (r
     → new ≡ canonical_block (done ++ (attribute_of bytes ∷ []))
 written_push done old new bytes storage rest size starts same field before after =
     let a : Attribute = attribute_of bytes in
-    let text : take size storage ≡ attribute_text a =
+    let text : take size storage ≡ attribute_bytes a =
     ap (λ (k : ℕ). take k storage) field ∙ ap (λ (x : List ℕ). take (length_field x) x) same ∙ starts-text bytes a rest starts in
     after ∙ ap (λ (x : List ℕ). old ++ x) (padded-text a (take size storage) text) ∙ ap (λ (x : List ℕ). x ++ padded a) before ∙ sym (block_push done a)

@@ -7,10 +7,10 @@ use Rattle.std.specs.Prelude.{slice_get}
 use Rattle.netlink_bytes.specs.Numbers.{number_le}
 use Rattle.netlink_bytes.specs.declared.error.DecodeError.{DecodeError}
 use Rattle.netlink_bytes.specs.declared.error.DecodeError.TheVariants.{NlaBufferTooSmall, NlaLengthMismatch, NlaInvalidLength}
-use Rattle.netlink_attributes.specs.Attribute.{Attribute, attribute_text, padding, padded_size}
+use Rattle.netlink_attributes.specs.Attribute.{Attribute, attribute_bytes, padding, padded_size}
 use Rattle.netlink_attributes.specs.Cuts.{kept_from, kept_by, fault_start_from, IsCutAt, fault_of, cut_fault}
 use Rattle.netlink_attributes.specs.Places.{ends_from}
-use Rattle.netlink_attributes.specs.Sizes.{length-attribute_text}
+use Rattle.netlink_attributes.specs.Sizes.{length-attribute_bytes}
 use Rattle.netlink_attributes.specs.Views.{length_field}
 use Rattle.netlink_attributes.specs.Walk.{Walk, Starts, IsFault}
 use Rattle.netlink_attributes.specs.StartLaws.{starts-length_field, starts-length, starts-rest}
@@ -50,11 +50,11 @@ gap_cut a gap rest k size =
 starts_cut : (bytes : List ℕ) (a : Attribute) (rest : List ℕ) (k : ℕ) → Starts bytes a rest → 4 + length a.value ≤ k → Starts (take k bytes) a (take (k - padded_size a) rest)
 starts_cut bytes a rest k starts inside =
     let size : ℕ = 4 + length a.value in
-    let text = length-attribute_text a in
+    let text = length-attribute_bytes a in
     let gap = gap_cut a starts.gap rest (k - size) starts.gap_size in
     let left : k - size - padding (length a.value) ≡ k - padded_size a = omega arith in
-    let whole : take k bytes ≡ attribute_text a ++ (gap.0 ++ take (k - size - padding (length a.value)) rest) =
-    ap (take k) starts.whole ∙ take_behind (attribute_text a) (starts.gap ++ rest) (k - size) k (omega arith) ∙ ap (λ (x : List ℕ). attribute_text a ++ x) gap.1 in
+    let whole : take k bytes ≡ attribute_bytes a ++ (gap.0 ++ take (k - size - padding (length a.value)) rest) =
+    ap (take k) starts.whole ∙ take_behind (attribute_bytes a) (starts.gap ++ rest) (k - size) k (omega arith) ∙ ap (λ (x : List ℕ). attribute_bytes a ++ x) gap.1 in
     subst (λ (n : ℕ). Starts (take k bytes) a (take n rest)) left (record { fits = starts.fits; gap = gap.0; whole = whole; gap_size = gap.2 })
 
 -- ---- bytes in which no attribute ends

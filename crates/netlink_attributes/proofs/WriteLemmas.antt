@@ -3,7 +3,7 @@ use Rattle.std.proofs.Common.{◌≡◌, ℕ, ◌+◌, ◌-◌, ◌<◌, ◌^◌
 use Rattle.std.proofs.lemmas.List.{drop-drop, drop_more, drop_all, take_all, take_rest, take_at, drop_at, length-replicate}
 use borrow.Rule.Slice.PartMut.{put_mid}
 use Rattle.std.specs.Prelude.{replicate}
-use Rattle.netlink_bytes.specs.Numbers.{text_le}
+use Rattle.netlink_bytes.specs.Numbers.{bytes_le}
 use Rattle.std.proofs.lemmas.List.Elements.{All-map}
 use Rattle.netlink_attributes.specs.Attribute.{FitsAttribute, padded, padding}
 use Rattle.netlink_attributes.specs.Block.{canonical_block}
@@ -15,7 +15,7 @@ use Rattle.netlink_attributes.specs.Sizes.{length-written}
 -- the pieces of an attribute, and the rest of the buffer
 pub pieces : (kind size missing : ℕ) (value buffer header written zeros behind more rest : List ℕ)
     → size ≡ length value + 4 → missing ≡ padding (length value)
-    → header ≡ text_le size 2 ++ text_le kind 2 → written ≡ value → zeros ≡ replicate missing 0
+    → header ≡ bytes_le size 2 ++ bytes_le kind 2 → written ≡ value → zeros ≡ replicate missing 0
     → behind ≡ drop 4 buffer → more ≡ drop (length value) behind → rest ≡ drop missing more
     → header ++ (written ++ (zeros ++ rest)) ≡ padded (attribute_with kind value) ++ drop (length (padded (attribute_with kind value))) buffer
 pieces kind size missing value buffer header written zeros behind more rest sizes lacks headed valued zeroed e₁ e₂ e₃ =
@@ -23,10 +23,10 @@ pieces kind size missing value buffer header written zeros behind more rest size
     let long : 4 + (length value + missing) ≡ length (padded (attribute_with kind value)) = omega (arith, length-written kind value) in
     let last : rest ≡ drop (length (padded (attribute_with kind value))) buffer =
     e₃ ∙ ap (drop missing) (e₂ ∙ ap (drop (length value)) e₁) ∙ drop-drop missing (length value) (drop 4 buffer) ∙ drop-drop (length value + missing) 4 buffer ∙ ap (λ (k : ℕ). drop k buffer) long in
-    let text : header ≡ text_le (4 + length value) 2 ++ text_le kind 2 = headed ∙ ap (λ (n : ℕ). text_le n 2 ++ text_le kind 2) swapped in
+    let text : header ≡ bytes_le (4 + length value) 2 ++ bytes_le kind 2 = headed ∙ ap (λ (n : ℕ). bytes_le n 2 ++ bytes_le kind 2) swapped in
     let zero : zeros ≡ replicate (padding (length value)) 0 = zeroed ∙ ap (λ (n : ℕ). replicate n 0) lacks in
     let grouped : (a b v z r : List ℕ) → (a ++ b) ++ (v ++ (z ++ r)) ≡ ((a ++ (b ++ v)) ++ z) ++ r = λ a b v z r. simp append_assoc in
-    rw (text, valued, zero, last) (grouped (text_le (4 + length value) 2) (text_le kind 2) value (replicate (padding (length value)) 0) (drop (length (padded (attribute_with kind value))) buffer))
+    rw (text, valued, zero, last) (grouped (bytes_le (4 + length value) 2) (bytes_le kind 2) value (replicate (padding (length value)) 0) (drop (length (padded (attribute_with kind value))) buffer))
 
 -- ---- lists of attributes
 
