@@ -18,26 +18,31 @@ IsZeroPadded bytes size = take (padding size) (drop size bytes) ≡ replicate (p
 -- not so where the bytes end before it
 pub short_padding : (bytes : List ℕ) (size : ℕ) → length bytes - size < padding size → IsZeroPadded bytes size → ⊥
 short_padding bytes size short zeros =
-    let taken : length (take (padding size) (drop size bytes)) ≡ min (padding size) (length bytes - size) = length-take (padding size) (drop size bytes) ∙ ap (min (padding size)) (length-drop size bytes) in
+    let taken : length (take (padding size) (drop size bytes)) ≡ min (padding size) (length bytes - size) =
+    length-take (padding size) (drop size bytes) ∙ ap (min (padding size)) (length-drop size bytes) in
     let whole : length (take (padding size) (drop size bytes)) ≡ padding size = ap length zeros ∙ length-replicate (padding size) 0 in
     omega arith
 
 -- behind the text of an attribute stand its gap and the rest
-behind_text : (bytes : List ℕ) (a : Attribute) (rest : List ℕ) (starts : Starts bytes a rest) → drop (length_field bytes) bytes ≡ starts.gap ++ rest
+behind_text : (bytes : List ℕ) (a : Attribute) (rest : List ℕ) (starts : Starts bytes a rest)
+    → drop (length_field bytes) bytes ≡ starts.gap ++ rest
 behind_text bytes a rest starts =
     let field = starts-length_field bytes a rest starts in
     let text = length-attribute_bytes a in
     ap (drop (length_field bytes)) starts.whole ∙ drop_at (attribute_bytes a) (starts.gap ++ rest) (length_field bytes) (omega arith)
 
-same_padding : (bytes : List ℕ) (a : Attribute) (rest : List ℕ) → Starts bytes a rest → padding (length_field bytes) ≡ padding (length a.value)
+same_padding : (bytes : List ℕ) (a : Attribute) (rest : List ℕ) → Starts bytes a rest
+    → padding (length_field bytes) ≡ padding (length a.value)
 same_padding bytes a rest starts = let field = starts-length_field bytes a rest starts in omega arith
 
 -- padding of zeros is the whole gap
-zero_gap : (bytes : List ℕ) (a : Attribute) (rest : List ℕ) (starts : Starts bytes a rest) → IsZeroPadded bytes (length_field bytes) → starts.gap ≡ replicate (padding (length a.value)) 0
+zero_gap : (bytes : List ℕ) (a : Attribute) (rest : List ℕ) (starts : Starts bytes a rest) → IsZeroPadded bytes (length_field bytes)
+    → starts.gap ≡ replicate (padding (length a.value)) 0
 zero_gap bytes a rest starts zeros =
     let missing : ℕ = padding (length a.value) in
     let taken : take missing (starts.gap ++ rest) ≡ replicate missing 0 =
-    ap (take missing) (sym (behind_text bytes a rest starts)) ∙ subst (λ (k : ℕ). take k (drop (length_field bytes) bytes) ≡ replicate k 0) (same_padding bytes a rest starts) zeros in
+    ap (take missing) (sym (behind_text bytes a rest starts))
+    ∙ subst (λ (k : ℕ). take k (drop (length_field bytes) bytes) ≡ replicate k 0) (same_padding bytes a rest starts) zeros in
     elim starts.gap_size [
       | inl full ↦ sym (take_at starts.gap rest missing full) ∙ taken
       | inr short ↦
@@ -48,36 +53,55 @@ zero_gap bytes a rest starts zeros =
     ]
 
 -- an attribute with its padding of zeros, and a canonical block behind it
-pub canonical_cons : (bytes : List ℕ) (a : Attribute) (rest : List ℕ) → Starts bytes a rest → IsZeroPadded bytes (length_field bytes) → IsCanonicalBlock rest → IsCanonicalBlock bytes
-canonical_cons bytes a rest starts zeros (more, block) =
-    (a ∷ more, (rest, starts.fits, starts.whole ∙ ap (λ (gap : List ℕ). attribute_bytes a ++ (gap ++ rest)) (zero_gap bytes a rest starts zeros), block))
+pub canonical_cons : (bytes : List ℕ) (a : Attribute) (rest : List ℕ) → Starts bytes a rest → IsZeroPadded bytes (length_field bytes)
+    → IsCanonicalBlock rest → IsCanonicalBlock bytes
+canonical_cons bytes a rest starts zeros (more, block) = (
+  a ∷ more,
+  (
+    rest,
+    starts.fits,
+    starts.whole
+        ∙ ap (λ (gap : List ℕ). attribute_bytes a ++ (gap ++ rest)) (zero_gap bytes a rest starts zeros),
+    block,
+  ),
+)
 
-block_rest : (bytes : List ℕ) (a : Attribute) (rest : List ℕ) (all : List Attribute) → Starts bytes a rest → IsBlockOf bytes all → IsCanonicalBlock rest × IsZeroPadded bytes (length_field bytes)
+block_rest : (bytes : List ℕ) (a : Attribute) (rest : List ℕ) (all : List Attribute) → Starts bytes a rest → IsBlockOf bytes all
+    → IsCanonicalBlock rest × IsZeroPadded bytes (length_field bytes)
 block_rest bytes a rest [] starts none = absurd (nothing_starts bytes a rest none starts)
 block_rest bytes a rest (b ∷ more) starts (then, fits, whole, block) =
     let missing : ℕ = padding (length b.value) in
     let zeros : List ℕ = replicate missing 0 in
     let begins : Starts bytes b then = record { fits = fits; gap = zeros; whole = whole; gap_size = inl (length-replicate missing 0) } in
     let same : b ≡ a = sym (starts-attribute_of bytes b then begins) ∙ starts-attribute_of bytes a rest starts in
-    let rests : then ≡ rest = starts-rest bytes b then begins ∙ ap (λ (c : Attribute). drop (padded_size c) bytes) same ∙ sym (starts-rest bytes a rest starts) in
-    let padded : take missing (drop (length_field bytes) bytes) ≡ zeros = ap (take missing) (behind_text bytes b then begins) ∙ take_at zeros then missing (length-replicate missing 0) in
-    ((more, subst (λ (r : List ℕ). IsBlockOf r more) rests block), subst (λ (k : ℕ). take k (drop (length_field bytes) bytes) ≡ replicate k 0) (sym (same_padding bytes b then begins)) padded)
+    let rests : then ≡ rest =
+    starts-rest bytes b then begins ∙ ap (λ (c : Attribute). drop (padded_size c) bytes) same ∙ sym (starts-rest bytes a rest starts) in
+    let padded : take missing (drop (length_field bytes) bytes) ≡ zeros =
+    ap (take missing) (behind_text bytes b then begins) ∙ take_at zeros then missing (length-replicate missing 0) in (
+      (more, subst (λ (r : List ℕ). IsBlockOf r more) rests block),
+      subst
+          (λ (k : ℕ). take k (drop (length_field bytes) bytes) ≡ replicate k 0) (sym (same_padding bytes b then begins)) padded,
+    )
 
 -- and that is what a canonical block is
-pub canonical_rest : (bytes : List ℕ) (a : Attribute) (rest : List ℕ) → Starts bytes a rest → IsCanonicalBlock bytes → IsCanonicalBlock rest × IsZeroPadded bytes (length_field bytes)
+pub canonical_rest : (bytes : List ℕ) (a : Attribute) (rest : List ℕ) → Starts bytes a rest → IsCanonicalBlock bytes
+    → IsCanonicalBlock rest × IsZeroPadded bytes (length_field bytes)
 canonical_rest bytes a rest starts (all, block) = block_rest bytes a rest all starts block
 
 block_fault : (bytes : List ℕ) (fault : DecodeError) (all : List Attribute) → bytes ≢ [] → IsFault bytes fault → IsBlockOf bytes all → ⊥
 block_fault bytes fault [] some is none = some none
-block_fault bytes fault (a ∷ more) some is block = let walk = block_walks bytes (a ∷ more) block in starts-fault bytes a walk.0 fault walk.1 is
+block_fault bytes fault (a ∷ more) some is block = let walk = block_walks bytes (a ∷ more) block in
+    starts-fault bytes a walk.0 fault walk.1 is
 
 pub canonical_fault : (bytes : List ℕ) (fault : DecodeError) → bytes ≢ [] → IsFault bytes fault → IsCanonicalBlock bytes → ⊥
 canonical_fault bytes fault some is (all, block) = block_fault bytes fault all some is block
 
 -- the same padding by other names of the bytes and of their length field
-pub same_zeros : (bytes other shown : List ℕ) (size : ℕ) → shown ≡ bytes → other ≡ shown → size ≡ length_field shown → IsZeroPadded other size ↔ IsZeroPadded bytes (length_field bytes)
+pub same_zeros : (bytes other shown : List ℕ) (size : ℕ) → shown ≡ bytes → other ≡ shown → size ≡ length_field shown
+    → IsZeroPadded other size ↔ IsZeroPadded bytes (length_field bytes)
 same_zeros bytes other shown size first second field =
     let same : other ≡ bytes = second ∙ first in
     let sizes : size ≡ length_field bytes = field ∙ ap length_field first in
-    let both : IsZeroPadded other size ≡ IsZeroPadded bytes (length_field bytes) = ap (λ (x : List ℕ). IsZeroPadded x size) same ∙ ap (IsZeroPadded bytes) sizes in
+    let both : IsZeroPadded other size ≡ IsZeroPadded bytes (length_field bytes) =
+    ap (λ (x : List ℕ). IsZeroPadded x size) same ∙ ap (IsZeroPadded bytes) sizes in
     (λ zeros. subst (λ (X : Type 0). X) both zeros, λ zeros. subst (λ (X : Type 0). X) (sym both) zeros)

@@ -25,14 +25,18 @@ take_behind front rest k size is = ap (λ (n : ℕ). take n (front ++ rest)) is 
 -- ---- an attribute that ends by the cut
 
 -- the gap and the rest of an attribute, cut
-gap_cut : (a : Attribute) (gap rest : List ℕ) (k : ℕ) → (length gap ≡ padding (length a.value)) ⊎ ((length gap < padding (length a.value)) × (rest ≡ []))
+gap_cut : (a : Attribute) (gap rest : List ℕ) (k : ℕ)
+    → (length gap ≡ padding (length a.value)) ⊎ ((length gap < padding (length a.value)) × (rest ≡ []))
     → (new : List ℕ) × (take k (gap ++ rest) ≡ new ++ take (k - padding (length a.value)) rest)
-    × ((length new ≡ padding (length a.value)) ⊎ ((length new < padding (length a.value)) × (take (k - padding (length a.value)) rest ≡ [])))
+    × ((length new ≡ padding (length a.value))
+    ⊎ ((length new < padding (length a.value)) × (take (k - padding (length a.value)) rest ≡ [])))
 gap_cut a gap rest k size =
     let missing : ℕ = padding (length a.value) in
     elim (cases_lt k (length gap)) [
       | inl inside ↦
-          let none : take {A = ℕ} (k - missing) rest ≡ [] = ap (λ (n : ℕ). take n rest) (let e : k - missing ≡ 0 = elim size [ inl full ↦ omega arith | inr short ↦ omega (arith, short.0) ] in e) in
+          let none : take {A = ℕ} (k - missing) rest ≡ [] =
+          ap (λ (n : ℕ). take n rest)
+          (let e : k - missing ≡ 0 = elim size [ inl full ↦ omega arith | inr short ↦ omega (arith, short.0) ] in e) in
           let taken = length-take-le k gap (omega arith) in (
             take k gap,
             take-append-le k gap rest (omega arith) ∙ sym (append-nil (take k gap)) ∙ ap (λ (x : List ℕ). take k gap ++ x) (sym none),
@@ -41,21 +45,28 @@ gap_cut a gap rest k size =
       | inr past ↦ elim size [
         | inl full ↦ (gap, take_behind gap rest (k - missing) k (omega arith), inl full)
         | inr short ↦
-            let none : (n : ℕ) → take {A = ℕ} n rest ≡ [] = λ n. ap (take n) short.1 ∙ take-nil n in
-            (gap, take_behind gap rest (k - length gap) k (omega arith) ∙ ap (λ (x : List ℕ). gap ++ x) (none (k - length gap) ∙ sym (none (k - missing))), inr (short.0, none (k - missing)))
+            let none : (n : ℕ) → take {A = ℕ} n rest ≡ [] = λ n. ap (take n) short.1 ∙ take-nil n in (
+              gap,
+              take_behind gap rest (k - length gap) k (omega arith)
+                  ∙ ap (λ (x : List ℕ). gap ++ x) (none (k - length gap) ∙ sym (none (k - missing))),
+              inr (short.0, none (k - missing)),
+            )
       ]
     ]
 
 -- starts the cut bytes too
-starts_cut : (bytes : List ℕ) (a : Attribute) (rest : List ℕ) (k : ℕ) → Starts bytes a rest → 4 + length a.value ≤ k → Starts (take k bytes) a (take (k - padded_size a) rest)
+starts_cut : (bytes : List ℕ) (a : Attribute) (rest : List ℕ) (k : ℕ) → Starts bytes a rest → 4 + length a.value ≤ k
+    → Starts (take k bytes) a (take (k - padded_size a) rest)
 starts_cut bytes a rest k starts inside =
     let size : ℕ = 4 + length a.value in
     let text = length-attribute_bytes a in
     let gap = gap_cut a starts.gap rest (k - size) starts.gap_size in
     let left : k - size - padding (length a.value) ≡ k - padded_size a = omega arith in
     let whole : take k bytes ≡ attribute_bytes a ++ (gap.0 ++ take (k - size - padding (length a.value)) rest) =
-    ap (take k) starts.whole ∙ take_behind (attribute_bytes a) (starts.gap ++ rest) (k - size) k (omega arith) ∙ ap (λ (x : List ℕ). attribute_bytes a ++ x) gap.1 in
-    subst (λ (n : ℕ). Starts (take k bytes) a (take n rest)) left (record { fits = starts.fits; gap = gap.0; whole = whole; gap_size = gap.2 })
+    ap (take k) starts.whole ∙ take_behind (attribute_bytes a) (starts.gap ++ rest) (k - size) k (omega arith)
+    ∙ ap (λ (x : List ℕ). attribute_bytes a ++ x) gap.1 in
+    subst (λ (n : ℕ). Starts (take k bytes) a (take n rest)) left
+    (record { fits = starts.fits; gap = gap.0; whole = whole; gap_size = gap.2 })
 
 -- ---- bytes in which no attribute ends
 
@@ -63,17 +74,21 @@ starts_cut bytes a rest k starts inside =
 length_field-take : (bytes : List ℕ) (k : ℕ) → 4 ≤ k → length_field (take k bytes) ≡ length_field bytes
 length_field-take bytes k long = ap number_le (take-take 2 k bytes (omega arith))
 
-fault_is : (bytes : List ℕ) (k : ℕ) → k ≤ length bytes → (4 ≤ k → (length_field bytes < 4) ⊎ (k < length_field bytes)) → IsFault (take k bytes) (fault_of bytes k)
+fault_is : (bytes : List ℕ) (k : ℕ) → k ≤ length bytes → (4 ≤ k → (length_field bytes < 4) ⊎ (k < length_field bytes))
+    → IsFault (take k bytes) (fault_of bytes k)
 fault_is bytes k inside damaged =
     let size : length (take k bytes) ≡ k = length-take-le k bytes inside in
     let field : ℕ = length_field bytes in
-    let told : Bool → Bool → DecodeError = λ short low. cond short (NlaBufferTooSmall k 4) (cond low (NlaInvalidLength 4 field) (NlaLengthMismatch k field)) in
+    let told : Bool → Bool → DecodeError =
+    λ short low. cond short (NlaBufferTooSmall k 4) (cond low (NlaInvalidLength 4 field) (NlaLengthMismatch k field)) in
     elim (cases_lt k 4) [
-      | inl short ↦ subst (λ (b : Bool). IsFault (take k bytes) (told b (ltb field 4))) (sym (lt-ltb k 4 short)) (omega arith, sym size, refl)
+      | inl short ↦ subst (λ (b : Bool). IsFault (take k bytes) (told b (ltb field 4))) (sym (lt-ltb k 4 short))
+          (omega arith, sym size, refl)
       | inr long ↦ subst (λ (b : Bool). IsFault (take k bytes) (told b (ltb field 4))) (sym (le-ltb k 4 long))
           (let same : length_field (take k bytes) ≡ field = length_field-take bytes k long in
           elim (cases_lt field 4) [
-            | inl low ↦ subst (λ (b : Bool). IsFault (take k bytes) (told false b)) (sym (lt-ltb field 4 low)) (omega arith, omega arith, refl, sym same)
+            | inl low ↦ subst (λ (b : Bool). IsFault (take k bytes) (told false b)) (sym (lt-ltb field 4 low))
+                (omega arith, omega arith, refl, sym same)
             | inr least ↦ subst (λ (b : Bool). IsFault (take k bytes) (told false b)) (sym (le-ltb field 4 least))
                 (omega arith, elim (damaged long) [ inl low ↦ absurd (omega arith) | inr cut ↦ omega arith ], sym size, sym same)
           ])
@@ -83,7 +98,8 @@ not_empty : (k : ℕ) (bytes : List ℕ) → 0 < k → k ≤ length bytes → ta
 not_empty k bytes some inside none = let size = length-take-le k bytes inside in omega (arith, ap length none)
 
 -- bytes with a fault have one wherever they are cut
-fault_cut : (bytes : List ℕ) (fault : DecodeError) (k : ℕ) → IsFault bytes fault → k ≤ length bytes → 4 ≤ k → (length_field bytes < 4) ⊎ (k < length_field bytes)
+fault_cut : (bytes : List ℕ) (fault : DecodeError) (k : ℕ) → IsFault bytes fault → k ≤ length bytes → 4 ≤ k
+    → (length_field bytes < 4) ⊎ (k < length_field bytes)
 fault_cut bytes (NlaBufferTooSmall m n) k is inside long = absurd (omega arith)
 fault_cut bytes (NlaLengthMismatch m n) k is inside long = inr (omega arith)
 fault_cut bytes (NlaInvalidLength m n) k is inside long = inl (omega arith)
@@ -117,18 +133,21 @@ fault_behind at [] = omega arith
 fault_behind at (a ∷ more) = let later = fault_behind (at + padded_size a) more in omega arith
 
 none_cut : (at : ℕ) (all : List Attribute) (fault : Option DecodeError) (cut start : ℕ) → cut ≤ at → IsCutFrom at all fault cut start → ⊥
-none_cut at all fault cut start low (inl (index, end, is, before, inside)) = let behind = place_behind at all index start end is in omega arith
+none_cut at all fault cut start low (inl (index, end, is, before, inside)) = let behind = place_behind at all index start end is in
+    omega arith
 none_cut at all fault cut start low (inr (some, is, before)) = let behind = fault_behind at all in omega arith
 
 -- no attribute that starts at the cut or behind it ends by it
 none_kept : (at cut : ℕ) (all : List Attribute) → cut ≤ at → kept_from at cut all ≡ []
 none_kept at cut [] low = refl
 none_kept at cut (a ∷ more) low =
-    subst (λ (b : Bool). cond b (a ∷ kept_from (at + padded_size a) cut more) (kept_from (at + padded_size a) cut more) ≡ []) (sym (lt-leb (at + (4 + length a.value)) cut (omega arith)))
+    subst (λ (b : Bool). cond b (a ∷ kept_from (at + padded_size a) cut more) (kept_from (at + padded_size a) cut more) ≡ [])
+    (sym (lt-leb (at + (4 + length a.value)) cut (omega arith)))
     (none_kept (at + padded_size a) cut more (omega arith))
 
 -- a cut of attributes is one of the first, or of those behind it
-cut_first : (at : ℕ) (a : Attribute) (more : List Attribute) (fault : Option DecodeError) (cut start : ℕ) → IsCutFrom at (a ∷ more) fault cut start
+cut_first : (at : ℕ) (a : Attribute) (more : List Attribute) (fault : Option DecodeError) (cut start : ℕ)
+    → IsCutFrom at (a ∷ more) fault cut start
     → ((start ≡ at) × (cut < at + (4 + length a.value))) ⊎ IsCutFrom (at + padded_size a) more fault cut start
 unfolding start_or end_or
 cut_first at a more fault cut start (inl (zero, end, is, before, inside)) =
@@ -138,7 +157,8 @@ cut_first at a more fault cut start (inl (zero, end, is, before, inside)) =
 cut_first at a more fault cut start (inl (suc index, end, is, before, inside)) = inr (inl (index, end, is, before, inside))
 cut_first at a more fault cut start (inr is) = inr (inr is)
 
-cut_behind : (at : ℕ) (a : Attribute) (more : List Attribute) (fault : Option DecodeError) (cut start : ℕ) → IsCutFrom (at + padded_size a) more fault cut start → IsCutFrom at (a ∷ more) fault cut start
+cut_behind : (at : ℕ) (a : Attribute) (more : List Attribute) (fault : Option DecodeError) (cut start : ℕ)
+    → IsCutFrom (at + padded_size a) more fault cut start → IsCutFrom at (a ∷ more) fault cut start
 cut_behind at a more fault cut start (inl (index, end, is, before, inside)) = inl (suc index, end, is, before, inside)
 cut_behind at a more fault cut start (inr is) = inr is
 
@@ -161,16 +181,20 @@ IsLeft at bytes all fault cut end =
     × (((start : ℕ) → IsCutFrom at all fault cut start → ⊥) → end ≡ None)
 
 -- a cut at the offset or in front of it leaves nothing
-nothing_left : (at : ℕ) (bytes : List ℕ) (all : List Attribute) (fault : Option DecodeError) (cut : ℕ) → cut ≤ at → IsLeft at bytes all fault cut None
+nothing_left : (at : ℕ) (bytes : List ℕ) (all : List Attribute) (fault : Option DecodeError) (cut : ℕ) → cut ≤ at
+    → IsLeft at bytes all fault cut None
 nothing_left at bytes all fault cut same = (
-  subst (λ (left : List Attribute). Walk (take (cut - at) bytes) left None) (sym (none_kept at cut all (omega arith))) (ap (λ (k : ℕ). take k bytes) (let e : cut - at ≡ 0 = omega arith in e)),
+  subst (λ (left : List Attribute). Walk (take (cut - at) bytes) left None) (sym (none_kept at cut all (omega arith)))
+      (ap (λ (k : ℕ). take k bytes) (let e : cut - at ≡ 0 = omega arith in e)),
   λ start is. absurd (none_cut at all fault cut start (omega arith) is),
   λ none. refl,
 )
 
 -- a cut of what is at the front leaves a fault
-front_left : (at : ℕ) (bytes : List ℕ) (all : List Attribute) (fault : Option DecodeError) (cut : ℕ) → at < cut → cut ≤ at + length bytes → kept_from at cut all ≡ []
-    → (4 ≤ cut - at → (length_field bytes < 4) ⊎ (cut - at < length_field bytes)) → IsCutFrom at all fault cut at → ((start : ℕ) → IsCutFrom at all fault cut start → start ≡ at)
+front_left : (at : ℕ) (bytes : List ℕ) (all : List Attribute) (fault : Option DecodeError) (cut : ℕ) → at < cut → cut ≤ at + length bytes
+    → kept_from at cut all ≡ []
+    → (4 ≤ cut - at → (length_field bytes < 4) ⊎ (cut - at < length_field bytes)) → IsCutFrom at all fault cut at
+    → ((start : ℕ) → IsCutFrom at all fault cut start → start ≡ at)
     → IsLeft at bytes all fault cut (Some (fault_of bytes (cut - at)))
 front_left at bytes all fault cut past inside none damaged here alone = (
   subst (λ (left : List Attribute). Walk (take (cut - at) bytes) left (Some (fault_of bytes (cut - at)))) (sym none)
@@ -183,17 +207,21 @@ front_left at bytes all fault cut past inside none damaged here alone = (
 )
 
 -- what is kept of attributes whose first ends by the cut, and of others
-kept_first : (at cut : ℕ) (a : Attribute) (more : List Attribute) → at + (4 + length a.value) ≤ cut → kept_from at cut (a ∷ more) ≡ a ∷ kept_from (at + padded_size a) cut more
+kept_first : (at cut : ℕ) (a : Attribute) (more : List Attribute) → at + (4 + length a.value) ≤ cut
+    → kept_from at cut (a ∷ more) ≡ a ∷ kept_from (at + padded_size a) cut more
 kept_first at cut a more ends =
-    ap (λ (b : Bool). cond b (a ∷ kept_from (at + padded_size a) cut more) (kept_from (at + padded_size a) cut more)) (le-leb (at + (4 + length a.value)) cut ends)
+    ap (λ (b : Bool). cond b (a ∷ kept_from (at + padded_size a) cut more) (kept_from (at + padded_size a) cut more))
+    (le-leb (at + (4 + length a.value)) cut ends)
 
 not_kept : (at cut : ℕ) (a : Attribute) (more : List Attribute) → cut < at + (4 + length a.value) → kept_from at cut (a ∷ more) ≡ []
 not_kept at cut a more inside =
-    ap (λ (b : Bool). cond b (a ∷ kept_from (at + padded_size a) cut more) (kept_from (at + padded_size a) cut more)) (lt-leb (at + (4 + length a.value)) cut inside)
+    ap (λ (b : Bool). cond b (a ∷ kept_from (at + padded_size a) cut more) (kept_from (at + padded_size a) cut more))
+    (lt-leb (at + (4 + length a.value)) cut inside)
     ∙ none_kept (at + padded_size a) cut more (omega arith)
 
 -- the first attribute ends by the cut, and what is left of the rest is known
-behind_left : (at : ℕ) (bytes rest : List ℕ) (a : Attribute) (more : List Attribute) (fault end : Option DecodeError) (cut : ℕ) → Starts bytes a rest → at + (4 + length a.value) ≤ cut
+behind_left : (at : ℕ) (bytes rest : List ℕ) (a : Attribute) (more : List Attribute) (fault end : Option DecodeError) (cut : ℕ)
+    → Starts bytes a rest → at + (4 + length a.value) ≤ cut
     → IsLeft (at + padded_size a) rest more fault cut end → IsLeft at bytes (a ∷ more) fault cut end
 behind_left at bytes rest a more fault end cut starts ends (walk, faulty, sound) =
     let later : cut - at - padded_size a ≡ cut - (at + padded_size a) = omega arith in
@@ -207,12 +235,15 @@ behind_left at bytes rest a more fault end cut starts ends (walk, faulty, sound)
             let low : at + padded_size a ≤ start = low_cut (at + padded_size a) more fault cut start behind in
             let offset : padded_size a + (start - (at + padded_size a)) ≡ start - at = omega arith in
             faulty start behind
-            ∙ ap (λ (b : List ℕ). Some (fault_of b (cut - start))) (ap (drop (start - (at + padded_size a))) same ∙ drop-drop (start - (at + padded_size a)) (padded_size a) bytes ∙ ap (λ (k : ℕ). drop k bytes) offset)
+            ∙ ap (λ (b : List ℕ). Some (fault_of b (cut - start)))
+            (ap (drop (start - (at + padded_size a))) same ∙ drop-drop (start - (at + padded_size a)) (padded_size a) bytes
+            ∙ ap (λ (k : ℕ). drop k bytes) offset)
       ],
       λ never. sound (λ start behind. never start (cut_behind at a more fault cut start behind)),
     )
 
-pub walk_left : (at : ℕ) (bytes : List ℕ) (all : List Attribute) (fault : Option DecodeError) (cut : ℕ) → Walk bytes all fault → at ≤ cut → cut ≤ at + length bytes
+pub walk_left : (at : ℕ) (bytes : List ℕ) (all : List Attribute) (fault : Option DecodeError) (cut : ℕ) → Walk bytes all fault → at ≤ cut
+    → cut ≤ at + length bytes
     → (end : Option DecodeError) × IsLeft at bytes all fault cut end
 walk_left at bytes [] None cut none low inside =
     let size : length bytes ≡ 0 = ap length none in
@@ -221,7 +252,8 @@ walk_left at bytes [] (Some fault) cut (some, is) low inside =
     elim (cases_lt at cut) [
       | inl past ↦ (
         Some (fault_of bytes (cut - at)),
-        front_left at bytes [] (Some fault) cut past inside refl (λ long. fault_cut bytes fault (cut - at) is (omega arith) long) (inr (λ none. cc, refl, past)) (λ start is. only_fault at fault cut start is),
+        front_left at bytes [] (Some fault) cut past inside refl (λ long. fault_cut bytes fault (cut - at) is (omega arith) long)
+            (inr (λ none. cc, refl, past)) (λ start is. only_fault at fault cut start is),
       )
       | inr at_once ↦ (None, nothing_left at bytes [] (Some fault) cut (omega arith))
     ]
@@ -232,15 +264,22 @@ walk_left at bytes (a ∷ more) fault cut (rest, starts, walk) low inside =
       | inl within ↦ elim (cases_lt at cut) [
         | inl past ↦ (
           Some (fault_of bytes (cut - at)),
-          front_left at bytes (a ∷ more) fault cut past inside (not_kept at cut a more within) (λ long. inr (omega arith)) (inl (0, at + (4 + length a.value), refl, past, within))
-              (λ start is. elim (cut_first at a more fault cut start is) [ inl first ↦ first.0 | inr behind ↦ absurd (none_cut (at + padded_size a) more fault cut start (omega arith) behind) ]),
+          front_left at bytes (a ∷ more) fault cut past inside (not_kept at cut a more within) (λ long. inr (omega arith))
+              (inl (0, at + (4 + length a.value), refl, past, within))
+              (λ start is. elim (cut_first at a more fault cut start is)
+              [ inl first ↦ first.0 | inr behind ↦ absurd (none_cut (at + padded_size a) more fault cut start (omega arith) behind) ]),
         )
         | inr at_once ↦ (None, nothing_left at bytes (a ∷ more) fault cut (omega arith))
       ]
       | inr ends ↦ elim (cases_lt cut (at + padded_size a)) [
-        | inl gap ↦ (None, behind_left at bytes rest a more fault None cut starts ends (nothing_left (at + padded_size a) rest more fault cut (omega arith)))
+        | inl gap ↦ (
+          None,
+          behind_left at bytes rest a more fault None cut starts ends
+              (nothing_left (at + padded_size a) rest more fault cut (omega arith)),
+        )
         | inr behind ↦
-            let left : cut ≤ at + padded_size a + length rest = elim starts.gap_size [ inl full ↦ omega arith | inr short ↦ omega (arith, short.0, ap length short.1) ] in
+            let left : cut ≤ at + padded_size a + length rest =
+            elim starts.gap_size [ inl full ↦ omega arith | inr short ↦ omega (arith, short.0, ap length short.1) ] in
             let later = walk_left (at + padded_size a) rest more fault cut walk behind left in
             (later.0, behind_left at bytes rest a more fault later.0 cut starts ends later.1)
       ]
@@ -260,16 +299,19 @@ whole_left bytes cut inside all fault walk =
       left.1.2,
     )
 
-pub cut_attributes : (bytes : List ℕ) (cut : ℕ) → cut ≤ length bytes → (all : List Attribute) (fault : Option DecodeError) → Walk bytes all fault → (end : Option DecodeError) × Walk (take cut bytes) (kept_by cut all) end
+pub cut_attributes : (bytes : List ℕ) (cut : ℕ) → cut ≤ length bytes → (all : List Attribute) (fault : Option DecodeError)
+    → Walk bytes all fault → (end : Option DecodeError) × Walk (take cut bytes) (kept_by cut all) end
 cut_attributes bytes cut inside all fault walk = let known = whole_left bytes cut inside all fault walk in (known.0, known.1)
 
-pub cut_is_fault : (bytes : List ℕ) (cut : ℕ) → cut ≤ length bytes → (all left : List Attribute) (fault end : Option DecodeError) (start : ℕ) → Walk bytes all fault → Walk (take cut bytes) left end
+pub cut_is_fault : (bytes : List ℕ) (cut : ℕ) → cut ≤ length bytes
+    → (all left : List Attribute) (fault end : Option DecodeError) (start : ℕ) → Walk bytes all fault → Walk (take cut bytes) left end
     → IsCutAt all fault cut start → end ≡ Some (cut_fault bytes start cut)
 cut_is_fault bytes cut inside all left fault end start walk other is =
     let known = whole_left bytes cut inside all fault walk in
     (walk_once (take cut bytes) left (kept_by cut all) end known.0 other known.1).1 ∙ known.2 start is
 
-pub cut_no_fault : (bytes : List ℕ) (cut : ℕ) → cut ≤ length bytes → (all left : List Attribute) (fault end : Option DecodeError) → Walk bytes all fault → Walk (take cut bytes) left end
+pub cut_no_fault : (bytes : List ℕ) (cut : ℕ) → cut ≤ length bytes → (all left : List Attribute) (fault end : Option DecodeError)
+    → Walk bytes all fault → Walk (take cut bytes) left end
     → ((start : ℕ) → IsCutAt all fault cut start → ⊥) → end ≡ None
 cut_no_fault bytes cut inside all left fault end walk other never =
     let known = whole_left bytes cut inside all fault walk in

@@ -41,7 +41,8 @@ pub answer_err : (bytes : List ℕ) (result : Result (Vec ℕ Global) DecodeErro
 answer_err bytes (Ok v) answer = tt
 answer_err bytes (Err e) answer = answer
 
-pub answer_writes : (bytes : List ℕ) (result : Result (Vec ℕ Global) DecodeError) → IsAnswer bytes result → (all : List Attribute) → Walk bytes all None
+pub answer_writes : (bytes : List ℕ) (result : Result (Vec ℕ Global) DecodeError) → IsAnswer bytes result → (all : List Attribute)
+    → Walk bytes all None
     → MatchResult result (λ v. v.items ≡ canonical_block all) (λ e. e ≡ OutOfMemory)
 answer_writes bytes (Ok v) (x, walk, items) all other = items ∙ ap canonical_block (walk_once bytes x all None None walk other).0
 answer_writes bytes (Err e) (inl memory) all other = memory
@@ -64,16 +65,19 @@ answer_fixed bytes (Ok v) (x, walk, items) canonical = items ∙ (canonical_walk
 answer_fixed bytes (Err e) (inl memory) canonical = memory
 answer_fixed bytes (Err e) (inr (x, walk)) canonical = absurd (no_canonical_fault bytes x e walk canonical)
 
-pub answer_canonical : (bytes : List ℕ) (result : Result (Vec ℕ Global) DecodeError) → IsAnswer bytes result → IfOk result (λ v. IsCanonicalBlock v.items)
+pub answer_canonical : (bytes : List ℕ) (result : Result (Vec ℕ Global) DecodeError) → IsAnswer bytes result
+    → IfOk result (λ v. IsCanonicalBlock v.items)
 answer_canonical bytes (Ok v) (x, walk, items) = rw items (walked_canonical bytes x walk)
 answer_canonical bytes (Err e) answer = tt
 
-pub answer_unchanged : (bytes : List ℕ) (result : Result (Vec ℕ Global) DecodeError) → IsAnswer bytes result → IfOk result (λ v. (v.items ≡ bytes) ↔ IsCanonicalBlock bytes)
+pub answer_unchanged : (bytes : List ℕ) (result : Result (Vec ℕ Global) DecodeError) → IsAnswer bytes result
+    → IfOk result (λ v. (v.items ≡ bytes) ↔ IsCanonicalBlock bytes)
 answer_unchanged bytes (Ok v) (x, walk, items) = rw items (written_fixed bytes x walk)
 answer_unchanged bytes (Err e) answer = tt
 
 -- the text of the attribute that bytes start with
-pub starts-text : (bytes : List ℕ) (a : Attribute) (rest : List ℕ) → Starts bytes a rest → take (length_field bytes) bytes ≡ attribute_bytes a
+pub starts-text : (bytes : List ℕ) (a : Attribute) (rest : List ℕ) → Starts bytes a rest
+    → take (length_field bytes) bytes ≡ attribute_bytes a
 starts-text bytes a rest starts =
     let size : length (attribute_bytes a) ≡ length_field bytes = length-attribute_bytes a ∙ sym (starts-length_field bytes a rest starts) in
     ap (take (length_field bytes)) starts.whole ∙ take_at (attribute_bytes a) (starts.gap ++ rest) (length_field bytes) size
@@ -86,11 +90,13 @@ padded-text a text is =
     rw (same, is) refl
 
 -- one attribute more is written
-pub written_push : (done : List Attribute) (old new bytes storage : List ℕ) (rest : List ℕ) (size : ℕ) → Starts bytes (attribute_of bytes) rest → storage ≡ bytes → size ≡ length_field storage
+pub written_push : (done : List Attribute) (old new bytes storage : List ℕ) (rest : List ℕ) (size : ℕ)
+    → Starts bytes (attribute_of bytes) rest → storage ≡ bytes → size ≡ length_field storage
     → old ≡ canonical_block done → new ≡ old ++ (take size storage ++ replicate (padding (length (take size storage))) 0)
     → new ≡ canonical_block (done ++ (attribute_of bytes ∷ []))
 written_push done old new bytes storage rest size starts same field before after =
     let a : Attribute = attribute_of bytes in
     let text : take size storage ≡ attribute_bytes a =
     ap (λ (k : ℕ). take k storage) field ∙ ap (λ (x : List ℕ). take (length_field x) x) same ∙ starts-text bytes a rest starts in
-    after ∙ ap (λ (x : List ℕ). old ++ x) (padded-text a (take size storage) text) ∙ ap (λ (x : List ℕ). x ++ padded a) before ∙ sym (block_push done a)
+    after ∙ ap (λ (x : List ℕ). old ++ x) (padded-text a (take size storage) text) ∙ ap (λ (x : List ℕ). x ++ padded a) before
+    ∙ sym (block_push done a)

@@ -32,13 +32,17 @@ abbrev header : ℕ → ℕ → List ℕ
 header size kind = bytes_le (4 + size) 2 ++ bytes_le kind 2
 
 length-header : (size kind : ℕ) → length (header size kind) ≡ 4
-length-header size kind = length-append (bytes_le (4 + size) 2) (bytes_le kind 2) ∙ omega (arith, length-bytes_le (4 + size) 2, length-bytes_le kind 2)
+length-header size kind =
+    length-append (bytes_le (4 + size) 2) (bytes_le kind 2) ∙ omega (arith, length-bytes_le (4 + size) 2, length-bytes_le kind 2)
 
 attribute_bytes-append : (a : Attribute) (rest : List ℕ) → attribute_bytes a ++ rest ≡ header (length a.value) a.kind ++ (a.value ++ rest)
-attribute_bytes-append a rest = let grouped : (x y v r : List ℕ) → (x ++ (y ++ v)) ++ r ≡ (x ++ y) ++ (v ++ r) = λ x y v r. simp append_assoc in grouped (bytes_le (4 + length a.value) 2) (bytes_le a.kind 2) a.value rest
+attribute_bytes-append a rest =
+    let grouped : (x y v r : List ℕ) → (x ++ (y ++ v)) ++ r ≡ (x ++ y) ++ (v ++ r) = λ x y v r. simp append_assoc in
+    grouped (bytes_le (4 + length a.value) 2) (bytes_le a.kind 2) a.value rest
 
 -- the value at the front replaced
-first_replaced : (bytes : List ℕ) (a : Attribute) (rest value : List ℕ) → Starts bytes a rest → length value ≡ length a.value → Starts (put_at bytes 4 value) (record { kind = a.kind; value = value }) rest
+first_replaced : (bytes : List ℕ) (a : Attribute) (rest value : List ℕ) → Starts bytes a rest → length value ≡ length a.value
+    → Starts (put_at bytes 4 value) (record { kind = a.kind; value = value }) rest
 first_replaced bytes a rest value starts same =
     let behind : List ℕ = starts.gap ++ rest in
     let fits = starts.fits.value in
@@ -50,16 +54,19 @@ first_replaced bytes a rest value starts same =
           ∙ ap (λ (x : List ℕ). header (length a.value) a.kind ++ x) (put_front a.value behind value same)
           ∙ ap (λ (n : ℕ). header n a.kind ++ (value ++ behind)) (sym same)
           ∙ sym (attribute_bytes-append (record { kind = a.kind; value = value }) behind);
-      gap_size = subst (λ (n : ℕ). (length starts.gap ≡ padding n) ⊎ ((length starts.gap < padding n) × (rest ≡ []))) (sym same) starts.gap_size;
+      gap_size =
+          subst (λ (n : ℕ). (length starts.gap ≡ padding n) ⊎ ((length starts.gap < padding n) × (rest ≡ []))) (sym same) starts.gap_size;
     }
 
 -- where an attribute has a place, something is left
-some_left : (at : ℕ) (rest : List ℕ) (more : List Attribute) (fault : Option DecodeError) (index : ℕ) (place : ℕ × ℕ) → Walk rest more fault → slice_get (ends_from at more) index ≡ Some place → rest ≢ []
+some_left : (at : ℕ) (rest : List ℕ) (more : List Attribute) (fault : Option DecodeError) (index : ℕ) (place : ℕ × ℕ) → Walk rest more fault
+    → slice_get (ends_from at more) index ≡ Some place → rest ≢ []
 some_left at rest [] fault index place walk is = absurd (let never : None ≡ Some place = is in cc)
 some_left at rest (a ∷ more) fault index place walk is = λ none. nothing_starts rest a walk.0 none walk.1
 
 -- an attribute with a value of this size is found at some distance, and replaced there
-replaced_from : (at : ℕ) (bytes : List ℕ) (all : List Attribute) (fault : Option DecodeError) (index : ℕ) (value : List ℕ) (place : ℕ × ℕ) → Walk bytes all fault
+replaced_from : (at : ℕ) (bytes : List ℕ) (all : List Attribute) (fault : Option DecodeError) (index : ℕ) (value : List ℕ) (place : ℕ × ℕ)
+    → Walk bytes all fault
     → slice_get (ends_from at all) index ≡ Some place → place.1 ≡ place.0 + 4 + length value
     → (far : ℕ) × (place.0 ≡ at + far) × Walk (put_at bytes (far + 4) value) (replaced all index value) fault
 replaced_from at bytes [] fault index value place walk is size = absurd (let never : None ≡ Some place = is in cc)
@@ -84,7 +91,9 @@ replaced_from at bytes (a ∷ more) fault (suc index) value place (rest, starts,
         record {
           fits = starts.fits;
           gap = starts.gap;
-          whole = ap (λ (x : List ℕ). put_at x (length front + later.0 + 4) value) (starts.whole ∙ sym (append_assoc (attribute_bytes a) starts.gap rest))
+          whole =
+              ap (λ (x : List ℕ). put_at x (length front + later.0 + 4) value)
+              (starts.whole ∙ sym (append_assoc (attribute_bytes a) starts.gap rest))
               ∙ put_behind front rest value (length front + later.0 + 4) (later.0 + 4) (omega arith)
               ∙ append_assoc (attribute_bytes a) starts.gap (put_at rest (later.0 + 4) value);
           gap_size = inl full;
@@ -94,14 +103,17 @@ replaced_from at bytes (a ∷ more) fault (suc index) value place (rest, starts,
     )
 
 -- from a fact of a value's place to another, where the place is known
-on_place : (o : Option (ℕ × ℕ)) (P Q : ℕ × ℕ → Type 0) → ((place : ℕ × ℕ) → o ≡ Some place → P (value_part place) → Q (value_part place)) → IsSomeAnd (option_map value_part o) P → IsSomeAnd (option_map value_part o) Q
+on_place : (o : Option (ℕ × ℕ)) (P Q : ℕ × ℕ → Type 0) → ((place : ℕ × ℕ) → o ≡ Some place → P (value_part place) → Q (value_part place))
+    → IsSomeAnd (option_map value_part o) P → IsSomeAnd (option_map value_part o) Q
 on_place None P Q then given = given
 on_place (Some place) P Q then given = then place refl given
 
-walk_replaced : (bytes : List ℕ) (index : ℕ) (value : List ℕ) (all : List Attribute) (fault : Option DecodeError) → Walk bytes all fault → HasValueOf all index (length value)
+walk_replaced : (bytes : List ℕ) (index : ℕ) (value : List ℕ) (all : List Attribute) (fault : Option DecodeError) → Walk bytes all fault
+    → HasValueOf all index (length value)
     → IsSomeAnd (value_place all index) (λ place. Walk (put_at bytes place.0 value) (replaced all index value) fault)
 walk_replaced bytes index value all fault walk has =
-    on_place (slice_get (ends_of all) index) (λ place. place.1 ≡ place.0 + length value) (λ place. Walk (put_at bytes place.0 value) (replaced all index value) fault)
+    on_place (slice_get (ends_of all) index) (λ place. place.1 ≡ place.0 + length value)
+    (λ place. Walk (put_at bytes place.0 value) (replaced all index value) fault)
     (λ place is size.
     let found = replaced_from 0 bytes all fault index value place walk is size in
     let far : found.0 ≡ place.0 = omega (arith, found.1) in
@@ -111,16 +123,19 @@ walk_replaced bytes index value all fault walk has =
 abbrev pub IsSized : List ℕ → ℕ → ℕ → Type 0
 IsSized bytes index size = (all : List Attribute) (fault : Option DecodeError) → Walk bytes all fault → HasValueOf all index size
 
-pub value_replaced : (bytes : List ℕ) (index : ℕ) (value : List ℕ) → IsSized bytes index (length value) → (all : List Attribute) (fault : Option DecodeError) → Walk bytes all fault
+pub value_replaced : (bytes : List ℕ) (index : ℕ) (value : List ℕ) → IsSized bytes index (length value)
+    → (all : List Attribute) (fault : Option DecodeError) → Walk bytes all fault
     → IsSomeAnd (value_place all index) (λ place. Walk (put_at bytes place.0 value) (replaced all index value) fault)
 value_replaced bytes index value sized all fault walk = walk_replaced bytes index value all fault walk (sized all fault walk)
 
 -- what is said of the text at a place holds of what is that text
-at_place : (o : Option (ℕ × ℕ)) (new : List ℕ) (text : ℕ × ℕ → List ℕ) (P : List ℕ → Type 0) → IsSomeAnd o (λ place. new ≡ text place) → IsSomeAnd o (λ place. P (text place)) → P new
+at_place : (o : Option (ℕ × ℕ)) (new : List ℕ) (text : ℕ × ℕ → List ℕ) (P : List ℕ → Type 0) → IsSomeAnd o (λ place. new ≡ text place)
+    → IsSomeAnd o (λ place. P (text place)) → P new
 at_place None new text P is holds = absurd holds
 at_place (Some place) new text P is holds = subst P (sym is) holds
 
-pub written_replaced : (bytes : List ℕ) (index : ℕ) (value : List ℕ) → IsSized bytes index (length value) → (new : List ℕ) → IsWritten bytes index value new
+pub written_replaced : (bytes : List ℕ) (index : ℕ) (value : List ℕ) → IsSized bytes index (length value) → (new : List ℕ)
+    → IsWritten bytes index value new
     → (all : List Attribute) (fault : Option DecodeError) → Walk bytes all fault → Walk new (replaced all index value) fault
 written_replaced bytes index value sized new written all fault walk =
     at_place (value_place all index) new (λ place. put_at bytes place.0 value) (λ (x : List ℕ). Walk x (replaced all index value) fault)

@@ -14,56 +14,73 @@ of kind_of value_of nla = attribute_with (kind_of nla) (value_of nla)
 -- so far each fits, in so many bytes
 pub record FitSoFar {T : Type 0} (kind_of : T → ℕ) (value_of : T → List ℕ) (list : List T) (index size : ℕ) : Type 0 where
   pub each : AllWithin (λ nla. FitsAttribute (of kind_of value_of nla)) list 0 index
-  pub counted : size + length (canonical_block (attributes_of kind_of value_of (drop index list))) ≡ length (canonical_block (attributes_of kind_of value_of list))
+  pub counted : size + length (canonical_block (attributes_of kind_of value_of (drop index list)))
+      ≡ length (canonical_block (attributes_of kind_of value_of list))
   pub whole : size ≤ 4294963200
 
 -- the block of all but the rest has this size
 pub all_counted : {T : Type 0} (kind_of : T → ℕ) (value_of : T → List ℕ) (list : List T) (index size : ℕ) → length list ≤ index
-    → size + length (canonical_block (attributes_of kind_of value_of (drop index list))) ≡ length (canonical_block (attributes_of kind_of value_of list))
+    → size + length (canonical_block (attributes_of kind_of value_of (drop index list)))
+    ≡ length (canonical_block (attributes_of kind_of value_of list))
     → size ≡ length (canonical_block (attributes_of kind_of value_of list))
 all_counted {T} kind_of value_of list index size end counted =
     let none : length (canonical_block (attributes_of kind_of value_of (drop index list))) ≡ 0 =
     ap (λ (x : List T). length (canonical_block (attributes_of kind_of value_of x))) (drop_all index list end) in
     omega (arith, none, counted)
 
-pub each_attribute : {T : Type 0} (kind_of : T → ℕ) (value_of : T → List ℕ) (list : List T) → All (λ nla. FitsAttribute (of kind_of value_of nla)) list
+pub each_attribute : {T : Type 0} (kind_of : T → ℕ) (value_of : T → List ℕ) (list : List T)
+    → All (λ nla. FitsAttribute (of kind_of value_of nla)) list
     → All FitsAttribute (attributes_of kind_of value_of list)
 each_attribute kind_of value_of list each = All-map FitsAttribute (of kind_of value_of) list each
 
 -- attributes that fit have values that fit
-pub values_fit : {T : Type 0} (kind_of : T → ℕ) (value_of : T → List ℕ) (list : List T) → All FitsAttribute (attributes_of kind_of value_of list) → AllFit value_of list
+pub values_fit : {T : Type 0} (kind_of : T → ℕ) (value_of : T → List ℕ) (list : List T)
+    → All FitsAttribute (attributes_of kind_of value_of list) → AllFit value_of list
 values_fit kind_of value_of [] each = All-nil (λ nla. length (value_of nla) ≤ 65531)
 values_fit kind_of value_of (nla ∷ more) each =
-    All-cons (λ nla. length (value_of nla) ≤ 65531) nla more (each 0 (of kind_of value_of nla) (omega arith)).value (values_fit kind_of value_of more (λ k d inside. each (suc k) d (omega arith)))
+    All-cons (λ nla. length (value_of nla) ≤ 65531) nla more (each 0 (of kind_of value_of nla) (omega arith)).value
+    (values_fit kind_of value_of more (λ k d inside. each (suc k) d (omega arith)))
 
 pub attributes-push : {T : Type 0} (kind_of : T → ℕ) (value_of : T → List ℕ) (list : List T) (nla : T)
     → attributes_of kind_of value_of (list ++ (nla ∷ [])) ≡ attributes_of kind_of value_of list ++ (of kind_of value_of nla ∷ [])
 attributes-push kind_of value_of [] nla = refl
-attributes-push kind_of value_of (first ∷ list) nla = ap (λ (x : List Attribute). of kind_of value_of first ∷ x) (attributes-push kind_of value_of list nla)
+attributes-push kind_of value_of (first ∷ list) nla =
+    ap (λ (x : List Attribute). of kind_of value_of first ∷ x) (attributes-push kind_of value_of list nla)
 
 -- the size of a block with one attribute more
 pub length-push : {T : Type 0} (kind_of : T → ℕ) (value_of : T → List ℕ) (list : List T) (nla : T)
-    → length (canonical_block (attributes_of kind_of value_of (list ++ (nla ∷ [])))) ≡ length (canonical_block (attributes_of kind_of value_of list)) + length (padded (of kind_of value_of nla))
+    → length (canonical_block (attributes_of kind_of value_of (list ++ (nla ∷ []))))
+    ≡ length (canonical_block (attributes_of kind_of value_of list)) + length (padded (of kind_of value_of nla))
 length-push kind_of value_of list nla =
     ap (λ (x : List Attribute). length (canonical_block x)) (attributes-push kind_of value_of list nla)
     ∙ ap length (block_push (attributes_of kind_of value_of list) (of kind_of value_of nla))
     ∙ length-append (canonical_block (attributes_of kind_of value_of list)) (padded (of kind_of value_of nla))
 
 -- what holds of the attributes of a list and of one more
-pub each_push : {T : Type 0} (kind_of : T → ℕ) (value_of : T → List ℕ) (list : List T) (nla : T) → All FitsAttribute (attributes_of kind_of value_of list)
+pub each_push : {T : Type 0} (kind_of : T → ℕ) (value_of : T → List ℕ) (list : List T) (nla : T)
+    → All FitsAttribute (attributes_of kind_of value_of list)
     → kind_of nla < 2 ^ 16 → length (value_of nla) ≤ 65531 → All FitsAttribute (attributes_of kind_of value_of (list ++ (nla ∷ [])))
 each_push kind_of value_of list nla each kind value =
-    let last : All FitsAttribute (of kind_of value_of nla ∷ []) = All-cons FitsAttribute (of kind_of value_of nla) [] (record { kind = kind; value = value }) (All-nil FitsAttribute) in
-    subst (All FitsAttribute) (sym (attributes-push kind_of value_of list nla)) (All-append FitsAttribute (attributes_of kind_of value_of list) (of kind_of value_of nla ∷ []) each last)
+    let last : All FitsAttribute (of kind_of value_of nla ∷ []) =
+    All-cons FitsAttribute (of kind_of value_of nla) [] (record { kind = kind; value = value }) (All-nil FitsAttribute) in
+    subst (All FitsAttribute) (sym (attributes-push kind_of value_of list nla))
+    (All-append FitsAttribute (attributes_of kind_of value_of list) (of kind_of value_of nla ∷ []) each last)
 
 -- attributes that do not fit with one more
 pub too_big : {T : Type 0} (kind_of : T → ℕ) (value_of : T → List ℕ) (list : List T) (nla : T) (size more : ℕ)
-    → size ≡ length (canonical_block (attributes_of kind_of value_of list)) → more ≡ length (padded (of kind_of value_of nla)) → 4294963200 < size + more
+    → size ≡ length (canonical_block (attributes_of kind_of value_of list)) → more ≡ length (padded (of kind_of value_of nla))
+    → 4294963200 < size + more
     → FitBlock kind_of value_of (list ++ (nla ∷ [])) → ⊥
-too_big kind_of value_of list nla size more counted is big fit = omega (arith, fit.1, length-push kind_of value_of list nla, counted, is, big)
+too_big kind_of value_of list nla size more counted is big fit =
+    omega (arith, fit.1, length-push kind_of value_of list nla, counted, is, big)
 
-pub fit_push : {T : Type 0} (kind_of : T → ℕ) (value_of : T → List ℕ) (list : List T) (nla : T) (size more : ℕ) → All FitsAttribute (attributes_of kind_of value_of list)
-    → size ≡ length (canonical_block (attributes_of kind_of value_of list)) → more ≡ length (padded (of kind_of value_of nla)) → size + more ≤ 4294963200
+pub fit_push : {T : Type 0} (kind_of : T → ℕ) (value_of : T → List ℕ) (list : List T) (nla : T) (size more : ℕ)
+    → All FitsAttribute (attributes_of kind_of value_of list)
+    → size ≡ length (canonical_block (attributes_of kind_of value_of list)) → more ≡ length (padded (of kind_of value_of nla))
+    → size + more ≤ 4294963200
     → kind_of nla < 2 ^ 16 → length (value_of nla) ≤ 65531 → FitBlock kind_of value_of (list ++ (nla ∷ []))
-fit_push kind_of value_of list nla size more each counted is low kind value =
-    (values_fit kind_of value_of (list ++ (nla ∷ [])) (each_push kind_of value_of list nla each kind value), omega (arith, length-push kind_of value_of list nla, counted, is, low))
+fit_push kind_of value_of list nla size more each counted is low kind value = (
+  values_fit kind_of value_of (list ++ (nla ∷ [])) (each_push kind_of value_of list nla each kind value),
+  omega
+      (arith, length-push kind_of value_of list nla, counted, is, low),
+)

@@ -37,7 +37,8 @@ past_place all index none = elim (slice_get_cases (ends_of all) index).1 [
 -- there is no such attribute
 pub no_value : (bytes : List ℕ) (index start end : ℕ) → IsRange bytes index start end → end < start
     → (all : List Attribute) (fault : Option DecodeError) → Walk bytes all fault → IsNone {T = MutBor (List ℕ)} None ↔ (length all ≤ index)
-no_value bytes index start end range falls all fault walk = (λ _. past_place all index (sym (range_no_place bytes index start end range falls all fault walk)), λ _. refl)
+no_value bytes index start end range falls all fault walk =
+    (λ _. past_place all index (sym (range_no_place bytes index start end range falls all fault walk)), λ _. refl)
 
 -- there is one
 pub some_value : (bytes : List ℕ) (index start end : ℕ) (value : MutBor (List ℕ)) → IsRange bytes index start end → start ≤ end
@@ -48,11 +49,15 @@ some_value bytes index start end value range order all fault walk = (
 )
 
 -- what lies there is its value
-pub value_held : (bytes : List ℕ) (index start end : ℕ) → IsRange bytes index start end → start ≤ end → IsValue bytes index (slice_range bytes start end)
+pub value_held : (bytes : List ℕ) (index start end : ℕ) → IsRange bytes index start end → start ≤ end
+    → IsValue bytes index (slice_range bytes start end)
 value_held bytes index start end range order = λ all fault walk.
-    subst (λ (o : Option (ℕ × ℕ)). IsSomeAnd o (λ place. slice_range bytes start end ≡ slice_range bytes place.0 place.1)) (range_place bytes index start end range order all fault walk) refl
+    subst (λ (o : Option (ℕ × ℕ)). IsSomeAnd o (λ place. slice_range bytes start end ≡ slice_range bytes place.0 place.1))
+    (range_place bytes index start end range order all fault walk) refl
 
 -- and what is put there is written as its value
-pub value_written : (bytes : List ℕ) (index start end : ℕ) → IsRange bytes index start end → start ≤ end → (value : List ℕ) → IsWritten bytes index value (put_at bytes start value)
+pub value_written : (bytes : List ℕ) (index start end : ℕ) → IsRange bytes index start end → start ≤ end → (value : List ℕ)
+    → IsWritten bytes index value (put_at bytes start value)
 value_written bytes index start end range order value = λ all fault walk.
-    subst (λ (o : Option (ℕ × ℕ)). IsSomeAnd o (λ place. put_at bytes start value ≡ put_at bytes place.0 value)) (range_place bytes index start end range order all fault walk) refl
+    subst (λ (o : Option (ℕ × ℕ)). IsSomeAnd o (λ place. put_at bytes start value ≡ put_at bytes place.0 value))
+    (range_place bytes index start end range order all fault walk) refl

@@ -11,21 +11,25 @@ use Rattle.netlink_attributes.specs.Walk.{Walk, Item, Gives, AreItems}
 use Rattle.netlink_attributes.specs.WalkLaws.{has_walk, walk_once}
 use Rattle.netlink_attributes.specs.declared.iterator.NlasIterator.{NlasIterator}
 
-walk_of_steps : (s : NlasIterator (Bor (List ℕ))) (items : List Item) → Drains steps s items → (all : List Attribute) × (fault : Option DecodeError) × Walk (unread s) all fault × AreItems items all fault
+walk_of_steps : (s : NlasIterator (Bor (List ℕ))) (items : List Item) → Drains steps s items
+    → (all : List Attribute) × (fault : Option DecodeError) × Walk (unread s) all fault × AreItems items all fault
 walk_of_steps s [] (u, (t, same, (done, left))) = ([], None, ap unread same ∙ done, tt)
 walk_of_steps s (Ok view ∷ items) (u, (t, (j, (shows, holds, starts), more), last)) =
     let later = walk_of_steps j items (u, (t, more, last)) in
     (attribute_of (unread s) ∷ later.0, later.1, (unread j, starts, later.2), (ap attribute_of shows, later.3))
 walk_of_steps s (Err fault ∷ []) (u, (t, (j, (some, is, none), more), last)) = ([], Some fault, (some, is), (refl, refl))
-walk_of_steps s (Err fault ∷ (Ok view ∷ items)) (u, (t, (j, (some, is, none), (k, (shows, holds, starts), more)), last)) = absurd (nothing_starts _ _ _ none starts)
-walk_of_steps s (Err fault ∷ (Err other ∷ items)) (u, (t, (j, (some, is, none), (k, (again, other_is, end), more)), last)) = absurd (again none)
+walk_of_steps s (Err fault ∷ (Ok view ∷ items)) (u, (t, (j, (some, is, none), (k, (shows, holds, starts), more)), last)) =
+    absurd (nothing_starts _ _ _ none starts)
+walk_of_steps s (Err fault ∷ (Err other ∷ items)) (u, (t, (j, (some, is, none), (k, (again, other_is, end), more)), last)) =
+    absurd (again none)
 
 some_bytes : (bytes : List ℕ) → bytes ≢ [] → 0 < length bytes
 some_bytes [] some = absurd (some refl)
 some_bytes (x ∷ bytes) some = omega arith
 
 -- a walk has an item for each 4 bytes at most, a part of 4 counted as a whole
-item_count : (bytes : List ℕ) (items : List Item) (all : List Attribute) (fault : Option DecodeError) → Walk bytes all fault → AreItems items all fault → length items ≤ item_bound bytes
+item_count : (bytes : List ℕ) (items : List Item) (all : List Attribute) (fault : Option DecodeError) → Walk bytes all fault
+    → AreItems items all fault → length items ≤ item_bound bytes
 item_count bytes [] all fault walk are = omega arith
 item_count bytes (Err found ∷ items) [] None walk are = absurd are
 item_count bytes (Err found ∷ items) [] (Some fault) walk are =

@@ -17,42 +17,58 @@ pub pieces : (kind size missing : ℕ) (value buffer header written zeros behind
     → size ≡ length value + 4 → missing ≡ padding (length value)
     → header ≡ bytes_le size 2 ++ bytes_le kind 2 → written ≡ value → zeros ≡ replicate missing 0
     → behind ≡ drop 4 buffer → more ≡ drop (length value) behind → rest ≡ drop missing more
-    → header ++ (written ++ (zeros ++ rest)) ≡ padded (attribute_with kind value) ++ drop (length (padded (attribute_with kind value))) buffer
+    → header ++ (written ++ (zeros ++ rest))
+    ≡ padded (attribute_with kind value) ++ drop (length (padded (attribute_with kind value))) buffer
 pieces kind size missing value buffer header written zeros behind more rest sizes lacks headed valued zeroed e₁ e₂ e₃ =
     let swapped : size ≡ 4 + length value = omega arith in
     let long : 4 + (length value + missing) ≡ length (padded (attribute_with kind value)) = omega (arith, length-written kind value) in
     let last : rest ≡ drop (length (padded (attribute_with kind value))) buffer =
-    e₃ ∙ ap (drop missing) (e₂ ∙ ap (drop (length value)) e₁) ∙ drop-drop missing (length value) (drop 4 buffer) ∙ drop-drop (length value + missing) 4 buffer ∙ ap (λ (k : ℕ). drop k buffer) long in
-    let text : header ≡ bytes_le (4 + length value) 2 ++ bytes_le kind 2 = headed ∙ ap (λ (n : ℕ). bytes_le n 2 ++ bytes_le kind 2) swapped in
+    e₃ ∙ ap (drop missing) (e₂ ∙ ap (drop (length value)) e₁) ∙ drop-drop missing (length value) (drop 4 buffer)
+    ∙ drop-drop (length value + missing) 4 buffer ∙ ap (λ (k : ℕ). drop k buffer) long in
+    let text : header ≡ bytes_le (4 + length value) 2 ++ bytes_le kind 2 =
+    headed ∙ ap (λ (n : ℕ). bytes_le n 2 ++ bytes_le kind 2) swapped in
     let zero : zeros ≡ replicate (padding (length value)) 0 = zeroed ∙ ap (λ (n : ℕ). replicate n 0) lacks in
     let grouped : (a b v z r : List ℕ) → (a ++ b) ++ (v ++ (z ++ r)) ≡ ((a ++ (b ++ v)) ++ z) ++ r = λ a b v z r. simp append_assoc in
-    rw (text, valued, zero, last) (grouped (bytes_le (4 + length value) 2) (bytes_le kind 2) value (replicate (padding (length value)) 0) (drop (length (padded (attribute_with kind value))) buffer))
+    rw (text, valued, zero, last)
+    (grouped (bytes_le (4 + length value) 2) (bytes_le kind 2) value (replicate (padding (length value)) 0)
+    (drop (length (padded (attribute_with kind value))) buffer))
 
 -- ---- lists of attributes
 
-pub block-cons : {T : Type 0} (kind_of : T → ℕ) (value_of : T → List ℕ) (nlas : List T) (i : ℕ) (nla : T) → i < length nlas → nla ≡ get_or nlas i nla
-    → canonical_block (attributes_of kind_of value_of (drop i nlas)) ≡ padded (attribute_with (kind_of nla) (value_of nla)) ++ canonical_block (attributes_of kind_of value_of (drop (i + 1) nlas))
+pub block-cons : {T : Type 0} (kind_of : T → ℕ) (value_of : T → List ℕ) (nlas : List T) (i : ℕ) (nla : T) → i < length nlas
+    → nla ≡ get_or nlas i nla
+    → canonical_block (attributes_of kind_of value_of (drop i nlas))
+    ≡ padded (attribute_with (kind_of nla) (value_of nla)) ++ canonical_block (attributes_of kind_of value_of (drop (i + 1) nlas))
 block-cons {T} kind_of value_of nlas i nla inside is =
     ap (λ (xs : List T). canonical_block (attributes_of kind_of value_of xs)) (drop_more nlas i nla inside)
-    ∙ ap (λ (x : T). padded (attribute_with (kind_of x) (value_of x)) ++ canonical_block (attributes_of kind_of value_of (drop (i + 1) nlas))) (sym is)
+    ∙ ap (λ (x : T). padded (attribute_with (kind_of x) (value_of x))
+    ++ canonical_block (attributes_of kind_of value_of (drop (i + 1) nlas))) (sym is)
 
 -- the size of what is left of a list is that of an attribute and of what is left then
-pub length-cons : {T : Type 0} (kind_of : T → ℕ) (value_of : T → List ℕ) (nlas : List T) (i : ℕ) (nla : T) → i < length nlas → nla ≡ get_or nlas i nla
-    → length (canonical_block (attributes_of kind_of value_of (drop i nlas))) ≡ length (padded (attribute_with (kind_of nla) (value_of nla))) + length (canonical_block (attributes_of kind_of value_of (drop (i + 1) nlas)))
+pub length-cons : {T : Type 0} (kind_of : T → ℕ) (value_of : T → List ℕ) (nlas : List T) (i : ℕ) (nla : T) → i < length nlas
+    → nla ≡ get_or nlas i nla
+    → length (canonical_block (attributes_of kind_of value_of (drop i nlas)))
+    ≡ length (padded (attribute_with (kind_of nla) (value_of nla))) + length
+    (canonical_block (attributes_of kind_of value_of (drop (i + 1) nlas)))
 length-cons kind_of value_of nlas i nla inside is =
     ap length (block-cons kind_of value_of nlas i nla inside is)
-    ∙ length-append (padded (attribute_with (kind_of nla) (value_of nla))) (canonical_block (attributes_of kind_of value_of (drop (i + 1) nlas)))
+    ∙ length-append (padded (attribute_with (kind_of nla) (value_of nla)))
+    (canonical_block (attributes_of kind_of value_of (drop (i + 1) nlas)))
 
 -- a text is written behind the front of a buffer, up to its end
-pub put_behind : (at n : ℕ) (front first buffer text new : List ℕ) → at ≡ length front → buffer ≡ front ++ drop at first → n ≡ length text → new ≡ text ++ drop (length text) (take (length buffer - at) (drop at buffer))
+pub put_behind : (at n : ℕ) (front first buffer text new : List ℕ) → at ≡ length front → buffer ≡ front ++ drop at first → n ≡ length text
+    → new ≡ text ++ drop (length text) (take (length buffer - at) (drop at buffer))
     → put_mid at (length buffer - at) buffer new ≡ (front ++ text) ++ drop (at + n) first
 put_behind at n front first buffer text new start is size written =
     let before : take at buffer ≡ front = ap (take at) is ∙ take_at front (drop at first) at (sym start) in
     let behind : drop at buffer ≡ drop at first = ap (drop at) is ∙ drop_at front (drop at first) at (sym start) in
     let part : new ≡ text ++ drop (at + n) first =
-    written ∙ ap (λ (k : ℕ). text ++ drop k (take (length buffer - at) (drop at buffer))) (sym size) ∙ ap (λ (x : List ℕ). text ++ drop n x) (take_rest buffer at ∙ behind) ∙ ap (λ (x : List ℕ). text ++ x) (drop-drop n at first) in
-    let none : drop (length buffer - at) (drop at buffer) ≡ [] = drop_all (length buffer - at) (drop at buffer) (omega (arith, length-drop at buffer)) in
-    let grouped : (a b c : List ℕ) → a ++ ((b ++ c) ++ []) ≡ (a ++ b) ++ c = λ a b c. ap (λ (x : List ℕ). a ++ x) (append-nil (b ++ c)) ∙ sym (append_assoc a b c) in
+    written ∙ ap (λ (k : ℕ). text ++ drop k (take (length buffer - at) (drop at buffer))) (sym size)
+    ∙ ap (λ (x : List ℕ). text ++ drop n x) (take_rest buffer at ∙ behind) ∙ ap (λ (x : List ℕ). text ++ x) (drop-drop n at first) in
+    let none : drop (length buffer - at) (drop at buffer) ≡ [] =
+    drop_all (length buffer - at) (drop at buffer) (omega (arith, length-drop at buffer)) in
+    let grouped : (a b c : List ℕ) → a ++ ((b ++ c) ++ []) ≡ (a ++ b) ++ c =
+    λ a b c. ap (λ (x : List ℕ). a ++ x) (append-nil (b ++ c)) ∙ sym (append_assoc a b c) in
     ap (λ (x : List ℕ). x ++ (new ++ drop (length buffer - at) (drop at buffer))) before
     ∙ ap (λ (x : List ℕ). front ++ (new ++ x)) none
     ∙ ap (λ (x : List ℕ). front ++ (x ++ [])) part
@@ -79,8 +95,10 @@ pub moved_on : (front text whole block rest : List ℕ) → front ++ block ≡ w
 moved_on front text whole block rest before next = append_assoc front text rest ∙ ap (λ (x : List ℕ). front ++ x) (sym next) ∙ before
 
 -- what is written of values walks as their attributes
-pub list_walks : {T : Type 0} (kind_of : T → ℕ) (value_of : T → List ℕ) (nlas : List T) → All (λ nla. kind_of nla < 2 ^ 16) nlas → AllFit value_of nlas
+pub list_walks : {T : Type 0} (kind_of : T → ℕ) (value_of : T → List ℕ) (nlas : List T) → All (λ nla. kind_of nla < 2 ^ 16) nlas
+    → AllFit value_of nlas
     → Walk (canonical_block (attributes_of kind_of value_of nlas)) (attributes_of kind_of value_of nlas) None
 list_walks {T} kind_of value_of nlas kinds fit =
     written_walks (attributes_of kind_of value_of nlas)
-    (All-map FitsAttribute (λ nla. attribute_with (kind_of nla) (value_of nla)) nlas (λ k d inside. record { kind = kinds k d inside; value = fit k d inside }))
+    (All-map FitsAttribute (λ nla. attribute_with (kind_of nla) (value_of nla)) nlas
+    (λ k d inside. record { kind = kinds k d inside; value = fit k d inside }))

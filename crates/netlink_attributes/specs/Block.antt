@@ -12,7 +12,9 @@ canonical_block (a ∷ more) = padded a ++ canonical_block more
 abbrev pub IsBlockOf : List ℕ → List Attribute → Type 0
 IsBlockOf bytes [] = bytes ≡ []
 IsBlockOf bytes (a ∷ more) =
-    (rest : List ℕ) × FitsAttribute a × (bytes ≡ attribute_bytes a ++ (replicate (padding (length a.value)) 0 ++ rest)) × IsBlockOf rest more
+    (rest : List ℕ) × FitsAttribute a
+    × (bytes ≡ attribute_bytes a ++ (replicate (padding (length a.value)) 0 ++ rest))
+    × IsBlockOf rest more
 
 -- the bytes are a canonical block
 abbrev pub IsCanonicalBlock : List ℕ → Type 0

@@ -10,7 +10,8 @@ use Rattle.netlink_attributes.specs.Views.{length_field}
 abbrev pub kept_from : ℕ → ℕ → List Attribute → List Attribute
 kept_from at cut [] = []
 kept_from at cut (a ∷ more) =
-    if nat_le (at + (4 + length a.value)) cut then a ∷ kept_from (at + padded_size a) cut more else kept_from (at + padded_size a) cut more
+    if nat_le (at + (4 + length a.value)) cut then a
+    ∷ kept_from (at + padded_size a) cut more else kept_from (at + padded_size a) cut more
 
 abbrev pub kept_by : ℕ → List Attribute → List Attribute
 kept_by cut all = kept_from 0 cut all
@@ -27,7 +28,8 @@ fault_start all = fault_start_from 0 all
 -- here
 abbrev pub IsCutAt : List Attribute → Option DecodeError → ℕ → ℕ → Type 0
 IsCutAt all fault cut start =
-    ((index : ℕ) × (end : ℕ) × (slice_get (ends_of all) index ≡ Some (start, end)) × (start < cut) × (cut < end))
+    ((index : ℕ) × (end : ℕ) × (slice_get (ends_of all) index ≡ Some (start, end)) × (start < cut)
+    × (cut < end))
     ⊎ ((fault ≢ None) × (start ≡ fault_start all) × (start < cut))
 
 -- the fault of this many bytes, in which no attribute ends

@@ -33,7 +33,8 @@ pub ruleset by_item = (length_field-items, raw_kind-items)
 pub length_field-text : (a : Attribute) (more : List ℕ) → FitsAttribute a
     → length_field (attribute_bytes a ++ more) ≡ 4 + length a.value
 unfolding bytes_le
-length_field-text a more fits = number_le-bytes_le (4 + length a.value) 2 (omega (arith, fits.value))
+length_field-text a more fits =
+    number_le-bytes_le (4 + length a.value) 2 (omega (arith, fits.value))
 
 pub raw_kind-text : (a : Attribute) (more : List ℕ) → FitsAttribute a
     → raw_kind (attribute_bytes a ++ more) ≡ a.kind
@@ -53,7 +54,8 @@ pub attribute_of-text : (a : Attribute) (more : List ℕ) → FitsAttribute a
     → attribute_of (attribute_bytes a ++ more) ≡ a
 attribute_of-text a more fits =
     let size = length_field-text a more fits in
-    let short : length_field (attribute_bytes a ++ more) - 4 ≡ length a.value = omega (arith, size) in
+    let short : length_field (attribute_bytes a ++ more) - 4 ≡ length a.value =
+    omega (arith, size) in
     same_attribute _ _ (raw_kind-text a more fits)
     (ap (λ (k : ℕ). take k (drop 4 (attribute_bytes a ++ more))) short
     ∙ ap (take (length a.value)) (drop-text a more)
@@ -65,7 +67,8 @@ after_two : (bytes : List ℕ) → 4 ≤ length bytes → 2 ≤ length (drop 2 b
 after_two bytes long = omega (arith, length-drop 2 bytes)
 
 pub raw_kind-fits : (bytes : List ℕ) → IsBytes bytes → 4 ≤ length bytes → raw_kind bytes < 2 ^ 16
-raw_kind-fits bytes each long = front-fits 2 (drop 2 bytes) (IsBytes-drop 2 bytes each) (after_two bytes long)
+raw_kind-fits bytes each long =
+    front-fits 2 (drop 2 bytes) (IsBytes-drop 2 bytes each) (after_two bytes long)
 
 pub length_field-fits : (bytes : List ℕ) → IsBytes bytes → 4 ≤ length bytes
     → length_field bytes < 2 ^ 16
@@ -77,7 +80,8 @@ pub part_and_rest : (start end : ℕ) (bytes : List ℕ) → start ≤ end
 part_and_rest start end bytes order =
     let whole : start + (end - start) ≡ end = omega arith in
     sym (take-append-drop (end - start) (drop start bytes))
-    ∙ ap (λ (rest : List ℕ). take (end - start) (drop start bytes) ++ rest) (drop-drop (end - start) start bytes ∙ ap (λ (k : ℕ). drop k bytes) whole)
+    ∙ ap (λ (rest : List ℕ). take (end - start) (drop start bytes) ++ rest)
+    (drop-drop (end - start) start bytes ∙ ap (λ (k : ℕ). drop k bytes) whole)
 
 regrouped : (a b c d x₀ x₁ x₂ : List ℕ) → x₀ ≡ a ++ x₁ → x₁ ≡ b ++ x₂ → x₂ ≡ c ++ d
     → x₀ ≡ (a ++ (b ++ c)) ++ d
@@ -98,9 +102,13 @@ pub text-attribute_of : (bytes : List ℕ) → IsBytes bytes → 4 ≤ length by
     → length_field bytes ≤ length bytes
     → bytes ≡ attribute_bytes (attribute_of bytes) ++ drop (length_field bytes) bytes
 text-attribute_of bytes each long least most =
-    let size : 4 + length (attribute_of bytes).value ≡ length_field bytes = omega (arith, length-value bytes most) in
-    regrouped (bytes_le (4 + length (attribute_of bytes).value) 2) (bytes_le (raw_kind bytes) 2) (attribute_of bytes).value (drop (length_field bytes) bytes)
+    let size : 4 + length (attribute_of bytes).value ≡ length_field bytes =
+    omega (arith, length-value bytes most) in
+    regrouped (bytes_le (4 + length (attribute_of bytes).value) 2) (bytes_le (raw_kind bytes) 2)
+    (attribute_of bytes).value (drop (length_field bytes) bytes)
     bytes (drop 2 bytes) (drop 4 bytes)
-    (split_number 2 bytes each (omega (arith, long)) ∙ ap (λ (n : ℕ). bytes_le n 2 ++ drop 2 bytes) (sym size))
-    (split_number 2 (drop 2 bytes) (IsBytes-drop 2 bytes each) (after_two bytes long) ∙ ap (λ (x : List ℕ). bytes_le (raw_kind bytes) 2 ++ x) (drop-drop 2 2 bytes))
+    (split_number 2 bytes each (omega (arith, long))
+    ∙ ap (λ (n : ℕ). bytes_le n 2 ++ drop 2 bytes) (sym size))
+    (split_number 2 (drop 2 bytes) (IsBytes-drop 2 bytes each) (after_two bytes long)
+    ∙ ap (λ (x : List ℕ). bytes_le (raw_kind bytes) 2 ++ x) (drop-drop 2 2 bytes))
     (part_and_rest 4 (length_field bytes) bytes least)

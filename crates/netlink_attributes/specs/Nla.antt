@@ -19,7 +19,8 @@ AllFit value_of nlas = All (λ nla. length (value_of nla) ≤ 65531) nlas
 -- each value is of such a size, and as a block they leave room for the headers of a message
 abbrev pub FitBlock : {T : Type 0} → (T → ℕ) → (T → List ℕ) → List T → Type 0
 FitBlock kind_of value_of nlas =
-    AllFit value_of nlas × (length (canonical_block (attributes_of kind_of value_of nlas)) ≤ 4294963200)
+    AllFit value_of nlas
+    × (length (canonical_block (attributes_of kind_of value_of nlas)) ≤ 4294963200)
 
 -- the attribute that a `DefaultNla` keeps
 abbrev pub kept_attribute : DefaultNla → Attribute

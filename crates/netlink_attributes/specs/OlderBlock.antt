@@ -14,14 +14,17 @@ older_written_kind kind = if nat_le both_flags kind then kind - 2 ^ 14 else kind
 
 abbrev pub older_canonical_block : List Attribute → List ℕ
 older_canonical_block [] = []
-older_canonical_block (a ∷ more) = padded (attribute_with (older_written_kind a.kind) a.value) ++ older_canonical_block more
+older_canonical_block (a ∷ more) =
+    padded (attribute_with (older_written_kind a.kind) a.value) ++ older_canonical_block more
 
 -- the bytes are these attributes, none with both flag bits, each with the whole of its padding, of
 -- zeros
 abbrev pub IsOlderBlockOf : List ℕ → List Attribute → Type 0
 IsOlderBlockOf bytes [] = bytes ≡ []
 IsOlderBlockOf bytes (a ∷ more) =
-    (rest : List ℕ) × FitsAttribute a × (a.kind < both_flags) × (bytes ≡ attribute_bytes a ++ (replicate (padding (length a.value)) 0 ++ rest)) × IsOlderBlockOf rest more
+    (rest : List ℕ) × FitsAttribute a × (a.kind < both_flags)
+    × (bytes ≡ attribute_bytes a ++ (replicate (padding (length a.value)) 0 ++ rest))
+    × IsOlderBlockOf rest more
 
 abbrev pub IsOlderCanonicalBlock : List ℕ → Type 0
 IsOlderCanonicalBlock bytes = (all : List Attribute) × IsOlderBlockOf bytes all

@@ -24,12 +24,15 @@ value_place all index = option_map value_part (slice_get (ends_of all) index)
 
 -- that place, in the walk of these bytes
 abbrev pub IsPlace : List ℕ → ℕ → Option (ℕ × ℕ) → Type 0
-IsPlace bytes index place = (all : List Attribute) (fault : Option DecodeError) → Walk bytes all fault → place ≡ value_place all index
+IsPlace bytes index place =
+    (all : List Attribute) (fault : Option DecodeError) → Walk bytes all fault
+    → place ≡ value_place all index
 
 -- that place by two numbers: it is from start up to end, or there is none where the start is behind
 -- the end
 abbrev pub IsRange : List ℕ → ℕ → ℕ → ℕ → Type 0
-IsRange bytes index start end = IsPlace bytes index (if nat_le start end then Some (start, end) else None)
+IsRange bytes index start end =
+    IsPlace bytes index (if nat_le start end then Some (start, end) else None)
 
 -- there is an attribute with this index, and its value has this size
 abbrev pub HasValueOf : List Attribute → ℕ → ℕ → Type 0
@@ -37,12 +40,14 @@ HasValueOf all index size = IsSomeAnd (value_place all index) (λ place. place.1
 
 -- these are the bytes of the value of the attribute with this index
 abbrev pub IsValue : List ℕ → ℕ → List ℕ → Type 0
-IsValue bytes index value = (all : List Attribute) (fault : Option DecodeError) → Walk bytes all fault
+IsValue bytes index value =
+    (all : List Attribute) (fault : Option DecodeError) → Walk bytes all fault
     → IsSomeAnd (value_place all index) (λ place. value ≡ slice_range bytes place.0 place.1)
 
 -- new is the bytes with this value in place of that of the attribute with this index
 abbrev pub IsWritten : List ℕ → ℕ → List ℕ → List ℕ → Type 0
-IsWritten bytes index value new = (all : List Attribute) (fault : Option DecodeError) → Walk bytes all fault
+IsWritten bytes index value new =
+    (all : List Attribute) (fault : Option DecodeError) → Walk bytes all fault
     → IsSomeAnd (value_place all index) (λ place. new ≡ put_at bytes place.0 value)
 
 -- the attributes with this value in place of that of the one with this index

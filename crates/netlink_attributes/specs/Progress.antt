@@ -47,7 +47,8 @@ passes_rest = passed_rest attribute_steps
 -- the walk of bytes that were passed up to an attribute has this attribute next
 pub passes_walk : (bytes : List ℕ) (done : List Attribute) (middle : List ℕ) (a : Attribute)
     (rest : List ℕ) (all : List Attribute) (fault : Option DecodeError)
-    → Passes bytes done middle → Starts middle a rest → Walk bytes all fault → (more : List Attribute) × (all ≡ done ++ (a ∷ more))
+    → Passes bytes done middle → Starts middle a rest → Walk bytes all fault
+    → (more : List Attribute) × (all ≡ done ++ (a ∷ more))
 passes_walk = passed_next attribute_steps
 
 -- the rest of bytes is bytes

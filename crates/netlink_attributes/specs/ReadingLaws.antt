@@ -25,7 +25,8 @@ starts-whole : (bytes : List ℕ) (a : Attribute) (rest : List ℕ) → Starts b
 starts-whole bytes a rest starts =
     let field = starts-length_field bytes a rest starts in
     let size = starts-length bytes a rest starts in
-    let kind : raw_kind bytes ≡ a.kind = ap (λ (x : Attribute). x.kind) (starts-attribute_of bytes a rest starts) in
+    let kind : raw_kind bytes ≡ a.kind =
+    ap (λ (x : Attribute). x.kind) (starts-attribute_of bytes a rest starts) in
     let value = starts.fits.value in
     let small : a.kind < 2 ^ 16 = starts.fits.kind in
     let header : 4 ≤ length bytes = omega arith in
@@ -40,12 +41,14 @@ starts-whole bytes a rest starts =
 behind-attribute_of : (bytes : List ℕ) (a : Attribute) (rest : List ℕ) → Starts bytes a rest
     → drop (padded_size (attribute_of bytes)) bytes ≡ rest
 behind-attribute_of bytes a rest starts =
-    ap (λ (x : Attribute). drop (padded_size x) bytes) (starts-attribute_of bytes a rest starts) ∙ sym (starts-rest bytes a rest starts)
+    ap (λ (x : Attribute). drop (padded_size x) bytes) (starts-attribute_of bytes a rest starts)
+    ∙ sym (starts-rest bytes a rest starts)
 
 fault-whole : (bytes : List ℕ) (fault : DecodeError) → IsFault bytes fault
     → starts_whole bytes ≡ false
 fault-whole bytes (NlaBufferTooSmall size least) is = and_left _ _ (lt-leb _ _ is.0)
-fault-whole bytes (NlaLengthMismatch size said) is = and_right _ _ (and_right _ _ (and_left _ _ (lt-leb _ _ is.1)))
+fault-whole bytes (NlaLengthMismatch size said) is =
+    and_right _ _ (and_right _ _ (and_left _ _ (lt-leb _ _ is.1)))
 fault-whole bytes (NlaInvalidLength least said) is = and_right _ _ (and_left _ _ (lt-leb _ _ is.1))
 fault-whole bytes _ is = absurd is
 
@@ -54,10 +57,12 @@ walk-within : (most : ℕ) (bytes : List ℕ) (all : List Attribute) → length 
     → Walk bytes all None → attributes_within most bytes ≡ Some all
 unfolding attributes_within
 walk-within zero [] [] enough walk = refl
-walk-within zero [] (a ∷ more) enough (rest, starts, walk) = absurd (nothing_starts _ _ _ refl starts)
+walk-within zero [] (a ∷ more) enough (rest, starts, walk) =
+    absurd (nothing_starts _ _ _ refl starts)
 walk-within zero (b ∷ bytes) all enough walk = absurd (omega arith)
 walk-within (suc most) [] [] enough walk = refl
-walk-within (suc most) [] (a ∷ more) enough (rest, starts, walk) = absurd (nothing_starts _ _ _ refl starts)
+walk-within (suc most) [] (a ∷ more) enough (rest, starts, walk) =
+    absurd (nothing_starts _ _ _ refl starts)
 walk-within (suc most) (b ∷ bytes) [] enough walk = absurd (cc)
 walk-within (suc most) (b ∷ bytes) (a ∷ more) enough (rest, starts, walk) =
     let whole = starts-whole (b ∷ bytes) a rest starts in
@@ -65,7 +70,8 @@ walk-within (suc most) (b ∷ bytes) (a ∷ more) enough (rest, starts, walk) =
     let size = starts-length (b ∷ bytes) a rest starts in
     let behind = behind-attribute_of (b ∷ bytes) a rest starts in
     let later = walk-within most rest more (omega arith) walk in
-    let rests : attributes_within most (drop (padded_size (attribute_of (b ∷ bytes))) (b ∷ bytes)) ≡ Some more =
+    let rests : attributes_within most (drop (padded_size (attribute_of (b ∷ bytes))) (b ∷ bytes))
+    ≡ Some more =
     ap (attributes_within most) behind ∙ later in
     rw (whole, rests) (ap (λ (x : Attribute). Some (x ∷ more)) same)
 
@@ -74,29 +80,36 @@ fault-within : (most : ℕ) (bytes : List ℕ) (all : List Attribute) (fault : D
     → length bytes ≤ most → Walk bytes all (Some fault) → attributes_within most bytes ≡ None
 unfolding attributes_within
 fault-within zero [] [] fault enough walk = absurd (walk.0 refl)
-fault-within zero [] (a ∷ more) fault enough (rest, starts, walk) = absurd (nothing_starts _ _ _ refl starts)
+fault-within zero [] (a ∷ more) fault enough (rest, starts, walk) =
+    absurd (nothing_starts _ _ _ refl starts)
 fault-within zero (b ∷ bytes) all fault enough walk = absurd (omega arith)
 fault-within (suc most) [] [] fault enough walk = absurd (walk.0 refl)
-fault-within (suc most) [] (a ∷ more) fault enough (rest, starts, walk) = absurd (nothing_starts _ _ _ refl starts)
-fault-within (suc most) (b ∷ bytes) [] fault enough walk = let not_whole = fault-whole (b ∷ bytes) fault walk.1 in rw not_whole refl
+fault-within (suc most) [] (a ∷ more) fault enough (rest, starts, walk) =
+    absurd (nothing_starts _ _ _ refl starts)
+fault-within (suc most) (b ∷ bytes) [] fault enough walk =
+    let not_whole = fault-whole (b ∷ bytes) fault walk.1 in rw not_whole refl
 fault-within (suc most) (b ∷ bytes) (a ∷ more) fault enough (rest, starts, walk) =
     let whole = starts-whole (b ∷ bytes) a rest starts in
     let size = starts-length (b ∷ bytes) a rest starts in
     let behind = behind-attribute_of (b ∷ bytes) a rest starts in
     let later = fault-within most rest more fault (omega arith) walk in
-    let rests : attributes_within most (drop (padded_size (attribute_of (b ∷ bytes))) (b ∷ bytes)) ≡ None =
+    let rests : attributes_within most (drop (padded_size (attribute_of (b ∷ bytes))) (b ∷ bytes))
+    ≡ None =
     ap (attributes_within most) behind ∙ later in
     rw (whole, rests) refl
 
-small-fits : (bytes : List ℕ) → length_field bytes ≤ length bytes → length_field bytes < 2 ^ 16 → raw_kind bytes < 2 ^ 16
+small-fits : (bytes : List ℕ) → length_field bytes ≤ length bytes → length_field bytes < 2 ^ 16
+    → raw_kind bytes < 2 ^ 16
     → FitsAttribute (attribute_of bytes)
-small-fits bytes most field kind = record { kind = kind; value = omega (arith, length-value bytes most) }
+small-fits bytes most field kind =
+    record { kind = kind; value = omega (arith, length-value bytes most) }
 
 whole-fits : (bytes : List ℕ) → starts_whole bytes ≡ true → FitsAttribute (attribute_of bytes)
 whole-fits bytes whole =
     let sizes = (and_parts _ _ (and_parts _ _ whole).1).1 in
     let numbers = and_parts _ _ (and_parts _ _ sizes).1 in
-    small-fits bytes (leb-true _ _ (and_parts _ _ sizes).0) (ltb-true _ _ numbers.0) (ltb-true _ _ numbers.1)
+    small-fits bytes (leb-true _ _ (and_parts _ _ sizes).0) (ltb-true _ _ numbers.0)
+    (ltb-true _ _ numbers.1)
 
 some-same : (x y : List Attribute) → ◌≡◌ {A = Option (List Attribute)} (Some x) (Some y) → x ≡ y
 some-same x y e = cc
@@ -106,7 +119,8 @@ by_rest : (a : Attribute) (rest : Option (List Attribute)) (all : List Attribute
     → option_map (λ x. a ∷ x) rest ≡ Some all → All FitsAttribute all
 by_rest a None all fits later gives = absurd (cc)
 by_rest a (Some more) all fits later gives =
-    subst (All FitsAttribute) (some-same (a ∷ more) all gives) (All-cons FitsAttribute a more fits (later more refl))
+    subst (All FitsAttribute) (some-same (a ∷ more) all gives)
+    (All-cons FitsAttribute a more fits (later more refl))
 
 by_whole : (whole : Bool) (a : Attribute) (rest : Option (List Attribute)) (all : List Attribute)
     → (whole ≡ true → FitsAttribute a)
@@ -140,19 +154,23 @@ attributes_in-walk bytes all walk = walk-within (length bytes) bytes all (omega 
 -- a walk with a fault gives nothing
 pub attributes_in-fault : (bytes : List ℕ) (all : List Attribute) (fault : DecodeError)
     → Walk bytes all (Some fault) → attributes_in bytes ≡ None
-attributes_in-fault bytes all fault walk = fault-within (length bytes) bytes all fault (omega arith) walk
+attributes_in-fault bytes all fault walk =
+    fault-within (length bytes) bytes all fault (omega arith) walk
 
 by_walk : (bytes : List ℕ) (all found : List Attribute) (fault : Option DecodeError)
     → Walk bytes found fault → attributes_in bytes ≡ Some all → Walk bytes all None
 by_walk bytes all found None walk gives =
-    let same : found ≡ all = some-same found all (sym (attributes_in-walk bytes found walk) ∙ gives) in
+    let same : found ≡ all =
+    some-same found all (sym (attributes_in-walk bytes found walk) ∙ gives) in
     subst (λ (x : List Attribute). Walk bytes x None) same walk
-by_walk bytes all found (Some fault) walk gives = let none = attributes_in-fault bytes found fault walk in absurd (cc)
+by_walk bytes all found (Some fault) walk gives =
+    let none = attributes_in-fault bytes found fault walk in absurd (cc)
 
 -- and what it gives is the walk
 pub walk-attributes_in : (bytes : List ℕ) (all : List Attribute) → IsBytes bytes
     → attributes_in bytes ≡ Some all → Walk bytes all None
-walk-attributes_in bytes all each gives = let walk = has_walk bytes each in by_walk bytes all walk.0 walk.1 walk.2 gives
+walk-attributes_in bytes all each gives = let walk = has_walk bytes each in
+    by_walk bytes all walk.0 walk.1 walk.2 gives
 
 -- the attributes that it gives fit their fields
 pub attributes_in-fit : (bytes : List ℕ) (all : List Attribute) → attributes_in bytes ≡ Some all

@@ -15,15 +15,20 @@ length-attribute_bytes a = omega arith
 pub length-padded : (a : Attribute) → length (padded a) ≡ padded_size a
 length-padded a =
     length-append (attribute_bytes a) (replicate (padding (length a.value)) 0)
-    ∙ (let text = length-attribute_bytes a in let zeros = length-replicate {A = ℕ} (padding (length a.value)) 0 in omega arith)
+    ∙ (let text = length-attribute_bytes a in
+    let zeros = length-replicate {A = ℕ} (padding (length a.value)) 0 in omega arith)
 
 -- the same, by kind and value
-pub length-written : (kind : ℕ) (value : List ℕ) → length (padded (attribute_with kind value)) ≡ 4 + length value + padding (length value)
+pub length-written : (kind : ℕ) (value : List ℕ)
+    → length (padded (attribute_with kind value)) ≡ 4 + length value + padding (length value)
 length-written kind value = length-padded (attribute_with kind value)
 
 -- a block has the padded size of its first attribute, and the size of what follows
-pub length-canonical_block : (a : Attribute) (more : List Attribute) → length (canonical_block (a ∷ more)) ≡ padded_size a + length (canonical_block more)
-length-canonical_block a more = length-append (padded a) (canonical_block more) ∙ ap (λ (n : ℕ). n + length (canonical_block more)) (length-padded a)
+pub length-canonical_block : (a : Attribute) (more : List Attribute)
+    → length (canonical_block (a ∷ more)) ≡ padded_size a + length (canonical_block more)
+length-canonical_block a more =
+    length-append (padded a) (canonical_block more)
+    ∙ ap (λ (n : ℕ). n + length (canonical_block more)) (length-padded a)
 
 -- what a proof of a size needs
 pub ruleset written_sizes = (length-written)

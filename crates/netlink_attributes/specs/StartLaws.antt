@@ -14,11 +14,13 @@ use Rattle.netlink_attributes.specs.FieldLaws.{length_field-text, attribute_of-t
 
 pub starts-length_field : (bytes : List ℕ) (a : Attribute) (rest : List ℕ) → Starts bytes a rest
     → length_field bytes ≡ 4 + length a.value
-starts-length_field bytes a rest starts = ap length_field starts.whole ∙ length_field-text a (starts.gap ++ rest) starts.fits
+starts-length_field bytes a rest starts =
+    ap length_field starts.whole ∙ length_field-text a (starts.gap ++ rest) starts.fits
 
 pub starts-attribute_of : (bytes : List ℕ) (a : Attribute) (rest : List ℕ) → Starts bytes a rest
     → attribute_of bytes ≡ a
-starts-attribute_of bytes a rest starts = ap attribute_of starts.whole ∙ attribute_of-text a (starts.gap ++ rest) starts.fits
+starts-attribute_of bytes a rest starts =
+    ap attribute_of starts.whole ∙ attribute_of-text a (starts.gap ++ rest) starts.fits
 
 pub starts-length : (bytes : List ℕ) (a : Attribute) (rest : List ℕ)
     → (starts : Starts bytes a rest)
@@ -37,8 +39,11 @@ starts-rest bytes a rest starts =
     let front = length-append (attribute_bytes a) starts.gap in
     let size = starts-length bytes a rest starts in
     elim starts.gap_size [
-      | inl full ↦ sym (ap (drop (padded_size a)) (starts.whole ∙ sym (append_assoc (attribute_bytes a) starts.gap rest)) ∙ drop_at (attribute_bytes a ++ starts.gap) rest (padded_size a) (omega arith))
-      | inr short ↦ (let none : length rest ≡ 0 = ap length short.1 in short.1 ∙ sym (drop_all (padded_size a) bytes (omega arith)))
+      | inl full ↦ sym (ap (drop (padded_size a))
+          (starts.whole ∙ sym (append_assoc (attribute_bytes a) starts.gap rest))
+          ∙ drop_at (attribute_bytes a ++ starts.gap) rest (padded_size a) (omega arith))
+      | inr short ↦ (let none : length rest ≡ 0 = ap length short.1 in
+          short.1 ∙ sym (drop_all (padded_size a) bytes (omega arith)))
     ]
 
 -- and it is bytes where the whole is
@@ -49,14 +54,18 @@ starts_bytes bytes a rest starts each =
 
 pub nothing_starts : (bytes : List ℕ) (a : Attribute) (rest : List ℕ) → bytes ≡ []
     → Starts bytes a rest → ⊥
-nothing_starts bytes a rest none starts = omega (arith, starts-length bytes a rest starts, ap length none)
+nothing_starts bytes a rest none starts =
+    omega (arith, starts-length bytes a rest starts, ap length none)
 
 -- bytes that start with an attribute have no fault
 pub starts-fault : (bytes : List ℕ) (a : Attribute) (rest : List ℕ) (fault : DecodeError)
     → Starts bytes a rest → IsFault bytes fault → ⊥
-starts-fault bytes a rest (NlaBufferTooSmall size least) starts is = omega (arith, is.0, starts-length bytes a rest starts)
-starts-fault bytes a rest (NlaLengthMismatch size said) starts is = omega (arith, is.1, starts-length bytes a rest starts, starts-length_field bytes a rest starts)
-starts-fault bytes a rest (NlaInvalidLength least said) starts is = omega (arith, is.1, starts-length_field bytes a rest starts)
+starts-fault bytes a rest (NlaBufferTooSmall size least) starts is =
+    omega (arith, is.0, starts-length bytes a rest starts)
+starts-fault bytes a rest (NlaLengthMismatch size said) starts is =
+    omega (arith, is.1, starts-length bytes a rest starts, starts-length_field bytes a rest starts)
+starts-fault bytes a rest (NlaInvalidLength least said) starts is =
+    omega (arith, is.1, starts-length_field bytes a rest starts)
 starts-fault bytes a rest _ starts is = is
 
 -- and bytes have one fault at most
@@ -78,9 +87,11 @@ fault_once bytes _ g p q = absurd p
 -- the gap before the next multiple of 4, or to the end of the bytes
 gap_sizes : (field end size value : ℕ) → field ≤ size → field ≤ end → end < field + 4 → end % 4 ≡ 0
     → field ≡ 4 + value
-    → (min (end - field) (size - field) ≡ padding value) ⊎ ((min (end - field) (size - field) < padding value) × (size ≤ end))
+    → (min (end - field) (size - field) ≡ padding value)
+    ⊎ ((min (end - field) (size - field) < padding value) × (size ≤ end))
 gap_sizes field end size value most low high multiple is =
-    elim (cases_lt size end) [ inl short ↦ inr (omega arith, omega arith) | inr full ↦ inl (omega arith) ]
+    elim (cases_lt size end)
+    [ inl short ↦ inr (omega arith, omega arith) | inr full ↦ inl (omega arith) ]
 
 -- bytes that hold an attribute start with it, and the rest stands at the next multiple of 4
 pub starts_held : (bytes : List ℕ) (end : ℕ) → IsBytes bytes → HoldsAttribute bytes
@@ -90,13 +101,25 @@ starts_held bytes end each holds low high multiple =
     let field : ℕ = length_field bytes in
     let value = length-value bytes holds.most in
     let gap : List ℕ = take (end - field) (drop field bytes) in
-    let taken : length gap ≡ min (end - field) (length bytes - field) = length-take (end - field) (drop field bytes) ∙ ap (min (end - field)) (length-drop field bytes) in
+    let taken : length gap ≡ min (end - field) (length bytes - field) =
+    length-take (end - field) (drop field bytes)
+    ∙ ap (min (end - field)) (length-drop field bytes) in
     record {
-      fits = record { kind = raw_kind-fits bytes each holds.header; value = omega (arith, length_field-fits bytes each holds.header, value) };
+      fits =
+          record {
+            kind = raw_kind-fits bytes each holds.header;
+            value = omega
+                (arith, length_field-fits bytes each holds.header, value);
+          };
       gap = gap;
-      whole = text-attribute_of bytes each holds.header holds.least holds.most ∙ ap (λ (x : List ℕ). attribute_bytes (attribute_of bytes) ++ x) (part_and_rest field end bytes low);
-      gap_size = elim (gap_sizes field end (length bytes) (length (attribute_of bytes).value) holds.most low high multiple (omega (arith, holds.least, value))) [
-        | inl full ↦ inl (taken ∙ full)
-        | inr short ↦ inr (rw taken short.0, drop_all end bytes short.1)
-      ];
+      whole =
+          text-attribute_of bytes each holds.header holds.least holds.most
+          ∙ ap (λ (x : List ℕ). attribute_bytes (attribute_of bytes) ++ x)
+          (part_and_rest field end bytes low);
+      gap_size =
+          elim (gap_sizes field end (length bytes) (length (attribute_of bytes).value) holds.most
+          low high multiple (omega (arith, holds.least, value))) [
+            | inl full ↦ inl (taken ∙ full)
+            | inr short ↦ inr (rw taken short.0, drop_all end bytes short.1)
+          ];
     }

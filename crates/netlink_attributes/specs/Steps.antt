@@ -23,4 +23,5 @@ item_bound bytes = (length bytes + 3) / 4
 abbrev pub GivesWalk : NlasIterator (Bor (List ℕ)) → Type 0
 GivesWalk walk =
     (all : List Attribute) × (fault : Option DecodeError) × Walk (unread walk) all fault
-    × ((items : List Item) → Drains steps walk items → AreItems items all fault × (length items ≤ item_bound (unread walk)))
+    × ((items : List Item) → Drains steps walk items
+    → AreItems items all fault × (length items ≤ item_bound (unread walk)))

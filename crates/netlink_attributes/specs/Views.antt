@@ -42,7 +42,8 @@ is_network_byteorder kind = nat_le (2 ^ 14) (kind % 2 ^ 15)
 
 -- the attribute that the bytes begin with, where they hold a whole one
 abbrev pub attribute_of : List ℕ → Attribute
-attribute_of bytes = record { kind = raw_kind bytes; value = slice_range bytes 4 (length_field bytes) }
+attribute_of bytes =
+    record { kind = raw_kind bytes; value = slice_range bytes 4 (length_field bytes) }
 
 -- the bytes hold a whole attribute, but perhaps not its padding
 pub record HoldsAttribute (bytes : List ℕ) : Type 0 where

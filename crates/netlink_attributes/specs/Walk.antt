@@ -10,9 +10,13 @@ use Rattle.netlink_attributes.specs.declared.buffer.NlaBuffer.{NlaBuffer}
 
 -- why bytes do not begin with an attribute, with the numbers; no two of these are of the same bytes
 abbrev pub IsFault : List ℕ → DecodeError → Type 0
-IsFault bytes (NlaBufferTooSmall size least) = (length bytes < 4) × (size ≡ length bytes) × (least ≡ 4)
-IsFault bytes (NlaLengthMismatch size said) = (4 ≤ length bytes) × (length bytes < length_field bytes) × (size ≡ length bytes) × (said ≡ length_field bytes)
-IsFault bytes (NlaInvalidLength least said) = (4 ≤ length bytes) × (length_field bytes < 4) × (least ≡ 4) × (said ≡ length_field bytes)
+IsFault bytes (NlaBufferTooSmall size least) =
+    (length bytes < 4) × (size ≡ length bytes) × (least ≡ 4)
+IsFault bytes (NlaLengthMismatch size said) =
+    (4 ≤ length bytes) × (length bytes < length_field bytes) × (size ≡ length bytes)
+    × (said ≡ length_field bytes)
+IsFault bytes (NlaInvalidLength least said) =
+    (4 ≤ length bytes) × (length_field bytes < 4) × (least ≡ 4) × (said ≡ length_field bytes)
 IsFault bytes _ = ⊥
 
 -- The bytes are the attribute, its padding and then the rest. Padding may be anything, and it may
@@ -21,7 +25,8 @@ pub record Starts (bytes : List ℕ) (a : Attribute) (rest : List ℕ) : Type 0 
   pub fits : FitsAttribute a
   pub gap : List ℕ
   pub whole : bytes ≡ attribute_bytes a ++ (gap ++ rest)
-  pub gap_size : (length gap ≡ padding (length a.value)) ⊎ ((length gap < padding (length a.value)) × (rest ≡ []))
+  pub gap_size : (length gap ≡ padding (length a.value))
+      ⊎ ((length gap < padding (length a.value)) × (rest ≡ []))
 
 -- the bytes are these attributes one after another, and then nothing or one fault
 abbrev pub Walk : List ℕ → List Attribute → Option DecodeError → Type 0
@@ -36,7 +41,8 @@ Item = Result (NlaBuffer (Bor (List ℕ))) DecodeError
 abbrev pub Gives : List ℕ → Option Item → List ℕ → Type 0
 Gives bytes None rest = (bytes ≡ []) × (rest ≡ [])
 Gives bytes (Some (Err fault)) rest = (bytes ≢ []) × IsFault bytes fault × (rest ≡ [])
-Gives bytes (Some (Ok view)) rest = (shown view ≡ bytes) × HoldsAttribute (shown view) × Starts bytes (attribute_of bytes) rest
+Gives bytes (Some (Ok view)) rest =
+    (shown view ≡ bytes) × HoldsAttribute (shown view) × Starts bytes (attribute_of bytes) rest
 
 -- the items are views that begin with these attributes, and then the fault, if there is one
 abbrev pub AreItems : List Item → List Attribute → Option DecodeError → Type 0
@@ -47,4 +53,5 @@ AreItems (Err found ∷ items) [] (Some fault) = (found ≡ fault) × (items ≡
 AreItems (Err found ∷ items) [] None = ⊥
 AreItems (Err found ∷ items) (a ∷ more) fault = ⊥
 AreItems (Ok view ∷ items) [] fault = ⊥
-AreItems (Ok view ∷ items) (a ∷ more) fault = (attribute_of (shown view) ≡ a) × AreItems items more fault
+AreItems (Ok view ∷ items) (a ∷ more) fault =
+    (attribute_of (shown view) ≡ a) × AreItems items more fault

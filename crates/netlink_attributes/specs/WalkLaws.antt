@@ -17,13 +17,22 @@ use Rattle.netlink_attributes.specs.Walk.{Starts, Walk, IsFault}
 pub starts_once : (bytes : List ℕ) (a b : Attribute) (rest other : List ℕ) → Starts bytes a rest
     → Starts bytes b other → (a ≡ b) × (rest ≡ other)
 starts_once bytes a b rest other start begin =
-    let same : a ≡ b = sym (starts-attribute_of bytes a rest start) ∙ starts-attribute_of bytes b other begin in
-    (same, starts-rest bytes a rest start ∙ ap (λ (c : Attribute). drop (padded_size c) bytes) same ∙ sym (starts-rest bytes b other begin))
+    let same : a ≡ b =
+    sym (starts-attribute_of bytes a rest start) ∙ starts-attribute_of bytes b other begin in (
+      same,
+      starts-rest bytes a rest start ∙ ap (λ (c : Attribute). drop (padded_size c) bytes) same
+          ∙ sym (starts-rest bytes b other begin),
+    )
 
 -- what a walk takes of its steps
 pub attribute_steps : StepLaws Starts IsFault
 attribute_steps =
-    record { once = starts_once; nothing = nothing_starts; fault = starts-fault; fault_once = fault_once }
+    record {
+      once = starts_once;
+      nothing = nothing_starts;
+      fault = starts-fault;
+      fault_once = fault_once;
+    }
 
 pub walk_once : (bytes : List ℕ) (x y : List Attribute) (f g : Option DecodeError) → Walk bytes x f
     → Walk bytes y g → (x ≡ y) × (f ≡ g)
@@ -44,8 +53,17 @@ next_attribute bytes each some =
           | inr least ↦
               let end : ℕ = (field + 3) / 4 * 4 in
               let left : length (drop end bytes) ≡ length bytes - end = length-drop end bytes in
-              let holds : HoldsAttribute bytes = record { header = header; least = least; most = most } in
-              inr (attribute_of bytes, drop end bytes, starts_held bytes end each holds (omega arith) (omega arith) (omega arith), IsBytes-drop end bytes each, omega arith)
+              let holds : HoldsAttribute bytes =
+              record { header = header; least = least; most = most } in
+              inr (
+                attribute_of bytes,
+                drop end bytes,
+                starts_held bytes end each holds
+                    (omega arith) (omega arith) (omega arith),
+                IsBytes-drop end bytes each,
+                omega
+                    arith,
+              )
         ]
       ]
     ]

@@ -23,12 +23,17 @@ use std::alloc::{AllocError, Global};
 /// `NlaInvalidLength`) without a request for memory. Otherwise there is one request, of the block's
 /// size, and none for no bytes; `OutOfMemory` says that it was refused.
 pub fn normalize_nlas(alloc: Global, bytes: &[u8]) -> Result<Vec<u8>, DecodeError>
-    ensures ok { IfOk result (λ v. (all : List Attribute) × Walk bytes.now all None × (v.items ≡ canonical_block all)) }
-    ensures err { IfErr result (λ e. (e ≡ DecodeError.OutOfMemory) ⊎ ((all : List Attribute) × Walk bytes.now all (Some e))) }
+    ensures ok { IfOk result
+        (λ v. (all : List Attribute) × Walk bytes.now all None × (v.items ≡ canonical_block all)) }
+    ensures err { IfErr result
+        (λ e. (e ≡ DecodeError.OutOfMemory)
+        ⊎ ((all : List Attribute) × Walk bytes.now all (Some e))) }
 
     // which of the two, by the walk of the bytes
-    ensures writes { (all : List Attribute) → Walk bytes.now all None → MatchResult result (λ v. v.items ≡ canonical_block all) (λ e. e ≡ DecodeError.OutOfMemory) }
-    ensures fault { (all : List Attribute) (fault : DecodeError) → Walk bytes.now all (Some fault) → result ≡ Err fault }
+    ensures writes { (all : List Attribute) → Walk bytes.now all None
+        → MatchResult result (λ v. v.items ≡ canonical_block all) (λ e. e ≡ DecodeError.OutOfMemory) }
+    ensures fault { (all : List Attribute) (fault : DecodeError) → Walk bytes.now all (Some fault)
+        → result ≡ Err fault }
     ensures empty { bytes.now ≡ [] → IsOk result }
 
     // what is canonical stays as it is, and nothing else does
@@ -46,7 +51,8 @@ pub fn normalize_nlas(alloc: Global, bytes: &[u8]) -> Result<Vec<u8>, DecodeErro
 
 /// The fault of a walk.
 fn check_walk(bytes: &[u8]) -> Result<(), DecodeError>
-    ensures { MatchResult result (λ _. (all : List Attribute) × Walk bytes.now all None) (λ e. (all : List Attribute) × Walk bytes.now all (Some e)) }
+    ensures { MatchResult result (λ _. (all : List Attribute) × Walk bytes.now all None)
+        (λ e. (all : List Attribute) × Walk bytes.now all (Some e)) }
 {
     for item in NlasIterator::new(bytes) {
         match item {
@@ -80,7 +86,8 @@ fn rewritten(alloc: Global, bytes: &[u8]) -> Result<Vec<u8>, DecodeError>
 #[inline(always)]
 fn append_padded(block: &mut Vec<u8>, text: &[u8]) -> Result<(), AllocError>
     requires { length text.now < 2 ^ 16 }
-    ensures { OnOk result (block.new.items ≡ block.old.items ++ (text.now ++ replicate (padding (length text.now)) 0)) }
+    ensures { OnOk result
+        (block.new.items ≡ block.old.items ++ (text.now ++ replicate (padding (length text.now)) 0)) }
 {
     block.extend_from_slice(text)?;
     append_zeros(block, nla_align(text.len()) - text.len())
@@ -114,8 +121,10 @@ pub fn append_nla(
     value: &[u8],
 ) -> Result<(), DecodeError>
     requires fits { length value.now ≤ 65531 }
-    ensures ok { OnOk result (block.new.items ≡ block.old.items ++ padded (attribute_with kind value.now)) }
-    ensures err { IfErr result (λ e. (e ≡ DecodeError.OutOfMemory) × (block.new.items ≡ block.old.items)) }
+    ensures ok { OnOk result
+        (block.new.items ≡ block.old.items ++ padded (attribute_with kind value.now)) }
+    ensures err { IfErr result
+        (λ e. (e ≡ DecodeError.OutOfMemory) × (block.new.items ≡ block.old.items)) }
     ensures room { vec_len block.old + length (padded (attribute_with kind value.now))
         ≤ vec_capacity block.old → IsOk result }
 {

@@ -73,7 +73,9 @@ impl<T: Storage> NlaBuffer<T> {
     /// The storage, looked at. The view is left as it is.
     #[inline]
     pub fn inner(&mut self) -> &T
-        ensures* unchanged { sem 𝓛 (follows_so (the_row T.row) (the_row T.row) self.entry.ghost_name none (λ _ _. ⊤) (λ last. last ≡ self.old)) }
+        ensures* unchanged { sem 𝓛
+            (follows_so (the_row T.row) (the_row T.row) self.entry.ghost_name none (λ _ _. ⊤)
+            (λ last. last ≡ self.old)) }
         ensures value { result.now ≡ storage_of self.old }
     {
         &self.buffer
@@ -152,8 +154,11 @@ impl<T: StorageMut> NlaBuffer<T> {
     #[inline]
     pub fn set_length(&mut self, value: u16)
         requires field { 2 ≤ length (T.contents (storage_of self.old)) }
-        ensures bytes { T.contents (storage_of self.new) ≡ with_length (T.contents (storage_of self.old)) value }
-        ensures same_storage { storage_of self.new ≡ T.with_contents (storage_of self.old) (with_length (T.contents (storage_of self.old)) value) }
+        ensures bytes { T.contents (storage_of self.new)
+            ≡ with_length (T.contents (storage_of self.old)) value }
+        ensures same_storage { storage_of self.new
+            ≡ T.with_contents (storage_of self.old)
+            (with_length (T.contents (storage_of self.old)) value) }
     {
         put_u16(self.buffer.bytes_mut(), 0, value);
     }
@@ -163,8 +168,11 @@ impl<T: StorageMut> NlaBuffer<T> {
     #[inline]
     pub fn set_kind(&mut self, kind: u16)
         requires field { 4 ≤ length (T.contents (storage_of self.old)) }
-        ensures bytes { T.contents (storage_of self.new) ≡ with_kind (T.contents (storage_of self.old)) (masked kind) }
-        ensures same_storage { storage_of self.new ≡ T.with_contents (storage_of self.old) (with_kind (T.contents (storage_of self.old)) (masked kind)) }
+        ensures bytes { T.contents (storage_of self.new)
+            ≡ with_kind (T.contents (storage_of self.old)) (masked kind) }
+        ensures same_storage { storage_of self.new
+            ≡ T.with_contents (storage_of self.old)
+            (with_kind (T.contents (storage_of self.old)) (masked kind)) }
     {
         self.set_raw_kind(kind & NLA_TYPE_MASK)
     }
@@ -174,8 +182,13 @@ impl<T: StorageMut> NlaBuffer<T> {
     #[inline]
     pub fn set_nested_flag(&mut self)
         requires field { 4 ≤ length (T.contents (storage_of self.old)) }
-        ensures bytes { T.contents (storage_of self.new) ≡ with_kind (T.contents (storage_of self.old)) (nested (raw_kind (T.contents (storage_of self.old)))) }
-        ensures same_storage { storage_of self.new ≡ T.with_contents (storage_of self.old) (with_kind (T.contents (storage_of self.old)) (nested (raw_kind (T.contents (storage_of self.old))))) }
+        ensures bytes { T.contents (storage_of self.new)
+            ≡ with_kind (T.contents (storage_of self.old))
+            (nested (raw_kind (T.contents (storage_of self.old)))) }
+        ensures same_storage { storage_of self.new
+            ≡ T.with_contents (storage_of self.old)
+            (with_kind (T.contents (storage_of self.old))
+            (nested (raw_kind (T.contents (storage_of self.old))))) }
     {
         let kind = self.kind() | NLA_F_NESTED;
         self.set_raw_kind(kind)
@@ -186,8 +199,13 @@ impl<T: StorageMut> NlaBuffer<T> {
     #[inline]
     pub fn set_network_byte_order_flag(&mut self)
         requires field { 4 ≤ length (T.contents (storage_of self.old)) }
-        ensures bytes { T.contents (storage_of self.new) ≡ with_kind (T.contents (storage_of self.old)) (network_byteorder (raw_kind (T.contents (storage_of self.old)))) }
-        ensures same_storage { storage_of self.new ≡ T.with_contents (storage_of self.old) (with_kind (T.contents (storage_of self.old)) (network_byteorder (raw_kind (T.contents (storage_of self.old))))) }
+        ensures bytes { T.contents (storage_of self.new)
+            ≡ with_kind (T.contents (storage_of self.old))
+            (network_byteorder (raw_kind (T.contents (storage_of self.old)))) }
+        ensures same_storage { storage_of self.new
+            ≡ T.with_contents (storage_of self.old)
+            (with_kind (T.contents (storage_of self.old))
+            (network_byteorder (raw_kind (T.contents (storage_of self.old))))) }
     {
         let kind = self.kind() | NLA_F_NET_BYTEORDER;
         self.set_raw_kind(kind)
@@ -198,8 +216,11 @@ impl<T: StorageMut> NlaBuffer<T> {
     #[inline]
     pub fn set_raw_kind(&mut self, kind: u16)
         requires field { 4 ≤ length (T.contents (storage_of self.old)) }
-        ensures bytes { T.contents (storage_of self.new) ≡ with_kind (T.contents (storage_of self.old)) kind }
-        ensures same_storage { storage_of self.new ≡ T.with_contents (storage_of self.old) (with_kind (T.contents (storage_of self.old)) kind) }
+        ensures bytes { T.contents (storage_of self.new)
+            ≡ with_kind (T.contents (storage_of self.old)) kind }
+        ensures same_storage { storage_of self.new
+            ≡ T.with_contents (storage_of self.old)
+            (with_kind (T.contents (storage_of self.old)) kind) }
     {
         put_u16(self.buffer.bytes_mut(), 2, kind);
     }
@@ -209,7 +230,9 @@ impl<T: StorageMut> NlaBuffer<T> {
     #[inline]
     pub fn value_mut(&mut self) -> &mut [u8]
         requires whole { HoldsAttribute (T.contents (storage_of self.old)) }
-        ensures* writes_back { sem 𝓛 (Lends (the_row T.row) (Array byte 0) self.entry result (λ value. view_over (T.with_contents (storage_of self.old) (put_at (T.contents (storage_of self.old)) 4 value)))) }
+        ensures* writes_back { sem 𝓛 (Lends (the_row T.row) (Array byte 0) self.entry result
+            (λ value. view_over (T.with_contents (storage_of self.old)
+            (put_at (T.contents (storage_of self.old)) 4 value)))) }
         ensures value { result.now ≡ (attribute_of (T.contents (storage_of self.old))).value }
     {
         let end = self.length() as usize;

@@ -32,7 +32,8 @@ pub fn is_canonical_nlas(bytes: &[u8]) -> bool
 #[inline(always)]
 fn is_zero_padded(bytes: &[u8], size: usize) -> bool
     requires inside { (size ≤ length bytes.now) × (size < 2 ^ 16) }
-    ensures { IsTrue result ↔ (take (padding size) (drop size bytes.now) ≡ replicate (padding size) 0) }
+    ensures { IsTrue result
+        ↔ (take (padding size) (drop size bytes.now) ≡ replicate (padding size) 0) }
 {
     let end = nla_align(size);
     end <= bytes.len() && are_zeros(&bytes[size..end])

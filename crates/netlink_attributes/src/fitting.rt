@@ -48,8 +48,10 @@ impl<T: Nla + Drop> NlaBlock<T> {
     /// as it was, and the attribute is given up.
     pub fn push(&mut self, nla: T) -> Result<(), DecodeError>
         ensures ok { IfOk result (λ _. self.new.list.items ≡ self.old.list.items ++ (nla ∷ [])) }
-        ensures too_long { (FitBlock T.kind_of T.value_of (self.old.list.items ++ (nla ∷ [])) → ⊥) → result ≡ Err DecodeError.TooLong }
-        ensures memory { FitBlock T.kind_of T.value_of (self.old.list.items ++ (nla ∷ [])) → IfErr result (λ e. e ≡ DecodeError.OutOfMemory) }
+        ensures too_long { (FitBlock T.kind_of T.value_of (self.old.list.items ++ (nla ∷ [])) → ⊥)
+            → result ≡ Err DecodeError.TooLong }
+        ensures memory { FitBlock T.kind_of T.value_of (self.old.list.items ++ (nla ∷ []))
+            → IfErr result (λ e. e ≡ DecodeError.OutOfMemory) }
         ensures unchanged { IfErr result (λ _. self.new.list.items ≡ self.old.list.items) }
     {
         if !nla_fits(&nla) {
@@ -100,9 +102,11 @@ impl<T: Nla + Eq> Eq for NlaBlock<T> {
 
 /// The size of the block that is written of attributes, where they fit.
 fn block_size<T: Nla>(list: &[T]) -> Option<usize>
-    ensures some { IfSome result (λ size. size ≡ length (canonical_block (attributes_of T.kind_of T.value_of list.now))) }
+    ensures some { IfSome result
+        (λ size. size ≡ length (canonical_block (attributes_of T.kind_of T.value_of list.now))) }
     ensures fits { IsSome result ↔ FitBlock T.kind_of T.value_of list.now }
-    ensures each { IfSome result (λ _. All FitsAttribute (attributes_of T.kind_of T.value_of list.now)) }
+    ensures each { IfSome result
+        (λ _. All FitsAttribute (attributes_of T.kind_of T.value_of list.now)) }
 {
     let mut size = 0;
     for nla in list {

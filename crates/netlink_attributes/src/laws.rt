@@ -26,12 +26,14 @@ use netlink_bytes::Storage;
 
 /// Every byte list is attributes one after another, and then nothing or one fault.
 pub fn walk_total()
-    ensures exists { (bytes : List ℕ) → IsBytes bytes → (all : List Attribute) × (fault : Option DecodeError) × Walk bytes all fault }
+    ensures exists { (bytes : List ℕ) → IsBytes bytes
+        → (all : List Attribute) × (fault : Option DecodeError) × Walk bytes all fault }
 {}
 
 /// Every byte list is so in one way: two walks of the same bytes are the same.
 pub fn walk_unique()
-    ensures unique { (bytes : List ℕ) (a b : List Attribute) (f g : Option DecodeError) → Walk bytes a f → Walk bytes b g → (a ≡ b) × (f ≡ g) }
+    ensures unique { (bytes : List ℕ) (a b : List Attribute) (f g : Option DecodeError)
+        → Walk bytes a f → Walk bytes b g → (a ≡ b) × (f ≡ g) }
 {}
 
 /// From any iterator, calls of `next` give exactly the walk of the bytes that are unread.
@@ -41,39 +43,48 @@ pub fn walk_given()
 
 /// With nothing unread, as behind an error, `next` gives `None` for good.
 pub fn walk_stops()
-    ensures stops { (item : Option Item) (rest : List ℕ) → Gives [] item rest → (item ≡ None) × (rest ≡ []) }
+    ensures stops { (item : Option Item) (rest : List ℕ) → Gives [] item rest
+        → (item ≡ None) × (rest ≡ []) }
 {}
 
 /// Two walks are equal exactly if the bytes still to be walked are.
 pub fn walks_equal()
-    ensures equal { (a b : NlasIterator (Bor (List ℕ))) → IsTrue (⟦<NlasIterator<&'static [u8]> as PartialEq>⟧.eq a b) ↔ (unread a ≡ unread b) }
+    ensures equal { (a b : NlasIterator (Bor (List ℕ)))
+        → IsTrue (⟦<NlasIterator<&'static [u8]> as PartialEq>⟧.eq a b) ↔ (unread a ≡ unread b) }
 {}
 
 /// Two views are equal exactly if their storages are, by `==`.
 pub fn views_equal<T: Storage + PartialEq>()
-    ensures equal { (a b : NlaBuffer T) → ⟦<NlaBuffer<T> as PartialEq>⟧.eq a b ≡ T.eq (storage_of a) (storage_of b) }
+    ensures equal { (a b : NlaBuffer T)
+        → ⟦<NlaBuffer<T> as PartialEq>⟧.eq a b ≡ T.eq (storage_of a) (storage_of b) }
 {}
 
 /// Two views over slices are equal exactly if the bytes that they show are.
 pub fn slice_views_equal()
-    ensures equal { (a b : NlaBuffer (Bor (List ℕ))) → IsTrue (⟦<NlaBuffer<&'static [u8]> as PartialEq>⟧.eq a b) ↔ (shown a ≡ shown b) }
+    ensures equal { (a b : NlaBuffer (Bor (List ℕ)))
+        → IsTrue (⟦<NlaBuffer<&'static [u8]> as PartialEq>⟧.eq a b) ↔ (shown a ≡ shown b) }
 {}
 
 /// Two attributes are equal exactly if their kinds and the bytes of their values are.
 pub fn attributes_equal()
-    ensures equal { (a b : DefaultNla) → IsTrue (⟦<DefaultNla as PartialEq>⟧.eq a b) ↔ (kept_attribute a ≡ kept_attribute b) }
+    ensures equal { (a b : DefaultNla)
+        → IsTrue (⟦<DefaultNla as PartialEq>⟧.eq a b) ↔ (kept_attribute a ≡ kept_attribute b) }
 {}
 
 /// What is written of an attribute holds it, and reads back as it, whatever follows.
 pub fn written_reads_back()
-    ensures holds { (a : Attribute) (rest : List ℕ) → FitsAttribute a → HoldsAttribute (padded a ++ rest) }
-    ensures back { (a : Attribute) (rest : List ℕ) → FitsAttribute a → attribute_of (padded a ++ rest) ≡ a }
+    ensures holds { (a : Attribute) (rest : List ℕ) → FitsAttribute a
+        → HoldsAttribute (padded a ++ rest) }
+    ensures back { (a : Attribute) (rest : List ℕ) → FitsAttribute a
+        → attribute_of (padded a ++ rest) ≡ a }
 {}
 
 /// What is written of a list walks as that list, and is a canonical block.
 pub fn written_walks()
-    ensures walk { (all : List Attribute) → All FitsAttribute all → Walk (canonical_block all) all None }
-    ensures canonical { (all : List Attribute) → All FitsAttribute all → IsCanonicalBlock (canonical_block all) }
+    ensures walk { (all : List Attribute) → All FitsAttribute all
+        → Walk (canonical_block all) all None }
+    ensures canonical { (all : List Attribute) → All FitsAttribute all
+        → IsCanonicalBlock (canonical_block all) }
 {}
 
 /// The first `cut` bytes, which are no more than there are, walk as the attributes that end by the
@@ -81,10 +92,14 @@ pub fn written_walks()
 /// fault.
 pub fn walk_cut(bytes: &[u8], cut: usize)
     requires inside { cut ≤ length bytes.now }
-    ensures attributes { (all : List Attribute) (fault : Option DecodeError) → Walk bytes.now all fault → (end : Option DecodeError) × Walk (take cut bytes.now) (kept_by cut all) end }
-    ensures fault { (all left : List Attribute) (fault end : Option DecodeError) (start : ℕ) → Walk bytes.now all fault → Walk (take cut bytes.now) left end
+    ensures attributes { (all : List Attribute) (fault : Option DecodeError)
+        → Walk bytes.now all fault
+        → (end : Option DecodeError) × Walk (take cut bytes.now) (kept_by cut all) end }
+    ensures fault { (all left : List Attribute) (fault end : Option DecodeError) (start : ℕ)
+        → Walk bytes.now all fault → Walk (take cut bytes.now) left end
         → IsCutAt all fault cut start → end ≡ Some (cut_fault bytes.now start cut) }
-    ensures no_fault { (all left : List Attribute) (fault end : Option DecodeError) → Walk bytes.now all fault → Walk (take cut bytes.now) left end
+    ensures no_fault { (all left : List Attribute) (fault end : Option DecodeError)
+        → Walk bytes.now all fault → Walk (take cut bytes.now) left end
         → ((start : ℕ) → IsCutAt all fault cut start → ⊥) → end ≡ None }
 {}
 
@@ -112,14 +127,17 @@ pub fn walk_join(block: &[u8], bytes: &[u8])
 
 /// Two blocks without fault are written alike exactly if they walk as the same attributes.
 pub fn block_unique(a: &[u8], b: &[u8])
-    ensures unique { (x y : List Attribute) → Walk a.now x None → Walk b.now y None → (canonical_block x ≡ canonical_block y) ↔ (x ≡ y) }
+    ensures unique { (x y : List Attribute) → Walk a.now x None → Walk b.now y None
+        → (canonical_block x ≡ canonical_block y) ↔ (x ≡ y) }
 {}
 
 /// What is written of a block without fault is the block itself exactly if that is canonical, and
 /// is canonical.
 pub fn fixed_points(bytes: &[u8])
-    ensures fixed { (all : List Attribute) → Walk bytes.now all None → (canonical_block all ≡ bytes.now) ↔ IsCanonicalBlock bytes.now }
-    ensures canonical { (all : List Attribute) → Walk bytes.now all None → IsCanonicalBlock (canonical_block all) }
+    ensures fixed { (all : List Attribute) → Walk bytes.now all None
+        → (canonical_block all ≡ bytes.now) ↔ IsCanonicalBlock bytes.now }
+    ensures canonical { (all : List Attribute) → Walk bytes.now all None
+        → IsCanonicalBlock (canonical_block all) }
 {}
 
 /// The function that reads a block gives the attributes of its walk, exactly where that has no
@@ -137,7 +155,8 @@ pub fn attributes_read()
 /// so still; what was written of its walk then, and what is written of it now, is the block itself.
 pub fn older_block_kept(bytes: &[u8])
     ensures canonical { IsOlderCanonicalBlock bytes.now → IsCanonicalBlock bytes.now }
-    ensures written { (all : List Attribute) (fault : Option DecodeError) → IsOlderCanonicalBlock bytes.now → Walk bytes.now all fault
+    ensures written { (all : List Attribute) (fault : Option DecodeError)
+        → IsOlderCanonicalBlock bytes.now → Walk bytes.now all fault
         → (fault ≡ None) × (canonical_block all ≡ bytes.now) × (older_canonical_block all ≡ bytes.now) }
 {}
 
@@ -145,9 +164,14 @@ pub fn older_block_kept(bytes: &[u8])
 /// one, its fault too, with those bytes as that value. Needs such an attribute, with a value of
 /// that size.
 pub fn value_replaced(block: &[u8], index: usize, value: &[u8])
-    requires size { (all : List Attribute) (fault : Option DecodeError) → Walk block.now all fault → HasValueOf all index (length value.now) }
-    ensures walk { (all : List Attribute) (fault : Option DecodeError) → Walk block.now all fault → IsSomeAnd (value_place all index) (λ place. Walk (put_at block.now place.0 value.now) (replaced all index value.now) fault) }
+    requires size { (all : List Attribute) (fault : Option DecodeError) → Walk block.now all fault
+        → HasValueOf all index (length value.now) }
+    ensures walk { (all : List Attribute) (fault : Option DecodeError) → Walk block.now all fault
+        → IsSomeAnd (value_place all index)
+        (λ place. Walk (put_at block.now place.0 value.now) (replaced all index value.now) fault) }
 
     // the same of any block that is so written, as `nlas_value_mut` says it
-    ensures written { (new : List ℕ) → IsWritten block.now index value.now new → (all : List Attribute) (fault : Option DecodeError) → Walk block.now all fault → Walk new (replaced all index value.now) fault }
+    ensures written { (new : List ℕ) → IsWritten block.now index value.now new
+        → (all : List Attribute) (fault : Option DecodeError) → Walk block.now all fault
+        → Walk new (replaced all index value.now) fault }
 {}

@@ -52,8 +52,10 @@ pub trait Nla {
 #[inline]
 pub fn nla_buffer_len<T: Nla>(nla: &T) -> usize
     requires room { length (T.value_of nla.now) ≤ usize.MAX - 7 }
-    ensures size { result ≡ length (padded (attribute_with (T.kind_of nla.now) (T.value_of nla.now))) }
-    ensures number { result ≡ padded_size (attribute_with (T.kind_of nla.now) (T.value_of nla.now)) }
+    ensures size { result
+        ≡ length (padded (attribute_with (T.kind_of nla.now) (T.value_of nla.now))) }
+    ensures number { result
+        ≡ padded_size (attribute_with (T.kind_of nla.now) (T.value_of nla.now)) }
 {
     nla_align(nla.value_len()) + NLA_HEADER_SIZE
 }
@@ -76,8 +78,12 @@ pub fn nla_fits<T: Nla>(nla: &T) -> bool
 #[inline]
 pub fn emit_nla<T: Nla>(nla: &T, buffer: &mut [u8])
     requires fits { length (T.value_of nla.now) ≤ 65531 }
-    requires room { length (padded (attribute_with (T.kind_of nla.now) (T.value_of nla.now))) ≤ length buffer.old }
-    ensures written { buffer.new ≡ padded (attribute_with (T.kind_of nla.now) (T.value_of nla.now)) ++ drop (length (padded (attribute_with (T.kind_of nla.now) (T.value_of nla.now)))) buffer.old }
+    requires room { length (padded (attribute_with (T.kind_of nla.now) (T.value_of nla.now)))
+        ≤ length buffer.old }
+    ensures written { buffer.new
+        ≡ padded (attribute_with (T.kind_of nla.now) (T.value_of nla.now))
+        ++ drop (length (padded (attribute_with (T.kind_of nla.now) (T.value_of nla.now))))
+        buffer.old }
     ensures kind { T.kind_of nla.now < 2 ^ 16 }
 {
     let value_len = nla.value_len();

@@ -34,9 +34,14 @@ impl<'a, T: Nla> Emitable for Nlas<'a, T> {
     /// as the list. Each value has at most 65531 bytes, and the buffer at least `buffer_len` bytes.
     fn emit(&self, buffer: &mut [u8])
         requires can { AllFit T.value_of self.now.0.now }
-        requires room { length (canonical_block (attributes_of T.kind_of T.value_of self.now.0.now)) ≤ length buffer.old }
-        ensures written { buffer.new ≡ canonical_block (attributes_of T.kind_of T.value_of self.now.0.now) ++ drop (length (canonical_block (attributes_of T.kind_of T.value_of self.now.0.now))) buffer.old }
-        ensures walks { Walk (canonical_block (attributes_of T.kind_of T.value_of self.now.0.now)) (attributes_of T.kind_of T.value_of self.now.0.now) None }
+        requires room { length (canonical_block (attributes_of T.kind_of T.value_of self.now.0.now))
+            ≤ length buffer.old }
+        ensures written { buffer.new
+            ≡ canonical_block (attributes_of T.kind_of T.value_of self.now.0.now)
+            ++ drop (length (canonical_block (attributes_of T.kind_of T.value_of self.now.0.now)))
+            buffer.old }
+        ensures walks { Walk (canonical_block (attributes_of T.kind_of T.value_of self.now.0.now))
+            (attributes_of T.kind_of T.value_of self.now.0.now) None }
     {
         let mut at = 0;
         for nla in self.0 {

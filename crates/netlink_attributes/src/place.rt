@@ -17,7 +17,8 @@ use crate::iterator::NlasIterator;
 /// exactly where there is no such attribute. Asks for no memory.
 pub fn nla_place(block: &[u8], index: usize) -> Option<(usize, usize)>
     ensures place { IsPlace block.now index result }
-    ensures inside { IfSome result (λ place. (4 ≤ place.0) × (place.0 ≤ place.1) × (place.1 ≤ length block.now)) }
+    ensures inside { IfSome result
+        (λ place. (4 ≤ place.0) × (place.0 ≤ place.1) × (place.1 ≤ length block.now)) }
 {
     let mut left = index;
     for item in NlasIterator::new(block) {
@@ -67,8 +68,10 @@ pub fn write_nla_value(block: &mut [u8], index: usize, value: &[u8]) -> bool
 /// that too: `write_nla_value`; `nla_place` and then an index, as `block[start..end]`; and
 /// `NlaBuffer::value_mut` for the bytes of one attribute.
 pub fn nlas_value_mut(block: &mut [u8], index: usize) -> Option<&mut [u8]>
-    ensures* writes_back { sem 𝓛 (LendsSo (Array byte 0) (Array byte 0) block.entry result (λ new value. OnSome result (IsWritten block.old index value new)) (λ new. new ≡ block.old)) }
-    ensures none { (all : List Attribute) (fault : Option DecodeError) → Walk block.old all fault → IsNone result ↔ (length all ≤ index) }
+    ensures* writes_back { sem 𝓛 (LendsSo (Array byte 0) (Array byte 0) block.entry result
+        (λ new value. OnSome result (IsWritten block.old index value new)) (λ new. new ≡ block.old)) }
+    ensures none { (all : List Attribute) (fault : Option DecodeError) → Walk block.old all fault
+        → IsNone result ↔ (length all ≤ index) }
     ensures value { IfSome result (λ value. IsValue block.old index value.now) }
 {
     let (start, end, block) = ranged(block, index);

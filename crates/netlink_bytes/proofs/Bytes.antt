@@ -91,7 +91,9 @@ number_le_last [] b = omega arith
 number_le_last (x ∷ bs) b =
     let rest = number_le_last bs b in
     let power : 256 ^ suc (length bs) ≡ 256 * 256 ^ length bs = pow-succ' 256 (length bs) in
-    let moved : b * (256 * 256 ^ length bs) ≡ 256 * (b * 256 ^ length bs) = sym (mul_assoc b 256 (256 ^ length bs)) ∙ ap (λ (c : ℕ). c * 256 ^ length bs) (mul_comm b 256) ∙ mul_assoc 256 b (256 ^ length bs) in
+    let moved : b * (256 * 256 ^ length bs) ≡ 256 * (b * 256 ^ length bs) =
+    sym (mul_assoc b 256 (256 ^ length bs)) ∙ ap (λ (c : ℕ). c * 256 ^ length bs) (mul_comm b 256)
+    ∙ mul_assoc 256 b (256 ^ length bs) in
     rw (rest, power, moved) (omega arith)
 
 number_be_all : (n : ℕ) (bs : List ℕ) → length bs ≡ n → number_be bs ≡ high_from 0 n bs
@@ -101,7 +103,8 @@ number_be_all zero (b ∷ bs) e = absurd (omega arith)
 number_be_all (suc n) [] e = absurd (omega arith)
 number_be_all (suc n) (b ∷ bs) e =
     let few : length bs ≡ n = omega arith in
-    let last : number_le (reverse (b ∷ bs)) ≡ number_le (reverse bs) + b * 256 ^ length (reverse bs) = ap number_le (reverse_onto bs b []) ∙ number_le_last (reverse bs) b in
+    let last : number_le (reverse (b ∷ bs)) ≡ number_le (reverse bs) + b * 256 ^ length (reverse bs) =
+    ap number_le (reverse_onto bs b []) ∙ number_le_last (reverse bs) b in
     let size : length (reverse bs) ≡ n = length-reverse bs ∙ few in
     let rest : number_le (reverse bs) ≡ high_from 0 n bs = number_be_all n bs few in
     let moved = high_from-cons 0 n b bs in
@@ -191,4 +194,29 @@ signed_1 n h = grind (arith, ints)
 pub ruleset single_byte = (number_le_1, signed_1)
 
 -- what a proof of a reader or a writer needs
-pub ruleset numbers_as_bytes = (number_le_2, number_be_2, bytes_le_2, bytes_be_2, signed_2, unsigned_2, number_le_4, number_be_4, bytes_le_4, bytes_be_4, signed_4, unsigned_4, number_le_8, number_be_8, bytes_le_8, bytes_be_8, signed_8, unsigned_8, number_le_16, number_be_16, bytes_le_16, bytes_be_16, signed_16, unsigned_16)
+pub ruleset numbers_as_bytes = (
+  number_le_2,
+  number_be_2,
+  bytes_le_2,
+  bytes_be_2,
+  signed_2,
+  unsigned_2,
+  number_le_4,
+  number_be_4,
+  bytes_le_4,
+  bytes_be_4,
+  signed_4,
+  unsigned_4,
+  number_le_8,
+  number_be_8,
+  bytes_le_8,
+  bytes_be_8,
+  signed_8,
+  unsigned_8,
+  number_le_16,
+  number_be_16,
+  bytes_le_16,
+  bytes_be_16,
+  signed_16,
+  unsigned_16,
+)

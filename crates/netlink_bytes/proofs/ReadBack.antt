@@ -13,7 +13,8 @@ weighed-number_le i (b ∷ bytes) =
     let power : 256 ^ suc i ≡ 256 ^ i * 256 = pow-suc 256 i in
     let first : b * 256 ^ i ≡ 256 ^ i * b = mul_comm b (256 ^ i) in
     let later : 256 ^ i * 256 * number_le bytes ≡ 256 ^ i * (256 * number_le bytes) = mul_assoc (256 ^ i) 256 (number_le bytes) in
-    let whole : 256 ^ i * (b + 256 * number_le bytes) ≡ 256 ^ i * b + 256 ^ i * (256 * number_le bytes) = mul-add (256 ^ i) b (256 * number_le bytes) in
+    let whole : 256 ^ i * (b + 256 * number_le bytes) ≡ 256 ^ i * b + 256 ^ i * (256 * number_le bytes) =
+    mul-add (256 ^ i) b (256 * number_le bytes) in
     rw (rest, power, first, later, whole) refl
 
 sum_le : (bytes : List ℕ) → number_le bytes ≡ weighed 0 bytes
@@ -44,8 +45,11 @@ pub unsigned_reads_back : UnsignedReadsBack
 unsigned_reads_back w n fits = (signed-fits w n fits, unsigned-signed (suc w) n fits)
 
 pub written_is_read : WrittenIsRead
-written_is_read n w rest fits =
-    (ap number_le (take-bytes_le n w rest) ∙ number_le-bytes_le n w fits, ap number_be (take-bytes_be n w rest) ∙ number_be-bytes_be n w fits)
+written_is_read n w rest fits = (
+  ap number_le (take-bytes_le n w rest) ∙ number_le-bytes_le n w fits,
+  ap number_be (take-bytes_be n w rest)
+      ∙ number_be-bytes_be n w fits,
+)
 
 pub written_signed_is_read : WrittenSignedIsRead
 written_signed_is_read w z rest fits =

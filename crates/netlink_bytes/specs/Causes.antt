@@ -37,19 +37,54 @@ error_line false = []
 
 -- the text of a cause
 abbrev pub cause_text : DecodeError → List ℕ
-cause_text (InvalidBuffer name received minimum_length) = codes "Invalid buffer " ++ (string_bytes name ++ (codes ". Expected at least " ++ (decimal minimum_length ++ (codes " bytes, received " ++ (decimal received ++ codes " bytes")))))
-cause_text (InvalidMacAddress received) = codes "Invalid MAC address. Expected 6 bytes, received " ++ (decimal received ++ codes " bytes")
-cause_text (InvalidIpAddress received) = codes "Invalid IP address. Expected 4 or 16 bytes, received " ++ (decimal received ++ codes " bytes")
-cause_text (InvalidNumber expected received) = codes "Invalid number. Expected " ++ (decimal expected ++ (codes " bytes, received " ++ (decimal received ++ codes " bytes")))
-cause_text (NlaBufferTooSmall buffer_len nla_len) = codes "buffer has length " ++ (decimal buffer_len ++ (codes ", but an NLA header is " ++ (decimal nla_len ++ codes " bytes")))
-cause_text (NlaLengthMismatch buffer_len nla_len) = codes "buffer has length: " ++ (decimal buffer_len ++ (codes ", but the NLA is " ++ (decimal nla_len ++ codes " bytes")))
-cause_text (NlaInvalidLength buffer_len nla_len) = codes "NLA has invalid length: " ++ (decimal nla_len ++ (codes " (should be at least " ++ (decimal buffer_len ++ codes " bytes)")))
-cause_text (BufferTooSmall buffer_len value_len) = codes "Buffer too small: " ++ (decimal buffer_len ++ (codes " (should be at least " ++ (decimal value_len ++ codes " bytes")))
-cause_text (FrameShort size inside) = frame_line inside ++ (codes "invalid netlink buffer length caused by invalid netlink buffer: length is " ++ (decimal size ++ codes " but netlink packets are at least 16 bytes"))
-cause_text (FrameCut length size inside) = frame_line inside ++ (codes "invalid netlink buffer length caused by invalid netlink buffer: length field says " ++ (decimal length ++ (codes " the buffer is " ++ (decimal size ++ codes " bytes long"))))
-cause_text (FrameLength length inside) = frame_line inside ++ (codes "invalid netlink buffer length caused by invalid netlink buffer: length field says " ++ (decimal length ++ codes " but netlink packets are at least 16 bytes"))
-cause_text (DoneShort size inside) = done_line inside ++ (codes "invalid DoneBuffer length caused by invalid DoneBuffer: length is " ++ (decimal size ++ codes " but DoneBuffer are at least 4 bytes"))
-cause_text (ErrorShort size inside) = error_line inside ++ (codes "invalid ErrorBuffer length caused by invalid ErrorBuffer: length is " ++ (decimal size ++ codes " but ErrorBuffer are at least 4 bytes"))
+cause_text (InvalidBuffer name received minimum_length) =
+    codes "Invalid buffer "
+    ++ (string_bytes name
+    ++ (codes ". Expected at least "
+    ++ (decimal minimum_length
+    ++ (codes " bytes, received " ++ (decimal received ++ codes " bytes")))))
+cause_text (InvalidMacAddress received) =
+    codes "Invalid MAC address. Expected 6 bytes, received " ++ (decimal received ++ codes " bytes")
+cause_text (InvalidIpAddress received) =
+    codes "Invalid IP address. Expected 4 or 16 bytes, received "
+    ++ (decimal received ++ codes " bytes")
+cause_text (InvalidNumber expected received) =
+    codes "Invalid number. Expected "
+    ++ (decimal expected ++ (codes " bytes, received " ++ (decimal received ++ codes " bytes")))
+cause_text (NlaBufferTooSmall buffer_len nla_len) =
+    codes "buffer has length "
+    ++ (decimal buffer_len
+    ++ (codes ", but an NLA header is " ++ (decimal nla_len ++ codes " bytes")))
+cause_text (NlaLengthMismatch buffer_len nla_len) =
+    codes "buffer has length: "
+    ++ (decimal buffer_len ++ (codes ", but the NLA is " ++ (decimal nla_len ++ codes " bytes")))
+cause_text (NlaInvalidLength buffer_len nla_len) =
+    codes "NLA has invalid length: "
+    ++ (decimal nla_len ++ (codes " (should be at least "
+    ++ (decimal buffer_len ++ codes " bytes)")))
+cause_text (BufferTooSmall buffer_len value_len) =
+    codes "Buffer too small: "
+    ++ (decimal buffer_len
+    ++ (codes " (should be at least " ++ (decimal value_len ++ codes " bytes")))
+cause_text (FrameShort size inside) =
+    frame_line inside ++ (codes
+    "invalid netlink buffer length caused by invalid netlink buffer: length is "
+    ++ (decimal size ++ codes " but netlink packets are at least 16 bytes"))
+cause_text (FrameCut length size inside) =
+    frame_line inside ++ (codes
+    "invalid netlink buffer length caused by invalid netlink buffer: length field says "
+    ++ (decimal length ++ (codes " the buffer is " ++ (decimal size ++ codes " bytes long"))))
+cause_text (FrameLength length inside) =
+    frame_line inside ++ (codes
+    "invalid netlink buffer length caused by invalid netlink buffer: length field says "
+    ++ (decimal length ++ codes " but netlink packets are at least 16 bytes"))
+cause_text (DoneShort size inside) =
+    done_line inside ++ (codes "invalid DoneBuffer length caused by invalid DoneBuffer: length is "
+    ++ (decimal size ++ codes " but DoneBuffer are at least 4 bytes"))
+cause_text (ErrorShort size inside) =
+    error_line inside ++ (codes
+    "invalid ErrorBuffer length caused by invalid ErrorBuffer: length is "
+    ++ (decimal size ++ codes " but ErrorBuffer are at least 4 bytes"))
 cause_text (Message text) = string_bytes text
 cause_text TooLong = codes "message does not fit a 32-bit length"
 cause_text OutOfMemory = codes "out of memory"
@@ -68,7 +103,8 @@ TextBegins front _ = ⊥
 
 -- a buffer that is too short, by this name and with these sizes, or memory was refused for the name
 abbrev pub IsInvalidBuffer : List ℕ → ℕ → ℕ → DecodeError → Type 0
-IsInvalidBuffer name received minimum_length (InvalidBuffer held got least) = (string_bytes held ≡ name) × (got ≡ received) × (least ≡ minimum_length)
+IsInvalidBuffer name received minimum_length (InvalidBuffer held got least) =
+    (string_bytes held ≡ name) × (got ≡ received) × (least ≡ minimum_length)
 IsInvalidBuffer name received minimum_length OutOfMemory = Unit {0}
 IsInvalidBuffer name received minimum_length _ = ⊥
 

@@ -15,14 +15,17 @@ text_with line text = line ++ (codes " caused by " ++ text)
 -- the error with a line in front, or memory was refused for its text; want of memory stays what it
 -- is
 abbrev pub HasLine : List ℕ → DecodeError → DecodeError → Type 0
-HasLine line old new = (old ≡ OutOfMemory → new ≡ old) × (TakesLine old → HoldsText (text_with line (cause_text old)) new)
+HasLine line old new =
+    (old ≡ OutOfMemory → new ≡ old)
+    × (TakesLine old → HoldsText (text_with line (cause_text old)) new)
 
 -- the same of a result, where a value stays what it is and takes no line
 abbrev pub ResultTakesLine : {U : Type 0} → Result U DecodeError → Type 0
 ResultTakesLine (Ok value) = ⊥
 ResultTakesLine (Err e) = TakesLine e
 
-abbrev pub ResultHasLine : {U : Type 0} → List ℕ → Result U DecodeError → Result U DecodeError → Type 0
+abbrev pub ResultHasLine : {U : Type 0} → List ℕ → Result U DecodeError → Result U DecodeError
+    → Type 0
 ResultHasLine line (Ok value) new = new ≡ Ok value
 ResultHasLine line (Err old) new = IsErrAnd new (HasLine line old)
 

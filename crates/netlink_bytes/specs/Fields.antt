@@ -15,7 +15,8 @@ number_at at w bytes = number_le (slice_range bytes at (at + w))
 abbrev pub fields_at : ℕ → List ℕ → List ℕ → List ℕ
 fields_at at [] bytes = []
 fields_at at (w ∷ []) bytes = bytes_le (number_at at w bytes) w
-fields_at at (w ∷ v ∷ widths) bytes = bytes_le (number_at at w bytes) w ++ fields_at (at + w) (v ∷ widths) bytes
+fields_at at (w ∷ v ∷ widths) bytes =
+    bytes_le (number_at at w bytes) w ++ fields_at (at + w) (v ∷ widths) bytes
 
 -- fields that were read and are written again are the bytes that they were read from
 abbrev pub FieldsKept : Type 0
@@ -31,7 +32,8 @@ PlacedIsRead =
 
 -- ---- lemmas for callers to cite
 
-number_at-drop : (at w : ℕ) (bytes : List ℕ) → number_at at w bytes ≡ number_le (take w (drop at bytes))
+number_at-drop : (at w : ℕ) (bytes : List ℕ)
+    → number_at at w bytes ≡ number_le (take w (drop at bytes))
 number_at-drop at w bytes =
     let width : at + w - at ≡ w = omega arith in
     ap (λ (k : ℕ). number_le (take k (drop at bytes))) width
@@ -40,7 +42,8 @@ enough : (at w : ℕ) (bytes : List ℕ) → at + w ≤ length bytes → w ≤ l
 enough at w bytes long = omega (arith, length-drop at bytes)
 
 -- the number at a place fits its width
-pub number_at-fits : (at w : ℕ) (bytes : List ℕ) → IsBytes bytes → at + w ≤ length bytes → number_at at w bytes < 256 ^ w
+pub number_at-fits : (at w : ℕ) (bytes : List ℕ) → IsBytes bytes → at + w ≤ length bytes
+    → number_at at w bytes < 256 ^ w
 number_at-fits at w bytes each long =
     let fits = front-fits w (drop at bytes) (IsBytes-drop at bytes each) (enough at w bytes long) in
     rw (number_at-drop at w bytes) fits
@@ -50,14 +53,16 @@ pub number_at-text : (at w : ℕ) (bytes : List ℕ) → IsBytes bytes → at + 
     → drop at bytes ≡ bytes_le (number_at at w bytes) w ++ drop (at + w) bytes
 number_at-text at w bytes each long =
     split_number w (drop at bytes) (IsBytes-drop at bytes each) (enough at w bytes long)
-    ∙ ap (λ (more : List ℕ). bytes_le (number_le (take w (drop at bytes))) w ++ more) (drop-drop w at bytes)
+    ∙ ap (λ (more : List ℕ). bytes_le (number_le (take w (drop at bytes))) w ++ more)
+    (drop-drop w at bytes)
     ∙ ap (λ (n : ℕ). bytes_le n w ++ drop (at + w) bytes) (sym (number_at-drop at w bytes))
 
 -- the text of a number that was read with its sign is that of the number without
 pub number_at-signed : (at w : ℕ) (bytes : List ℕ) → IsBytes bytes → at + w ≤ length bytes
     → bytes_le (unsigned w (signed w (number_at at w bytes))) w ≡ bytes_le (number_at at w bytes) w
 number_at-signed at w bytes each long =
-    ap (λ (n : ℕ). bytes_le n w) (unsigned-signed w (number_at at w bytes) (number_at-fits at w bytes each long))
+    ap (λ (n : ℕ). bytes_le n w)
+    (unsigned-signed w (number_at at w bytes) (number_at-fits at w bytes each long))
 
 sum-cons : (w : ℕ) (widths : List ℕ) → sum (w ∷ widths) ≡ w + sum widths
 sum-cons w widths = sum_by-cons (λ (n : ℕ). n) w widths
@@ -73,20 +78,27 @@ fields_kept at (w ∷ v ∷ widths) bytes each long =
     let rest = fields_kept (at + w) (v ∷ widths) bytes each (omega (arith, whole, long)) in
     let end : at + w + sum (v ∷ widths) ≡ at + sum (w ∷ v ∷ widths) = omega (arith, whole) in
     number_at-text at w bytes each (omega (arith, whole, long))
-    ∙ ap (λ (more : List ℕ). bytes_le (number_at at w bytes) w ++ more) (rest ∙ ap (λ (n : ℕ). fields_at (at + w) (v ∷ widths) bytes ++ drop n bytes) end)
-    ∙ sym (append_assoc (bytes_le (number_at at w bytes) w) (fields_at (at + w) (v ∷ widths) bytes) (drop (at + sum (w ∷ v ∷ widths)) bytes))
+    ∙ ap (λ (more : List ℕ). bytes_le (number_at at w bytes) w ++ more)
+    (rest ∙ ap (λ (n : ℕ). fields_at (at + w) (v ∷ widths) bytes ++ drop n bytes) end)
+    ∙ sym (append_assoc (bytes_le (number_at at w bytes) w) (fields_at (at + w) (v ∷ widths) bytes)
+    (drop (at + sum (w ∷ v ∷ widths)) bytes))
 
 -- bytes of the size of their fields are these
-pub all_fields_kept : (widths bytes : List ℕ) → IsBytes bytes → length bytes ≡ sum widths → fields_at 0 widths bytes ≡ bytes
+pub all_fields_kept : (widths bytes : List ℕ) → IsBytes bytes → length bytes ≡ sum widths
+    → fields_at 0 widths bytes ≡ bytes
 all_fields_kept widths bytes each size =
-    let none : drop (0 + sum widths) bytes ≡ [] = drop_all (0 + sum widths) bytes (omega (arith, size)) in
-    sym (fields_kept 0 widths bytes each (omega (arith, size)) ∙ ap (λ (more : List ℕ). fields_at 0 widths bytes ++ more) none ∙ append-nil (fields_at 0 widths bytes))
+    let none : drop (0 + sum widths) bytes ≡ [] =
+    drop_all (0 + sum widths) bytes (omega (arith, size)) in
+    sym (fields_kept 0 widths bytes each (omega (arith, size))
+    ∙ ap (λ (more : List ℕ). fields_at 0 widths bytes ++ more) none
+    ∙ append-nil (fields_at 0 widths bytes))
 
 pub placed_is_read : PlacedIsRead
 placed_is_read bytes at w n inside fits =
     let front : length (take at bytes) ≡ at = length-take-le at bytes inside in
     let rest : List ℕ = drop (at + length (bytes_le n w)) bytes in
-    let from_there : drop at (put_at bytes at (bytes_le n w)) ≡ bytes_le n w ++ rest = drop_at (take at bytes) (bytes_le n w ++ rest) at front in
+    let from_there : drop at (put_at bytes at (bytes_le n w)) ≡ bytes_le n w ++ rest =
+    drop_at (take at bytes) (bytes_le n w ++ rest) at front in
     number_at-drop at w (put_at bytes at (bytes_le n w))
     ∙ ap (λ (more : List ℕ). number_le (take w more)) from_there
     ∙ ap number_le (take-bytes_le n w rest) ∙ number_le-bytes_le n w fits

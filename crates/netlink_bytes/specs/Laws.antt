@@ -10,12 +10,14 @@ weighed i (b ∷ bytes) = b * 256 ^ i + weighed (suc i) bytes
 -- the number of bytes is the sum of each by its place
 abbrev pub NumberIsSum : Type 0
 NumberIsSum =
-    (bytes : List ℕ) → (number_le bytes ≡ weighed 0 bytes) × (number_be bytes ≡ weighed 0 (reverse bytes))
+    (bytes : List ℕ) → (number_le bytes ≡ weighed 0 bytes)
+    × (number_be bytes ≡ weighed 0 (reverse bytes))
 
 -- a text of w bytes is a list of w bytes
 abbrev pub TextIsBytes : Type 0
 TextIsBytes =
-    (n w : ℕ) → (length (bytes_le n w) ≡ w) × (length (bytes_be n w) ≡ w) × IsBytes (bytes_le n w) × IsBytes (bytes_be n w)
+    (n w : ℕ) → (length (bytes_le n w) ≡ w) × (length (bytes_be n w) ≡ w) × IsBytes (bytes_le n w)
+    × IsBytes (bytes_be n w)
 
 -- the number of a text of w bytes is the remainder by 256 to the power w
 abbrev pub TextReadsBack : Type 0
@@ -44,10 +46,13 @@ UnsignedReadsBack =
 abbrev pub WrittenIsRead : Type 0
 WrittenIsRead =
     (n w : ℕ) (rest : List ℕ) → n < 256 ^ w
-    → (number_le (take w (bytes_le n w ++ rest)) ≡ n) × (number_be (take w (bytes_be n w ++ rest)) ≡ n)
+    → (number_le (take w (bytes_le n w ++ rest)) ≡ n)
+    × (number_be (take w (bytes_be n w ++ rest)) ≡ n)
 
 abbrev pub WrittenSignedIsRead : Type 0
 WrittenSignedIsRead =
     (w : ℕ) (z : ℤ) (rest : List ℕ) → IsSigned (suc w) z
-    → (signed (suc w) (number_le (take (suc w) (bytes_le (unsigned (suc w) z) (suc w) ++ rest))) ≡ z)
-    × (signed (suc w) (number_be (take (suc w) (bytes_be (unsigned (suc w) z) (suc w) ++ rest))) ≡ z)
+    → (signed (suc w) (number_le (take (suc w) (bytes_le (unsigned (suc w) z) (suc w) ++ rest)))
+    ≡ z)
+    × (signed (suc w) (number_be (take (suc w) (bytes_be (unsigned (suc w) z) (suc w) ++ rest)))
+    ≡ z)

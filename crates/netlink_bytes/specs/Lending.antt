@@ -23,15 +23,20 @@ use borrow.Table.Elements.{at, at_mul, cut_app, join_app}
 
 -- where a part of bytes starts in memory, and how long it is
 pub starts_at : (n o : ℕ) (xs : List ℕ) → n ≤ length xs → at o 1 (length (take n xs)) ≡ n + o
-starts_at n o xs inside = let steps = at_mul o 1 (length (take n xs)) in let taken = length-take n xs in omega arith
+starts_at n o xs inside = let steps = at_mul o 1 (length (take n xs)) in
+    let taken = length-take n xs in omega arith
 
-pub length_part : (n m : ℕ) (xs : List ℕ) → n ≤ m → m ≤ length xs → length (take (m - n) (drop_list n xs)) ≡ m - n
-length_part n m xs order inside = let taken = length-take (m - n) (drop_list n xs) in let left = length-drop n xs in omega arith
+pub length_part : (n m : ℕ) (xs : List ℕ) → n ≤ m → m ≤ length xs
+    → length (take (m - n) (drop_list n xs)) ≡ m - n
+length_part n m xs order inside = let taken = length-take (m - n) (drop_list n xs) in
+    let left = length-drop n xs in omega arith
 
-module _ {M : Type 1} {𝓤 : Ura M} (𝓛 : Logic 𝓤) (ℓ : Lifetime) (κ : Lft) (q : Share) (b o : ℕ) (γ : GName) where
+module _ {M : Type 1} {𝓤 : Ura M} (𝓛 : Logic 𝓤) (ℓ : Lifetime) (κ : Lft) (q : Share) (b o : ℕ)
+    (γ : GName) where
   open 𝓛 use {H, A}
 
-  module _ (R : RattleType) (xs : List R.Denot) (start k : ℕ) (p : ℕ) (on : at o (mem R).size (length (take start xs)) ≡ p) where
+  module _ (R : RattleType) (xs : List R.Denot) (start k : ℕ) (p : ℕ)
+      (on : at o (mem R).size (length (take start xs)) ≡ p) where
     abbrev pub mid : List R.Denot
     mid = take k (drop_list start xs)
 
@@ -46,41 +51,80 @@ module _ {M : Type 1} {𝓤 : Ura M} (𝓛 : Logic 𝓤) (ℓ : Lifetime) (κ : 
     around ws = take start xs ++ (ws ++ drop_list (start + length ws) xs)
 
     cut : xs ≡ front ++ (mid ++ back)
-    cut = sym (ap (λ ys. front ++ ys) (take-append-drop k (drop_list start xs)) ∙ take-append-drop start xs)
+    cut =
+        sym (ap (λ ys. front ++ ys) (take-append-drop k (drop_list start xs))
+        ∙ take-append-drop start xs)
 
     same : (ws : List R.Denot) → length ws ≡ length mid → front ++ (ws ++ back) ≡ around ws
-    same ws e = ap (λ ys. front ++ (ws ++ ys)) (sym (ap (drop_list (length ws)) (sym (take-append-drop k (drop_list start xs))) ∙ drop_at mid back (length ws) (sym e)) ∙ drop-drop (length ws) start xs)
+    same ws e =
+        ap (λ ys. front ++ (ws ++ ys))
+        (sym (ap (drop_list (length ws)) (sym (take-append-drop k (drop_list start xs)))
+        ∙ drop_at mid back (length ws) (sym e)) ∙ drop-drop (length ws) start xs)
 
     abbrev pub PartLent : GName → SProp 𝓤
-    PartLent δ = sep 𝓤 (sem 𝓛 ((MutSlice ℓ κ R).own_val (record { ref_ptr = (b, p); ghost_name = δ; now = mid }) (slice_val (b, p) (length mid) ∷ []))) (sep 𝓤 (A.lft κ q) (sem 𝓛 (follows (Array R 0) (Array R 0) γ δ around)))
+    PartLent δ =
+        sep 𝓤 (sem 𝓛 ((MutSlice ℓ κ R).own_val
+        (record { ref_ptr = (b, p); ghost_name = δ; now = mid })
+        (slice_val (b, p) (length mid) ∷ [])))
+        (sep 𝓤 (A.lft κ q) (sem 𝓛 (follows (Array R 0) (Array R 0) γ δ around)))
 
     abbrev Others : SProp 𝓤
-    Others = sep 𝓤 (sem 𝓛 (cells (mem R) front b o)) (sem 𝓛 (cells (mem R) back b (at p (mem R).size (length mid))))
+    Others =
+        sep 𝓤 (sem 𝓛 (cells (mem R) front b o))
+        (sem 𝓛 (cells (mem R) back b (at p (mem R).size (length mid))))
 
-    put_part : (ws : List R.Denot) → ent 𝓤 (sep 𝓤 (sem 𝓛 ((Arr (mem R) (length mid)).own_at ws b p)) Others) (sem 𝓛 ((Arr (mem R) (length xs)).own_at (around ws) b o))
-    put_part ws = qed 𝓛 (‵ ((Arr (mem R) (length mid)).own_at ws b p) ∷ ‵ (cells (mem R) front b o) ∷ ‵ (cells (mem R) back b (at p (mem R).size (length mid))) ∷ []) ∵
+    put_part : (ws : List R.Denot)
+        → ent 𝓤 (sep 𝓤 (sem 𝓛 ((Arr (mem R) (length mid)).own_at ws b p)) Others)
+        (sem 𝓛 ((Arr (mem R) (length xs)).own_at (around ws) b o))
+    put_part ws =
+        qed 𝓛 (‵ ((Arr (mem R) (length mid)).own_at ws b p) ∷ ‵ (cells (mem R) front b o)
+        ∷ ‵ (cells (mem R) back b (at p (mem R).size (length mid))) ∷ []) ∵
         fsplit ! $ feq_l ! (λ e.
-        let whole : length xs ≡ length front + length (mid ++ back) = ap length cut ∙ length-append front (mid ++ back) in
+        let whole : length xs ≡ length front + length (mid ++ back) =
+        ap length cut ∙ length-append front (mid ++ back) in
         let inner : length (mid ++ back) ≡ length mid + length back = length-append mid back in
-        let now_whole : length (front ++ (ws ++ back)) ≡ length front + length (ws ++ back) = length-append front (ws ++ back) in
+        let now_whole : length (front ++ (ws ++ back)) ≡ length front + length (ws ++ back) =
+        length-append front (ws ++ back) in
         let now_inner : length (ws ++ back) ≡ length ws + length back = length-append ws back in
-        let long : length (around ws) ≡ length xs = (let j : length (around ws) ≡ length (front ++ (ws ++ back)) = ap length (sym (same ws e)) in omega arith) in
-        rewrite ! 2 (λ (k' : ℕ). ‵ (cells (mem R) back b (at p (mem R).size k'))) (sym e) refl $ move ! (0 ∷ 2 ∷ []) $
+        let long : length (around ws) ≡ length xs =
+        (let j : length (around ws)
+        ≡ length (front ++ (ws ++ back)) = ap length (sym (same ws e)) in omega arith) in
+        rewrite ! 2 (λ (k' : ℕ). ‵ (cells (mem R) back b (at p (mem R).size k'))) (sym e) refl $
+        move ! (0 ∷ 2 ∷ []) $
         use2 𝓛 (‵ (cells (mem R) (ws ++ back) b p)) (join_app 𝓛 (mem R) ws back b p) $
-        rewrite ! 0 (λ (k' : ℕ). ‵ (cells (mem R) (ws ++ back) b k')) (sym on) refl $ move ! (1 ∷ 0 ∷ []) $
-        use2 𝓛 (‵ (cells (mem R) (front ++ (ws ++ back)) b o)) (join_app 𝓛 (mem R) front (ws ++ back) b o) $
+        rewrite ! 0 (λ (k' : ℕ). ‵ (cells (mem R) (ws ++ back) b k')) (sym on) refl $ move !
+        (1 ∷ 0 ∷ []) $
+        use2 𝓛 (‵ (cells (mem R) (front ++ (ws ++ back)) b o))
+        (join_app 𝓛 (mem R) front (ws ++ back) b o) $
         rewrite ! 0 (λ (ys : List R.Denot). ‵ (cells (mem R) ys b o)) (same ws e) refl $
         feq_i ! ℕ (length (around ws)) (length xs) long $ fjoin ! $ done !)
 
     pub lends_part : Room R (length mid) → (vs : List Val)
-        → ent 𝓤 (sep 𝓤 (sem 𝓛 ((MutSlice ℓ κ R).own_val (record { ref_ptr = (b, o); ghost_name = γ; now = xs }) vs)) (A.lft κ q)) (H.⇛ (ex 𝓤 PartLent))
-    lends_part rm vs = qed 𝓛 (‵ ((MutSlice ℓ κ R).own_val (record { ref_ptr = (b, o); ghost_name = γ; now = xs }) vs) ∷ ‵ (flft κ q) ∷ []) ∵ updating ! $ fsplit3 ! $ drop ! $
-        rewrite ! 0 (λ (l : List R.Denot). ‵ (fobs γ ((coded_list R.coded).code l))) (heres_id R xs) refl $ open_ref ! tt (Arr (mem R) (length xs)) {b = b} {o = o} $ fsplit ! $ drop ! $
+        → ent 𝓤 (sep 𝓤 (sem 𝓛
+        ((MutSlice ℓ κ R).own_val (record { ref_ptr = (b, o); ghost_name = γ; now = xs }) vs))
+        (A.lft κ q)) (H.⇛ (ex 𝓤 PartLent))
+    lends_part rm vs =
+        qed 𝓛 (‵ ((MutSlice ℓ κ R).own_val (record { ref_ptr = (b, o); ghost_name = γ; now = xs })
+        vs) ∷ ‵ (flft κ q) ∷ []) ∵ updating ! $ fsplit3 ! $ drop ! $
+        rewrite ! 0 (λ (l : List R.Denot). ‵ (fobs γ ((coded_list R.coded).code l))) (heres_id R xs)
+        refl $ open_ref ! tt (Arr (mem R) (length xs)) {b = b} {o = o} $ fsplit ! $ drop ! $
         rewrite ! 0 (λ (l : List R.Denot). ‵ (cells (mem R) l b o)) cut refl $
-        use1 𝓛 (‵ (cells (mem R) front b o) ⊛ ‵ (cells (mem R) (mid ++ back) b (at o (mem R).size (length front)))) (cut_app 𝓛 (mem R) front (mid ++ back) b o) $ split ! $ move ! (1 ∷ []) $
+        use1 𝓛 (‵ (cells (mem R) front b o) ⊛ ‵
+        (cells (mem R) (mid ++ back) b (at o (mem R).size (length front))))
+        (cut_app 𝓛 (mem R) front (mid ++ back) b o) $ split ! $ move ! (1 ∷ []) $
         rewrite ! 0 (λ (k' : ℕ). ‵ (cells (mem R) (mid ++ back) b k')) on refl $
-        use1 𝓛 (‵ (cells (mem R) mid b p) ⊛ ‵ (cells (mem R) back b (at p (mem R).size (length mid)))) (cut_app 𝓛 (mem R) mid back b p) $ split ! $
-        feq_i ! ℕ (length mid) (length mid) refl $ fjoin ! $ move ! (2 ∷ 1 ∷ []) $ join ! $ move ! (2 ∷ 3 ∷ 4 ∷ 1 ∷ 0 ∷ []) $ group ! 5 $
-        use1 𝓛 (later (some (λ (δ : GName). ‵ (fobs δ ((coded_list R.coded).code mid)) ⊛ ‵ (fbor κ (Body (Arr (mem R) (length mid)) b p δ)) ⊛ ‵ (flft κ q) ⊛ ‵ (follows (Array R 0) (Array R 0) γ δ around))))
-        (takes_part 𝓛 (Arr (mem R) (length xs)) (Arr (mem R) (length mid)) around κ q b o b p γ Others put_part ((coded_list R.coded).code xs) ((coded_list R.coded).code xs) mid) $ await ! tt $ pick ! (λ δ. split3 ! $
-        use2 𝓛 (‵ ((MutSlice ℓ κ R).own_val (record { ref_ptr = (b, p); ghost_name = δ; now = mid }) (slice_val (b, p) (length mid) ∷ []))) (slice_of 𝓛 R ℓ κ b p δ mid rm) $ now ! $ show ! PartLent δ $ done !)
+        use1 𝓛 (‵ (cells (mem R) mid b p) ⊛ ‵
+        (cells (mem R) back b (at p (mem R).size (length mid))))
+        (cut_app 𝓛 (mem R) mid back b p) $ split ! $
+        feq_i ! ℕ (length mid) (length mid) refl $ fjoin ! $ move ! (2 ∷ 1 ∷ []) $ join ! $ move !
+        (2 ∷ 3 ∷ 4 ∷ 1 ∷ 0 ∷ []) $ group ! 5 $
+        use1 𝓛 (later (some (λ (δ : GName).
+        ‵ (fobs δ ((coded_list R.coded).code mid)) ⊛ ‵
+        (fbor κ (Body (Arr (mem R) (length mid)) b p δ)) ⊛ ‵ (flft κ q) ⊛ ‵
+        (follows (Array R 0) (Array R 0) γ δ around))))
+        (takes_part 𝓛 (Arr (mem R) (length xs)) (Arr (mem R) (length mid)) around κ q b o b p γ
+        Others put_part ((coded_list R.coded).code xs) ((coded_list R.coded).code xs) mid) $
+        await ! tt $ pick ! (λ δ. split3 ! $
+        use2 𝓛 (‵ ((MutSlice ℓ κ R).own_val (record { ref_ptr = (b, p); ghost_name = δ; now = mid })
+        (slice_val (b, p) (length mid) ∷ []))) (slice_of 𝓛 R ℓ κ b p δ mid rm) $ now ! $ show !
+        PartLent δ $ done !)

@@ -21,7 +21,8 @@ pub number_le-bytes_le : (n w : ℕ) → n < 256 ^ w → number_le (bytes_le n w
 unfolding number_le bytes_le
 number_le-bytes_le n zero fits = omega arith
 number_le-bytes_le n (suc w) fits =
-    let less : n / 256 < 256 ^ w = div_below n 256 (256 ^ w) (omega arith) (rw (pow-suc 256 w) at fits) in
+    let less : n / 256 < 256 ^ w =
+    div_below n 256 (256 ^ w) (omega arith) (rw (pow-suc 256 w) at fits) in
     let rest = number_le-bytes_le (n / 256) w less in
     rw rest (omega arith)
 
@@ -33,12 +34,14 @@ pub number_le-fits : (bytes : List ℕ) → IsBytes bytes → number_le bytes < 
 unfolding number_le
 number_le-fits [] each = omega arith
 number_le-fits (b ∷ bytes) each =
-    let less : number_le bytes < 256 ^ length bytes = number_le-fits bytes (IsBytes-tail b bytes each) in
+    let less : number_le bytes < 256 ^ length bytes =
+    number_le-fits bytes (IsBytes-tail b bytes each) in
     let byte : b < 256 = each 0 in
     rw (pow-suc 256 (length bytes)) (omega arith)
 
 -- bytes are the text of their number
-pub bytes_le-number_le : (bytes : List ℕ) → IsBytes bytes → bytes_le (number_le bytes) (length bytes) ≡ bytes
+pub bytes_le-number_le : (bytes : List ℕ) → IsBytes bytes
+    → bytes_le (number_le bytes) (length bytes) ≡ bytes
 unfolding number_le bytes_le
 bytes_le-number_le [] each = refl
 bytes_le-number_le (b ∷ bytes) each =
@@ -59,7 +62,8 @@ signed-unsigned w (negsuc n) fits =
 pub unsigned-fits : (w : ℕ) (z : ℤ) → IsSigned (suc w) z → unsigned (suc w) z < 256 ^ suc w
 unfolding unsigned
 unsigned-fits w (pos n) fits = omega arith
-unsigned-fits w (negsuc n) fits = let power : 256 ^ suc w ≡ 256 * 256 ^ w = pow-succ' 256 w in omega arith
+unsigned-fits w (negsuc n) fits = let power : 256 ^ suc w ≡ 256 * 256 ^ w = pow-succ' 256 w in
+    omega arith
 
 -- a number reads back from the signed number that it stands for
 pub unsigned-signed : (w n : ℕ) → n < 256 ^ w → unsigned w (signed w n) ≡ n
@@ -91,16 +95,19 @@ number_le-bytes_le_mod n zero = omega arith
 number_le-bytes_le_mod n (suc w) =
     let rest = number_le-bytes_le_mod (n / 256) w in
     let power : 256 ^ suc w ≡ 256 ^ w * 256 = pow-suc 256 w in
-    let digits : n % (256 ^ w * 256) ≡ (n / 256 % 256 ^ w) * 256 + n % 256 = mod-mul n (pow-positive w) (omega arith) in
+    let digits : n % (256 ^ w * 256) ≡ (n / 256 % 256 ^ w) * 256 + n % 256 =
+    mod-mul n (pow-positive w) (omega arith) in
     rw (rest, power, digits) (omega arith)
 
 pub number_be-bytes_be_mod : (n w : ℕ) → number_be (bytes_be n w) ≡ n % 256 ^ w
 unfolding number_be bytes_be
-number_be-bytes_be_mod n w = ap number_le (reverse-reverse (bytes_le n w)) ∙ number_le-bytes_le_mod n w
+number_be-bytes_be_mod n w =
+    ap number_le (reverse-reverse (bytes_le n w)) ∙ number_le-bytes_le_mod n w
 
 pub number_be-bytes_be : (n w : ℕ) → n < 256 ^ w → number_be (bytes_be n w) ≡ n
 unfolding number_be bytes_be
-number_be-bytes_be n w fits = ap number_le (reverse-reverse (bytes_le n w)) ∙ number_le-bytes_le n w fits
+number_be-bytes_be n w fits =
+    ap number_le (reverse-reverse (bytes_le n w)) ∙ number_le-bytes_le n w fits
 
 -- the items of a text are bytes
 pub IsBytes-bytes_le : (n w : ℕ) → IsBytes (bytes_le n w)
@@ -112,7 +119,8 @@ IsBytes-bytes_le n (suc w) (suc i) = IsBytes-bytes_le (n / 256) w i
 pub IsBytes-append : (xs ys : List ℕ) → IsBytes xs → IsBytes ys → IsBytes (xs ++ ys)
 IsBytes-append [] ys first later i = later i
 IsBytes-append (x ∷ xs) ys first later zero = first zero
-IsBytes-append (x ∷ xs) ys first later (suc i) = IsBytes-append xs ys (IsBytes-tail x xs first) later i
+IsBytes-append (x ∷ xs) ys first later (suc i) =
+    IsBytes-append xs ys (IsBytes-tail x xs first) later i
 
 IsBytes-alone : (b : ℕ) → b < 256 → IsBytes (b ∷ [])
 IsBytes-alone b small zero = small
@@ -121,7 +129,9 @@ IsBytes-alone b small (suc i) = omega arith
 pub IsBytes-reverse : (bytes : List ℕ) → IsBytes bytes → IsBytes (reverse bytes)
 IsBytes-reverse [] each = each
 IsBytes-reverse (b ∷ bytes) each =
-    rw (reverse_onto bytes b []) (IsBytes-append (reverse bytes) (b ∷ []) (IsBytes-reverse bytes (IsBytes-tail b bytes each)) (IsBytes-alone b (each 0)))
+    rw (reverse_onto bytes b [])
+    (IsBytes-append (reverse bytes) (b ∷ []) (IsBytes-reverse bytes (IsBytes-tail b bytes each))
+    (IsBytes-alone b (each 0)))
 
 pub IsBytes-bytes_be : (n w : ℕ) → IsBytes (bytes_be n w)
 unfolding bytes_be
@@ -129,20 +139,28 @@ IsBytes-bytes_be n w = IsBytes-reverse (bytes_le n w) (IsBytes-bytes_le n w)
 
 pub number_be-fits : (bytes : List ℕ) → IsBytes bytes → number_be bytes < 256 ^ length bytes
 unfolding number_be
-number_be-fits bytes each = rw (length-reverse bytes) at (number_le-fits (reverse bytes) (IsBytes-reverse bytes each))
+number_be-fits bytes each =
+    rw (length-reverse bytes) at (number_le-fits (reverse bytes) (IsBytes-reverse bytes each))
 
-pub bytes_be-number_be : (bytes : List ℕ) → IsBytes bytes → bytes_be (number_be bytes) (length bytes) ≡ bytes
+pub bytes_be-number_be : (bytes : List ℕ) → IsBytes bytes
+    → bytes_be (number_be bytes) (length bytes) ≡ bytes
 unfolding number_be bytes_be
 bytes_be-number_be bytes each =
-    let backward : bytes_le (number_le (reverse bytes)) (length bytes) ≡ reverse bytes = ap (bytes_le (number_le (reverse bytes))) (sym (length-reverse bytes)) ∙ bytes_le-number_le (reverse bytes) (IsBytes-reverse bytes each) in
+    let backward : bytes_le (number_le (reverse bytes)) (length bytes) ≡ reverse bytes =
+    ap (bytes_le (number_le (reverse bytes))) (sym (length-reverse bytes))
+    ∙ bytes_le-number_le (reverse bytes) (IsBytes-reverse bytes each) in
     ap reverse backward ∙ reverse-reverse bytes
 
 -- a text in front is read again, whatever follows
 pub take-bytes_le : (n w : ℕ) (rest : List ℕ) → take w (bytes_le n w ++ rest) ≡ bytes_le n w
-take-bytes_le n w rest = ap (λ (k : ℕ). take k (bytes_le n w ++ rest)) (sym (length-bytes_le n w)) ∙ take-append_seam (bytes_le n w) rest
+take-bytes_le n w rest =
+    ap (λ (k : ℕ). take k (bytes_le n w ++ rest)) (sym (length-bytes_le n w))
+    ∙ take-append_seam (bytes_le n w) rest
 
 pub take-bytes_be : (n w : ℕ) (rest : List ℕ) → take w (bytes_be n w ++ rest) ≡ bytes_be n w
-take-bytes_be n w rest = ap (λ (k : ℕ). take k (bytes_be n w ++ rest)) (sym (length-bytes_be n w)) ∙ take-append_seam (bytes_be n w) rest
+take-bytes_be n w rest =
+    ap (λ (k : ℕ). take k (bytes_be n w ++ rest)) (sym (length-bytes_be n w))
+    ∙ take-append_seam (bytes_be n w) rest
 
 -- ---- parts of bytes
 
@@ -156,15 +174,18 @@ IsBytes-take (suc n) (x ∷ bytes) each zero = each zero
 IsBytes-take (suc n) (x ∷ bytes) each (suc i) = IsBytes-take n bytes (λ j. each (suc j)) i
 
 -- bytes are the text of the number in front, and what follows it
-pub split_number : (w : ℕ) (bytes : List ℕ) → IsBytes bytes → w ≤ length bytes → bytes ≡ bytes_le (number_le (take w bytes)) w ++ drop w bytes
+pub split_number : (w : ℕ) (bytes : List ℕ) → IsBytes bytes → w ≤ length bytes
+    → bytes ≡ bytes_le (number_le (take w bytes)) w ++ drop w bytes
 split_number w bytes each long =
     let size : length (take w bytes) ≡ w = length-take-le w bytes long in
     let text : bytes_le (number_le (take w bytes)) w ≡ take w bytes =
-    ap (bytes_le (number_le (take w bytes))) (sym size) ∙ bytes_le-number_le (take w bytes) (IsBytes-take w bytes each) in
+    ap (bytes_le (number_le (take w bytes))) (sym size)
+    ∙ bytes_le-number_le (take w bytes) (IsBytes-take w bytes each) in
     sym (take-append-drop w bytes) ∙ ap (λ (front : List ℕ). front ++ drop w bytes) (sym text)
 
 -- and that number fits its bytes
-pub front-fits : (w : ℕ) (bytes : List ℕ) → IsBytes bytes → w ≤ length bytes → number_le (take w bytes) < 256 ^ w
+pub front-fits : (w : ℕ) (bytes : List ℕ) → IsBytes bytes → w ≤ length bytes
+    → number_le (take w bytes) < 256 ^ w
 front-fits w bytes each long =
     let fits = number_le-fits (take w bytes) (IsBytes-take w bytes each) in
     rw (length-take-le w bytes long) at fits

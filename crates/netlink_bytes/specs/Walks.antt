@@ -3,14 +3,16 @@
 use Rattle.std.proofs.Common.{◌≡◌, ◌≢◌, ◌⊎◌, ℕ, zero, suc, ◌<◌, ◌≤◌, List, [], ◌∷◌, ◌++◌, length, refl, ap, sym, subst, ◌∙◌, inl, inr, arith, append_assoc, Option, Some, None}
 
 -- the bytes are these one after another, and then nothing or one fault
-abbrev pub WalksAs : {X E : Type 0} → (List ℕ → X → List ℕ → Type 0) → (List ℕ → E → Type 0) → List ℕ → List X → Option E → Type 0
+abbrev pub WalksAs : {X E : Type 0} → (List ℕ → X → List ℕ → Type 0) → (List ℕ → E → Type 0)
+    → List ℕ → List X → Option E → Type 0
 WalksAs Starts IsFault bytes [] None = bytes ≡ []
 WalksAs Starts IsFault bytes [] (Some fault) = (bytes ≢ []) × IsFault bytes fault
 WalksAs Starts IsFault bytes (x ∷ more) fault =
     (rest : List ℕ) × Starts bytes x rest × WalksAs Starts IsFault rest more fault
 
 -- the bytes are these one after another, and then the rest
-abbrev pub Passed : {X : Type 0} → (List ℕ → X → List ℕ → Type 0) → List ℕ → List X → List ℕ → Type 0
+abbrev pub Passed : {X : Type 0} → (List ℕ → X → List ℕ → Type 0) → List ℕ → List X → List ℕ
+    → Type 0
 Passed Starts bytes [] rest = bytes ≡ rest
 Passed Starts bytes (x ∷ more) rest =
     (middle : List ℕ) × Starts bytes x middle × Passed Starts middle more rest
@@ -18,34 +20,42 @@ Passed Starts bytes (x ∷ more) rest =
 -- bytes start in one way at most, or have one fault
 pub record StepLaws {X E : Type 0} (Starts : List ℕ → X → List ℕ → Type 0)
     (IsFault : List ℕ → E → Type 0) : Type 0 where
-  pub once : (bytes : List ℕ) (x y : X) (rest other : List ℕ) → Starts bytes x rest → Starts bytes y other → (x ≡ y) × (rest ≡ other)
+  pub once : (bytes : List ℕ) (x y : X) (rest other : List ℕ) → Starts bytes x rest
+      → Starts bytes y other → (x ≡ y) × (rest ≡ other)
   pub nothing : (bytes : List ℕ) (x : X) (rest : List ℕ) → bytes ≡ [] → Starts bytes x rest → ⊥
-  pub fault : (bytes : List ℕ) (x : X) (rest : List ℕ) (e : E) → Starts bytes x rest → IsFault bytes e → ⊥
+  pub fault : (bytes : List ℕ) (x : X) (rest : List ℕ) (e : E) → Starts bytes x rest
+      → IsFault bytes e → ⊥
   pub fault_once : (bytes : List ℕ) (e f : E) → IsFault bytes e → IsFault bytes f → e ≡ f
 
 -- the next step of bytes: a fault, or something and a rest that is shorter and as good
-abbrev pub NextStep : {X E : Type 0} → (List ℕ → X → List ℕ → Type 0) → (List ℕ → E → Type 0) → (List ℕ → Type 0) → List ℕ → Type 0
+abbrev pub NextStep : {X E : Type 0} → (List ℕ → X → List ℕ → Type 0) → (List ℕ → E → Type 0)
+    → (List ℕ → Type 0) → List ℕ → Type 0
 NextStep {X} {E} Starts IsFault Good bytes =
     ((e : E) × IsFault bytes e)
     ⊎ ((x : X) × (rest : List ℕ) × Starts bytes x rest × Good rest × (length rest < length bytes))
 
 -- ---- the walk is one
 
-pub walks_once : {X E : Type 0} {Starts : List ℕ → X → List ℕ → Type 0} {IsFault : List ℕ → E → Type 0}
+pub walks_once : {X E : Type 0} {Starts : List ℕ → X → List ℕ → Type 0}
+    {IsFault : List ℕ → E → Type 0}
     → StepLaws Starts IsFault
     → (bytes : List ℕ) (a b : List X) (f g : Option E)
     → WalksAs Starts IsFault bytes a f → WalksAs Starts IsFault bytes b g → (a ≡ b) × (f ≡ g)
 walks_once laws bytes [] [] None None p q = (refl, refl)
 walks_once laws bytes [] [] None (Some g) p q = absurd (q.0 p)
 walks_once laws bytes [] [] (Some f) None p q = absurd (p.0 q)
-walks_once laws bytes [] [] (Some f) (Some g) p q = (refl, ap Some (laws.fault_once bytes f g p.1 q.1))
+walks_once laws bytes [] [] (Some f) (Some g) p q =
+    (refl, ap Some (laws.fault_once bytes f g p.1 q.1))
 walks_once laws bytes [] (y ∷ b) None g p q = absurd (laws.nothing _ _ _ p q.1)
 walks_once laws bytes [] (y ∷ b) (Some f) g p q = absurd (laws.fault _ _ _ f q.1 p.1)
 walks_once laws bytes (x ∷ a) [] f None p q = absurd (laws.nothing _ _ _ q p.1)
 walks_once laws bytes (x ∷ a) [] f (Some g) p q = absurd (laws.fault _ _ _ g p.1 q.1)
-walks_once {X} {E} {Starts} {IsFault} laws bytes (x ∷ a) (y ∷ b) f g (rest, starts, p) (other, begins, q) =
+walks_once {X} {E} {Starts} {IsFault} laws bytes (x ∷ a) (y ∷ b) f g (rest, starts, p)
+    (other, begins, q) =
     let same = laws.once bytes x y rest other starts begins in
-    let later = walks_once laws other a b f g (subst (λ (r : List ℕ). WalksAs Starts IsFault r a f) same.1 p) q in
+    let later =
+    walks_once laws other a b f g
+    (subst (λ (r : List ℕ). WalksAs Starts IsFault r a f) same.1 p) q in
     let first = same.0 in
     let rests = later.0 in
     (cc, later.1)
@@ -74,25 +84,31 @@ pub has_one : {X E : Type 0} (Starts : List ℕ → X → List ℕ → Type 0) (
     → ((bytes : List ℕ) → Good bytes → bytes ≢ [] → NextStep Starts IsFault Good bytes)
     → (bytes : List ℕ) → Good bytes
     → (all : List X) × (fault : Option E) × WalksAs Starts IsFault bytes all fault
-has_one Starts IsFault Good next bytes good = fueled Starts IsFault Good next (length bytes) bytes (omega arith) good
+has_one Starts IsFault Good next bytes good =
+    fueled Starts IsFault Good next (length bytes) bytes (omega arith) good
 
 -- ---- how far a loop has come
 
 -- at the start nothing is passed
-pub passed_none : {X : Type 0} (Starts : List ℕ → X → List ℕ → Type 0) (bytes rest : List ℕ) → rest ≡ bytes
+pub passed_none : {X : Type 0} (Starts : List ℕ → X → List ℕ → Type 0) (bytes rest : List ℕ)
+    → rest ≡ bytes
     → Passed Starts bytes [] rest
 passed_none Starts bytes rest same = sym same
 
 -- a turn passes one more
-pub passed_push : {X : Type 0} (Starts : List ℕ → X → List ℕ → Type 0) (bytes : List ℕ) (done : List X)
+pub passed_push : {X : Type 0} (Starts : List ℕ → X → List ℕ → Type 0) (bytes : List ℕ)
+    (done : List X)
     (middle : List ℕ) (x : X) (rest : List ℕ)
-    → Passed Starts bytes done middle → Starts middle x rest → Passed Starts bytes (done ++ (x ∷ [])) rest
-passed_push Starts bytes [] middle x rest same starts = (rest, subst (λ (b : List ℕ). Starts b x rest) (sym same) starts, refl)
+    → Passed Starts bytes done middle → Starts middle x rest
+    → Passed Starts bytes (done ++ (x ∷ [])) rest
+passed_push Starts bytes [] middle x rest same starts =
+    (rest, subst (λ (b : List ℕ). Starts b x rest) (sym same) starts, refl)
 passed_push Starts bytes (first ∷ done) middle x rest (next, begins, passed) starts =
     (next, begins, passed_push Starts next done middle x rest passed starts)
 
 -- what the rest walks as is what the bytes walk as behind what is passed
-pub passed_walks : {X E : Type 0} (Starts : List ℕ → X → List ℕ → Type 0) (IsFault : List ℕ → E → Type 0)
+pub passed_walks : {X E : Type 0} (Starts : List ℕ → X → List ℕ → Type 0)
+    (IsFault : List ℕ → E → Type 0)
     (bytes : List ℕ) (done : List X) (rest : List ℕ) (more : List X) (fault : Option E)
     → Passed Starts bytes done rest → WalksAs Starts IsFault rest more fault
     → WalksAs Starts IsFault bytes (done ++ more) fault
@@ -102,7 +118,8 @@ passed_walks Starts IsFault bytes (first ∷ done) rest more fault (next, begins
     (next, begins, passed_walks Starts IsFault next done rest more fault passed walk)
 
 -- the end
-pub passed_ends : {X E : Type 0} (Starts : List ℕ → X → List ℕ → Type 0) (IsFault : List ℕ → E → Type 0)
+pub passed_ends : {X E : Type 0} (Starts : List ℕ → X → List ℕ → Type 0)
+    (IsFault : List ℕ → E → Type 0)
     (bytes : List ℕ) (done : List X) (rest : List ℕ)
     → Passed Starts bytes done rest → rest ≡ [] → WalksAs Starts IsFault bytes done None
 passed_ends Starts IsFault bytes [] rest same none = same ∙ none
@@ -110,16 +127,19 @@ passed_ends Starts IsFault bytes (first ∷ done) rest (next, begins, passed) no
     (next, begins, passed_ends Starts IsFault next done rest passed none)
 
 -- a fault
-pub passed_faults : {X E : Type 0} (Starts : List ℕ → X → List ℕ → Type 0) (IsFault : List ℕ → E → Type 0)
+pub passed_faults : {X E : Type 0} (Starts : List ℕ → X → List ℕ → Type 0)
+    (IsFault : List ℕ → E → Type 0)
     (bytes : List ℕ) (done : List X) (rest : List ℕ) (fault : E)
-    → Passed Starts bytes done rest → rest ≢ [] → IsFault rest fault → WalksAs Starts IsFault bytes done (Some fault)
+    → Passed Starts bytes done rest → rest ≢ [] → IsFault rest fault
+    → WalksAs Starts IsFault bytes done (Some fault)
 passed_faults Starts IsFault bytes [] rest fault same some is =
     (λ none. some (sym same ∙ none), subst (λ (b : List ℕ). IsFault b fault) (sym same) is)
 passed_faults Starts IsFault bytes (first ∷ done) rest fault (next, begins, passed) some is =
     (next, begins, passed_faults Starts IsFault next done rest fault passed some is)
 
 -- what is passed is the front of any walk of the bytes, and the rest walks as what is behind it
-pub passed_rest : {X E : Type 0} {Starts : List ℕ → X → List ℕ → Type 0} {IsFault : List ℕ → E → Type 0}
+pub passed_rest : {X E : Type 0} {Starts : List ℕ → X → List ℕ → Type 0}
+    {IsFault : List ℕ → E → Type 0}
     → StepLaws Starts IsFault
     → (bytes : List ℕ) (done : List X) (rest : List ℕ) (all : List X) (fault : Option E)
     → Passed Starts bytes done rest → WalksAs Starts IsFault bytes all fault
@@ -127,28 +147,37 @@ pub passed_rest : {X E : Type 0} {Starts : List ℕ → X → List ℕ → Type 
 passed_rest {X} {E} {Starts} {IsFault} laws bytes [] rest all fault same walk =
     (all, refl, subst (λ (b : List ℕ). WalksAs Starts IsFault b all fault) same walk)
 passed_rest laws bytes (x ∷ done) rest [] None p walk = absurd (laws.nothing _ _ _ walk p.1)
-passed_rest laws bytes (x ∷ done) rest [] (Some fault) p walk = absurd (laws.fault _ _ _ fault p.1 walk.1)
+passed_rest laws bytes (x ∷ done) rest [] (Some fault) p walk =
+    absurd (laws.fault _ _ _ fault p.1 walk.1)
 passed_rest {X} {E} {Starts} {IsFault} laws bytes (x ∷ done) rest (y ∷ all) fault p walk =
     let same = laws.once bytes y x walk.0 p.0 walk.1 p.1 in
-    let later = passed_rest laws p.0 done rest all fault p.2 (subst (λ (r : List ℕ). WalksAs Starts IsFault r all fault) same.1 walk.2) in
+    let later =
+    passed_rest laws p.0 done rest all fault p.2
+    (subst (λ (r : List ℕ). WalksAs Starts IsFault r all fault) same.1 walk.2) in
     let first = same.0 in
     let rests = later.1 in
     (later.0, cc, later.2)
 
 -- and what the rest starts with is next in it
-pub passed_next : {X E : Type 0} {Starts : List ℕ → X → List ℕ → Type 0} {IsFault : List ℕ → E → Type 0}
+pub passed_next : {X E : Type 0} {Starts : List ℕ → X → List ℕ → Type 0}
+    {IsFault : List ℕ → E → Type 0}
     → StepLaws Starts IsFault
-    → (bytes : List ℕ) (done : List X) (middle : List ℕ) (x : X) (rest : List ℕ) (all : List X) (fault : Option E)
-    → Passed Starts bytes done middle → Starts middle x rest → WalksAs Starts IsFault bytes all fault
+    → (bytes : List ℕ) (done : List X) (middle : List ℕ) (x : X) (rest : List ℕ) (all : List X)
+    (fault : Option E)
+    → Passed Starts bytes done middle → Starts middle x rest
+    → WalksAs Starts IsFault bytes all fault
     → (more : List X) × (all ≡ done ++ (x ∷ more))
 passed_next {X} {E} {Starts} {IsFault} laws bytes done middle x rest all fault passed starts walk =
-    let whole = passed_rest laws bytes (done ++ (x ∷ [])) rest all fault (passed_push Starts bytes done middle x rest passed starts) walk in
+    let whole =
+    passed_rest laws bytes (done ++ (x ∷ [])) rest all fault
+    (passed_push Starts bytes done middle x rest passed starts) walk in
     (whole.0, whole.1 ∙ append_assoc done (x ∷ []) whole.0)
 
 -- what each step keeps holds of the rest
 pub passed_keeps : {X : Type 0} (Starts : List ℕ → X → List ℕ → Type 0) (Good : List ℕ → Type 0)
     → ((bytes : List ℕ) (x : X) (rest : List ℕ) → Starts bytes x rest → Good bytes → Good rest)
-    → (bytes : List ℕ) (done : List X) (rest : List ℕ) → Passed Starts bytes done rest → Good bytes → Good rest
+    → (bytes : List ℕ) (done : List X) (rest : List ℕ) → Passed Starts bytes done rest → Good bytes
+    → Good rest
 passed_keeps Starts Good keeps bytes [] rest same good = subst Good same good
 passed_keeps Starts Good keeps bytes (x ∷ done) rest (next, begins, passed) good =
     passed_keeps Starts Good keeps next done rest passed (keeps bytes x next begins good)
@@ -156,14 +185,21 @@ passed_keeps Starts Good keeps bytes (x ∷ done) rest (next, begins, passed) go
 -- ---- one behind another
 
 -- behind bytes in which each step leaves its rest whole, any bytes walk as they do alone
-pub walks_join : {X E : Type 0} (Starts : List ℕ → X → List ℕ → Type 0) (IsFault : List ℕ → E → Type 0)
+pub walks_join : {X E : Type 0} (Starts : List ℕ → X → List ℕ → Type 0)
+    (IsFault : List ℕ → E → Type 0)
     (Whole : List ℕ → Type 0)
-    → ((bytes : List ℕ) (x : X) (rest after : List ℕ) → Whole bytes → Starts bytes x rest → Starts (bytes ++ after) x (rest ++ after) × Whole rest)
+    → ((bytes : List ℕ) (x : X) (rest after : List ℕ) → Whole bytes → Starts bytes x rest
+    → Starts (bytes ++ after) x (rest ++ after) × Whole rest)
     → (bytes : List ℕ) (all : List X) (after : List ℕ) (more : List X) (fault : Option E)
     → Whole bytes → WalksAs Starts IsFault bytes all None → WalksAs Starts IsFault after more fault
     → WalksAs Starts IsFault (bytes ++ after) (all ++ more) fault
 walks_join Starts IsFault Whole joins bytes [] after more fault whole none walk =
     subst (λ (front : List ℕ). WalksAs Starts IsFault (front ++ after) more fault) (sym none) walk
-walks_join Starts IsFault Whole joins bytes (x ∷ all) after more fault whole (rest, starts, first) walk =
-    let joined = joins bytes x rest after whole starts in
-    (rest ++ after, joined.0, walks_join Starts IsFault Whole joins rest all after more fault joined.1 first walk)
+walks_join Starts IsFault Whole joins bytes (x ∷ all) after more fault whole (rest, starts, first)
+    walk =
+    let joined = joins bytes x rest after whole starts in (
+      rest ++ after,
+      joined.0,
+      walks_join Starts IsFault Whole joins rest all after more fault
+          joined.1 first walk,
+    )

@@ -305,7 +305,8 @@ impl DecodeError {
 
 /// The text of an error of UTF-8, behind its fixed beginning.
 pub(crate) fn utf8_text(alloc: Global, error: Utf8Error) -> Result<String, AllocError>
-    ensures { IfOk result (λ text. (rest : List ℕ) × (string_bytes text ≡ codes "Invalid UTF-8 sequence: " ++ rest)) }
+    ensures { IfOk result
+        (λ text. (rest : List ℕ) × (string_bytes text ≡ codes "Invalid UTF-8 sequence: " ++ rest)) }
 {
     let fault = error.to_string(alloc)?;
     format!(in alloc; "Invalid UTF-8 sequence: {fault}")

@@ -50,7 +50,8 @@ pub fn contexts_chain()
 /// exactly if their numbers are.
 pub fn values_equal()
     ensures address { (a b : IpAddr) → IsTrue (⟦<IpAddr as PartialEq>⟧.eq a b) ↔ (a ≡ b) }
-    ensures number { (a b : NonZeroI32) → IsTrue (⟦<NonZeroI32 as PartialEq>⟧.eq a b) ↔ (number_of a ≡ number_of b) }
+    ensures number { (a b : NonZeroI32)
+        → IsTrue (⟦<NonZeroI32 as PartialEq>⟧.eq a b) ↔ (number_of a ≡ number_of b) }
 {}
 
 /// Two causes are equal exactly if they have the same number, hold the same text and the same

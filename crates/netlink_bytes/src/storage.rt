@@ -34,14 +34,18 @@ pub trait StorageMut: Storage {
     fn part_mut(&mut self, start: usize, end: usize) -> &mut [u8]
         requires order { start ≤ end }
         requires inside { end ≤ length (Self.contents self.old) }
-        ensures* writes_back { sem 𝓛 (Lends Self.row (Array byte 0) self.entry result (λ part. with_contents self.old (put_at (Self.contents self.old) start part))) }
+        ensures* writes_back { sem 𝓛 (Lends Self.row (Array byte 0) self.entry result
+            (λ part. with_contents self.old (put_at (Self.contents self.old) start part))) }
         ensures value { result.now ≡ slice_range (Self.contents self.old) start end };
 
     /// As many bytes as it held are held as they were written.
-    ghost contents_of_with_contents: { (s : Self) (bytes : List ℕ) → length bytes ≡ length (Self.contents s) → Self.contents (with_contents s bytes) ≡ bytes };
+    ghost contents_of_with_contents: { (s : Self) (bytes : List ℕ)
+        → length bytes ≡ length (Self.contents s) → Self.contents (with_contents s bytes) ≡ bytes };
 
     /// Of two writes of as many bytes as it held the later one stays.
-    ghost with_contents_twice: { (s : Self) (first later : List ℕ) → length first ≡ length (Self.contents s) → length later ≡ length (Self.contents s) → with_contents (with_contents s first) later ≡ with_contents s later };
+    ghost with_contents_twice: { (s : Self) (first later : List ℕ)
+        → length first ≡ length (Self.contents s) → length later ≡ length (Self.contents s)
+        → with_contents (with_contents s first) later ≡ with_contents s later };
 }
 
 impl<'a> Storage for &'a [u8] {

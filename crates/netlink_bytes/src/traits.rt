@@ -30,7 +30,8 @@ pub trait Emitable {
     fn emit(&self, buffer: &mut [u8])
         requires can { can_emit self.now }
         requires room { HasRoom takes_longer (length (bytes self.now)) (length buffer.old) }
-        ensures written { buffer.new ≡ bytes self.now ++ drop (length (bytes self.now)) buffer.old };
+        ensures written { buffer.new
+            ≡ bytes self.now ++ drop (length (bytes self.now)) buffer.old };
 }
 
 /// A value that is read from a `T`.
@@ -78,7 +79,8 @@ pub trait ParseableParametrized<T, P> {
     fn parse_with_param(alloc: Global, buf: &T, params: P) -> Result<Self, DecodeError>
         requires can { can_parse buf.now params }
         ensures accepts { IfOk result (reads buf.now params) }
-        ensures complete { (value : Self) → reads buf.now params value → IsOkUnless result OutOfMemory }
+        ensures complete { (value : Self) → reads buf.now params value
+            → IsOkUnless result OutOfMemory }
         ensures refuses { IfErr result (λ e. (e ≡ OutOfMemory) ⊎ refusal buf.now params e) }
         ensures no_memory { needs_no_memory buf.now params → IfErr result (λ e. e ≢ OutOfMemory) };
 }

@@ -106,9 +106,11 @@ frame_step bytes before after frame at size next inside same step sizes behind f
     forward
 
 -- the same, where what the step gives is known by an equation
-pub attribute_given : (bytes before after : List ℕ) (found : Item) (view : NlaBuffer (Bor (List ℕ))) (at kind size next : ℕ) → at < length bytes
+pub attribute_given : (bytes before after : List ℕ) (found : Item) (view : NlaBuffer (Bor (List ℕ))) (at kind size next : ℕ)
+    → at < length bytes
     → before ≡ drop at bytes → Gives before (Some found) after → found ≡ Ok view → kind ≡ raw_kind (shown view)
-    → size + 4 ≡ length_field (shown view) → drop next bytes ≡ drop (size + 4 + padding (size + 4)) (drop at bytes) → (at < next) × (next ≤ length bytes)
+    → size + 4 ≡ length_field (shown view) → drop next bytes ≡ drop (size + 4 + padding (size + 4)) (drop at bytes)
+    → (at < next) × (next ≤ length bytes)
     → StartsAttributeAt bytes at (record { kind = kind; offset = at + 4; size = size }) next
 attribute_given bytes before after found view at kind size next inside same step is kinds sizes behind forward =
     attribute_step bytes before after view at kind size next inside same

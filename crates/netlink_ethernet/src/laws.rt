@@ -21,5 +21,6 @@ pub fn protocol_kept(protocol: EthernetProtocol)
 /// Two protocols are equal exactly if they are the same variant, of the same number where that is
 /// `Other`.
 pub fn protocols_equal()
-    ensures equal { (a b : EthernetProtocol) → IsTrue (⟦<EthernetProtocol as PartialEq>⟧.eq a b) ↔ (a ≡ b) }
+    ensures equal { (a b : EthernetProtocol)
+        → IsTrue (⟦<EthernetProtocol as PartialEq>⟧.eq a b) ↔ (a ≡ b) }
 {}

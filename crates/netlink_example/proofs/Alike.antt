@@ -19,7 +19,8 @@ record Alike (x y : NetlinkPayload GenericMessage) : Type 0 where
   pub in_range : PayloadInRange y → PayloadInRange x
 
 -- the same payload with the same command
-alike : (command : ℕ) (x y : NetlinkPayload GenericMessage) → SamePayload generic_decoding x y → Alike (with_command command x) (with_command command y)
+alike : (command : ℕ) (x y : NetlinkPayload GenericMessage) → SamePayload generic_decoding x y
+    → Alike (with_command command x) (with_command command y)
 alike command (Done a) (Done b) same = record { kind = cc; text = cc; in_range = subst (IsSigned 4) (sym same.0) }
 alike command (Error a) (Error b) same = record { kind = cc; text = cc; in_range = subst (IsSigned 4) (sym same.0) }
 alike command Noop Noop same = record { kind = cc; text = cc; in_range = λ r. r }
@@ -35,7 +36,8 @@ pub record SameRequest (m r : Message) : Type 0 where
   pub payload : SamePayload generic_decoding m.payload r.payload
 
 -- what is written
-pub written_alike : (command : ℕ) (m r answer : Message) → SameRequest m r → answer ≡ answer_to command m → canonical_frame generic_encoding answer ≡ canonical_frame generic_encoding (answer_to command r)
+pub written_alike : (command : ℕ) (m r answer : Message) → SameRequest m r → answer ≡ answer_to command m
+    → canonical_frame generic_encoding answer ≡ canonical_frame generic_encoding (answer_to command r)
 written_alike command m r answer same is =
     let h = same.header in
     let payload = alike command m.payload r.payload same.payload in
@@ -44,10 +46,12 @@ written_alike command m r answer same is =
     rw is cc
 
 -- and whether it fits
-pub fits_alike : (command : ℕ) (m r answer : Message) → SameRequest m r → answer ≡ answer_to command m → Fits generic_encoding (answer_to command r) → Fits generic_encoding answer
+pub fits_alike : (command : ℕ) (m r answer : Message) → SameRequest m r → answer ≡ answer_to command m
+    → Fits generic_encoding (answer_to command r) → Fits generic_encoding answer
 fits_alike command m r answer same is fits =
     let payload = alike command m.payload r.payload same.payload in
-    let size : length (payload_bytes generic_encoding (with_command command m.payload)) ≡ length (payload_bytes generic_encoding (with_command command r.payload)) = ap length payload.text in
+    let size : length (payload_bytes generic_encoding (with_command command m.payload))
+    ≡ length (payload_bytes generic_encoding (with_command command r.payload)) = ap length payload.text in
     let answered : Fits generic_encoding (answer_to command m) = record {
       size = omega (arith, size, fits.size);
       header = subst (λ (h : NetlinkHeader). HeaderInRange (record h { flags = 0 })) (sym same.header) fits.header;
@@ -55,9 +59,11 @@ fits_alike command m r answer same is fits =
     } in
     subst (Fits generic_encoding) (sym is) answered
 
-pub long_alike : (command : ℕ) (m r answer : Message) → SameRequest m r → answer ≡ answer_to command m → IsTooLong generic_encoding (answer_to command r) → IsTooLong generic_encoding answer
+pub long_alike : (command : ℕ) (m r answer : Message) → SameRequest m r → answer ≡ answer_to command m
+    → IsTooLong generic_encoding (answer_to command r) → IsTooLong generic_encoding answer
 long_alike command m r answer same is long =
     let payload = alike command m.payload r.payload same.payload in
-    let size : length (payload_bytes generic_encoding (with_command command m.payload)) ≡ length (payload_bytes generic_encoding (with_command command r.payload)) = ap length payload.text in
+    let size : length (payload_bytes generic_encoding (with_command command m.payload))
+    ≡ length (payload_bytes generic_encoding (with_command command r.payload)) = ap length payload.text in
     let answered : IsTooLong generic_encoding (answer_to command m) = omega (arith, size, long) in
     subst (IsTooLong generic_encoding) (sym is) answered

@@ -25,12 +25,19 @@ with_command command (InnerMessage m) = InnerMessage (record m { command = comma
 -- the request without its flags, and with this command; all else stays
 abbrev pub answer_to : ℕ → Message → Message
 answer_to command request =
-    record { header = record request.header { flags = 0 }; payload = with_command command request.payload }
+    record {
+      header = record request.header { flags = 0 };
+      payload = with_command command
+          request.payload;
+    }
 
 -- why a datagram is not answered: it is refused, its answer is too long, or memory was refused for
 -- an answer that fits
 abbrev pub IsAnswerFault : ℕ → List ℕ → DecodeError → Type 0
 IsAnswerFault command datagram e =
     IsRefusal generic_decoding wants_memory datagram e
-    ⊎ (((e ≡ TooLong) × ((request : Message) × Frame generic_decoding datagram request × IsTooLong generic_encoding (answer_to command request)))
-    ⊎ ((e ≡ OutOfMemory) × ((request : Message) × Frame generic_decoding datagram request × Fits generic_encoding (answer_to command request))))
+    ⊎ (((e ≡ TooLong) × ((request : Message) × Frame generic_decoding datagram request
+    × IsTooLong generic_encoding (answer_to command request)))
+    ⊎ ((e ≡ OutOfMemory)
+    × ((request : Message) × Frame generic_decoding datagram request
+    × Fits generic_encoding (answer_to command request))))

@@ -20,7 +20,8 @@ is_family message_type = nat_le 16 message_type && nat_lt message_type (2 ^ 16)
 
 -- at least a header, whose reserved bytes are zero
 abbrev pub has_header : List ℕ → Bool
-has_header payload = nat_le 4 (length payload) && (slice_index payload 2 == 0 && slice_index payload 3 == 0)
+has_header payload =
+    nat_le 4 (length payload) && (slice_index payload 2 == 0 && slice_index payload 3 == 0)
 
 -- a header and a payload give the type and the text that they are, or nothing
 abbrev pub generic_reading : NetlinkHeader → List ℕ → Option (ℕ × List ℕ)
@@ -29,7 +30,8 @@ generic_reading h payload =
 
 -- each number fits its width
 abbrev pub generic_in_range : GenericMessage → Bool
-generic_in_range m = nat_lt m.family.number (2 ^ 16) && (nat_lt m.command (2 ^ 8) && nat_lt m.version (2 ^ 8))
+generic_in_range m =
+    nat_lt m.family.number (2 ^ 16) && (nat_lt m.command (2 ^ 8) && nat_lt m.version (2 ^ 8))
 
 abbrev pub generic_encoding : Encoding GenericMessage
 generic_encoding = record { type_of = generic_type; bytes_of = generic_bytes }
@@ -53,12 +55,16 @@ wants_memory OutOfMemory = true
 abbrev pub IsGenericFault : ℕ → List ℕ → GenericError → Type 0
 IsGenericFault message_type payload NotAFamily = message_type < 16
 IsGenericFault message_type payload TooShort = (16 ≤ message_type) × (length payload < 4)
-IsGenericFault message_type payload ReservedNotZero = (16 ≤ message_type) × (4 ≤ length payload) × ((slice_index payload 2 ≢ 0) ⊎ (slice_index payload 3 ≢ 0))
-IsGenericFault message_type payload OutOfMemory = IsTrue (is_family message_type && has_header payload) × (4 < length payload)
+IsGenericFault message_type payload ReservedNotZero =
+    (16 ≤ message_type) × (4 ≤ length payload)
+    × ((slice_index payload 2 ≢ 0) ⊎ (slice_index payload 3 ≢ 0))
+IsGenericFault message_type payload OutOfMemory =
+    IsTrue (is_family message_type && has_header payload) × (4 < length payload)
 
 -- the text of an error
 abbrev pub error_text : GenericError → List ℕ
 error_text NotAFamily = codes "invalid generic netlink message: the message type is below 16"
 error_text TooShort = codes "invalid generic netlink message: the payload is below 4 bytes"
-error_text ReservedNotZero = codes "invalid generic netlink message: the reserved bytes are not zero"
+error_text ReservedNotZero =
+    codes "invalid generic netlink message: the reserved bytes are not zero"
 error_text OutOfMemory = codes "out of memory"

@@ -67,8 +67,11 @@ impl NetlinkDeserializable for GenericMessage {
         payload: &[u8],
     ) -> Result<Self, GenericError>
         ensures in_range { IfOk result (λ m. IsTrue (generic_decoding.in_range m)) }
-        ensures reads { IfOk result (λ m. generic_decoding.reading header.now payload.now ≡ Some (generic_decoding.stands_for m)) }
-        ensures refuses { IfErr result (λ e. wants_memory e ≡ false → generic_decoding.reading header.now payload.now ≡ None) }
+        ensures reads { IfOk result
+            (λ m. generic_decoding.reading header.now payload.now
+            ≡ Some (generic_decoding.stands_for m)) }
+        ensures refuses { IfErr result
+            (λ e. wants_memory e ≡ false → generic_decoding.reading header.now payload.now ≡ None) }
         // Each error has its reason.
         ensures fault { IfErr result (IsGenericFault header.now.message_type payload.now) }
     {

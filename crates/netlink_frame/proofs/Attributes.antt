@@ -6,4 +6,5 @@ use Rattle.netlink_frame.specs.Lines.{nla_line, nla_lines}
 -- one more line
 pub lines_push : (done : List Attribute) (a : Attribute) → nla_lines (done ++ (a ∷ [])) ≡ nla_lines done ++ nla_line a
 lines_push [] a = append-nil (nla_line a)
-lines_push (first ∷ done) a = ap (λ (x : List ℕ). nla_line first ++ x) (lines_push done a) ∙ sym (append_assoc (nla_line first) (nla_lines done) (nla_line a))
+lines_push (first ∷ done) a =
+    ap (λ (x : List ℕ). nla_line first ++ x) (lines_push done a) ∙ sym (append_assoc (nla_line first) (nla_lines done) (nla_line a))

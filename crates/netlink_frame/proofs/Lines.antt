@@ -4,7 +4,9 @@ use Rattle.std.specs.Prelude.{decimal}
 use Rattle.netlink_packet_core.specs.Attribute.{Attribute}
 use Rattle.netlink_frame.specs.Lines.{hex_digit, hex_digits, nla_line, shown}
 
-more_digits : (bytes : List ℕ) (i : ℕ) → i < length bytes → hex_digits (take (suc i) bytes) ≡ hex_digits (take i bytes) ++ (hex_digit (slice_index bytes i / 16) ∷ (hex_digit (slice_index bytes i % 16) ∷ []))
+more_digits : (bytes : List ℕ) (i : ℕ) → i < length bytes
+    → hex_digits (take (suc i) bytes)
+    ≡ hex_digits (take i bytes) ++ (hex_digit (slice_index bytes i / 16) ∷ (hex_digit (slice_index bytes i % 16) ∷ []))
 unfolding hex_digits
 more_digits [] i less = absurd (omega arith)
 more_digits (b ∷ bytes) zero less = refl
@@ -12,8 +14,10 @@ more_digits (b ∷ bytes) (suc i) less =
     ap (λ (more : List ℕ). hex_digit (b / 16) ∷ (hex_digit (b % 16) ∷ more)) (more_digits bytes i (omega arith))
 
 -- two digits more behind a text and the digits of the bytes so far
-pub two_digits : (front bytes old new pair : List ℕ) (i : ℕ) → i < length bytes → old ≡ front ++ hex_digits (take i bytes) → new ≡ old ++ pair
-    → pair ≡ hex_digit (slice_index bytes i / 16) ∷ (hex_digit (slice_index bytes i % 16) ∷ []) → new ≡ front ++ hex_digits (take (i + 1) bytes)
+pub two_digits : (front bytes old new pair : List ℕ) (i : ℕ) → i < length bytes → old ≡ front ++ hex_digits (take i bytes)
+    → new ≡ old ++ pair
+    → pair ≡ hex_digit (slice_index bytes i / 16) ∷ (hex_digit (slice_index bytes i % 16) ∷ [])
+    → new ≡ front ++ hex_digits (take (i + 1) bytes)
 two_digits front bytes old new pair i less so_far added is =
     let digits : List ℕ = hex_digits (take i bytes) in
     let both : List ℕ = hex_digit (slice_index bytes i / 16) ∷ (hex_digit (slice_index bytes i % 16) ∷ []) in
@@ -21,14 +25,17 @@ two_digits front bytes old new pair i less so_far added is =
     (added ∙ ap (λ (t : List ℕ). t ++ pair) so_far ∙ ap (λ (t : List ℕ). (front ++ digits) ++ t) is ∙ append_assoc front digits both)
 
 -- the parts of an attribute's line, added one after another
-line_joins : (t0 t1 t2 t3 t4 kind size value : List ℕ) → t1 ≡ t0 ++ kind → t2 ≡ t1 ++ (32 ∷ (size ++ (32 ∷ []))) → t3 ≡ t2 ++ value → t4 ≡ t3 ++ (10 ∷ [])
+line_joins : (t0 t1 t2 t3 t4 kind size value : List ℕ) → t1 ≡ t0 ++ kind → t2 ≡ t1 ++ (32 ∷ (size ++ (32 ∷ []))) → t3 ≡ t2 ++ value
+    → t4 ≡ t3 ++ (10 ∷ [])
     → t4 ≡ t0 ++ (kind ++ (32 ∷ (size ++ (32 ∷ (value ++ (10 ∷ []))))))
 line_joins t0 t1 t2 t3 t4 kind size value first second third fourth =
-    fourth ∙ ap (λ (t : List ℕ). t ++ (10 ∷ [])) (third ∙ ap (λ (t : List ℕ). t ++ value) (second ∙ ap (λ (t : List ℕ). t ++ (32 ∷ (size ++ (32 ∷ [])))) first))
+    fourth ∙ ap (λ (t : List ℕ). t ++ (10 ∷ []))
+    (third ∙ ap (λ (t : List ℕ). t ++ value) (second ∙ ap (λ (t : List ℕ). t ++ (32 ∷ (size ++ (32 ∷ [])))) first))
     ∙ simp append_assoc
 
 -- an attribute's line, added so
-pub line_added : (t0 t1 t2 t3 t4 value : List ℕ) (a : Attribute) (kind : ℕ) → t1 ≡ t0 ++ hex_digits (kind / 256 ∷ (kind % 256 ∷ [])) → t2 ≡ t1 ++ (32 ∷ (decimal (length value) ++ (32 ∷ [])))
+pub line_added : (t0 t1 t2 t3 t4 value : List ℕ) (a : Attribute) (kind : ℕ) → t1 ≡ t0 ++ hex_digits (kind / 256 ∷ (kind % 256 ∷ []))
+    → t2 ≡ t1 ++ (32 ∷ (decimal (length value) ++ (32 ∷ [])))
     → t3 ≡ t2 ++ shown value → t4 ≡ t3 ++ (10 ∷ []) → kind ≡ a.kind → value ≡ a.value → t4 ≡ t0 ++ nla_line a
 line_added t0 t1 t2 t3 t4 value a kind first second third fourth same_kind same_value =
     line_joins t0 t1 t2 t3 t4 (hex_digits (kind / 256 ∷ (kind % 256 ∷ []))) (decimal (length value)) (shown value) first second third fourth
@@ -40,11 +47,13 @@ pub name_joins : (t0 t1 t2 name bytes : List ℕ) → t1 ≡ t0 ++ name → t2 �
 name_joins t0 t1 t2 name bytes first second = second ∙ ap (λ (t : List ℕ). t ++ bytes) first ∙ append_assoc t0 name bytes
 
 -- the same with a code between them
-pub code_joins : (t0 t1 t2 name code bytes : List ℕ) → t1 ≡ t0 ++ (name ++ (code ++ (32 ∷ []))) → t2 ≡ t1 ++ bytes → t2 ≡ t0 ++ (name ++ (code ++ (32 ∷ bytes)))
+pub code_joins : (t0 t1 t2 name code bytes : List ℕ) → t1 ≡ t0 ++ (name ++ (code ++ (32 ∷ []))) → t2 ≡ t1 ++ bytes
+    → t2 ≡ t0 ++ (name ++ (code ++ (32 ∷ bytes)))
 code_joins t0 t1 t2 name code bytes first second = second ∙ ap (λ (t : List ℕ). t ++ bytes) first ∙ simp append_assoc
 
 -- the lines of a header, and then the parts of the last line
-pub message_joins : (t1 t2 t3 t4 header name words end : List ℕ) → t1 ≡ header → t2 ≡ t1 ++ name → t3 ≡ t2 ++ words → t4 ≡ t3 ++ end → t4 ≡ header ++ (name ++ (words ++ end))
+pub message_joins : (t1 t2 t3 t4 header name words end : List ℕ) → t1 ≡ header → t2 ≡ t1 ++ name → t3 ≡ t2 ++ words → t4 ≡ t3 ++ end
+    → t4 ≡ header ++ (name ++ (words ++ end))
 message_joins t1 t2 t3 t4 header name words end first second third fourth =
     fourth ∙ ap (λ (t : List ℕ). t ++ end) (third ∙ ap (λ (t : List ℕ). t ++ words) (second ∙ ap (λ (t : List ℕ). t ++ name) first))
     ∙ append_assoc (header ++ name) words end ∙ append_assoc header name (words ++ end)

@@ -31,19 +31,27 @@ IsRefused = IsRefusal ping_pong_decoding wants_memory
 
 -- what the laws of the core say of the protocol
 pub record Uniqueness : Type 0 where
-  pub same : (bytes : List ℕ) (m n : NetlinkMessage PingPongMessage) → IsFrame bytes m → IsFrame bytes n → (m.header ≡ n.header) × SamePayload ping_pong_decoding m.payload n.payload
-  pub fits : (bytes : List ℕ) (m n : NetlinkMessage PingPongMessage) → IsFrame bytes m → IsFrame bytes n → Fits ping_pong_encoding m → Fits ping_pong_encoding n
-  pub written : (bytes : List ℕ) (m n : NetlinkMessage PingPongMessage) → IsFrame bytes m → IsFrame bytes n → canonical_frame ping_pong_encoding m ≡ canonical_frame ping_pong_encoding n
-  pub refusal : (bytes : List ℕ) (e f : DecodeError) → IsRefused bytes e → IsRefused bytes f → e ≢ OutOfMemory → f ≢ OutOfMemory → SameRefusal e f
-  pub frame : (bytes : List ℕ) (m : NetlinkMessage PingPongMessage) (e : DecodeError) → IsFrame bytes m → IsRefused bytes e → e ≡ OutOfMemory
+  pub same : (bytes : List ℕ) (m n : NetlinkMessage PingPongMessage) → IsFrame bytes m → IsFrame bytes n
+      → (m.header ≡ n.header) × SamePayload ping_pong_decoding m.payload n.payload
+  pub fits : (bytes : List ℕ) (m n : NetlinkMessage PingPongMessage) → IsFrame bytes m → IsFrame bytes n → Fits ping_pong_encoding m
+      → Fits ping_pong_encoding n
+  pub written : (bytes : List ℕ) (m n : NetlinkMessage PingPongMessage) → IsFrame bytes m → IsFrame bytes n
+      → canonical_frame ping_pong_encoding m ≡ canonical_frame ping_pong_encoding n
+  pub refusal : (bytes : List ℕ) (e f : DecodeError) → IsRefused bytes e → IsRefused bytes f → e ≢ OutOfMemory → f ≢ OutOfMemory
+      → SameRefusal e f
+  pub frame : (bytes : List ℕ) (m : NetlinkMessage PingPongMessage) (e : DecodeError) → IsFrame bytes m → IsRefused bytes e
+      → e ≡ OutOfMemory
 
 -- a message that fits has no fault but want of memory
-no_fault : Uniqueness → (bytes : List ℕ) (m : NetlinkMessage PingPongMessage) (e : DecodeError) → IsFrame bytes m → Fits ping_pong_encoding m → IsNormalizeFault ping_pong_encoding ping_pong_decoding wants_memory bytes e → e ≢ OutOfMemory → ⊥
+no_fault : Uniqueness → (bytes : List ℕ) (m : NetlinkMessage PingPongMessage) (e : DecodeError) → IsFrame bytes m
+    → Fits ping_pong_encoding m → IsNormalizeFault ping_pong_encoding ping_pong_decoding wants_memory bytes e → e ≢ OutOfMemory → ⊥
 no_fault unique bytes m e frame fits (inl refusal) known = known (unique.frame bytes m e frame refusal)
-no_fault unique bytes m e frame fits (inr (inl (is, (n, other, long)))) known = let same = unique.fits bytes m n frame other fits in omega (arith, same.size)
+no_fault unique bytes m e frame fits (inr (inl (is, (n, other, long)))) known = let same = unique.fits bytes m n frame other fits in
+    omega (arith, same.size)
 no_fault unique bytes m e frame fits (inr (inr (memory, more))) known = known memory
 
-fault_once : Uniqueness → (bytes : List ℕ) (e f : DecodeError) → IsNormalizeFault ping_pong_encoding ping_pong_decoding wants_memory bytes e → IsNormalizeFault ping_pong_encoding ping_pong_decoding wants_memory bytes f → e ≢ OutOfMemory → f ≢ OutOfMemory → SameRefusal e f
+fault_once : Uniqueness → (bytes : List ℕ) (e f : DecodeError) → IsNormalizeFault ping_pong_encoding ping_pong_decoding wants_memory bytes e
+    → IsNormalizeFault ping_pong_encoding ping_pong_decoding wants_memory bytes f → e ≢ OutOfMemory → f ≢ OutOfMemory → SameRefusal e f
 fault_once unique bytes e f (inr (inr (memory, more))) q known known' = absurd (known memory)
 fault_once unique bytes e f p (inr (inr (memory, more))) known known' = absurd (known' memory)
 fault_once unique bytes e f (inl a) (inl b) known known' = unique.refusal bytes e f a b known known'
@@ -52,15 +60,21 @@ fault_once unique bytes e f (inr (inl (is, (m, frame, long)))) (inl b) known kno
 fault_once unique bytes e f (inr (inl (is, more))) (inr (inl (is', more'))) known known' =
     subst (λ (x : DecodeError). SameRefusal x f) (sym is) (subst (λ (y : DecodeError). SameRefusal TooLong y) (sym is') refl)
 
-pub normalizes_once : Uniqueness → (input first second : List ℕ) (e f : Option DecodeError) → Makes Normalize input first e → Makes Normalize input second f → (first ≡ second) × SameFault e f
+pub normalizes_once : Uniqueness → (input first second : List ℕ) (e f : Option DecodeError) → Makes Normalize input first e
+    → Makes Normalize input second f → (first ≡ second) × SameFault e f
 unfolding Makes
-normalizes_once unique input first second None None (m, frame, fits, is) (n, frame', fits', is') = (is ∙ unique.written input m n frame frame' ∙ sym is', tt)
-normalizes_once unique input first second None (Some f) (m, frame, fits, is) (none, known, fault) = absurd (no_fault unique input m f frame fits fault known)
-normalizes_once unique input first second (Some e) None (none, known, fault) (m, frame, fits, is) = absurd (no_fault unique input m e frame fits fault known)
-normalizes_once unique input first second (Some e) (Some f) (none, known, fault) (none', known', fault') = (none ∙ sym none', fault_once unique input e f fault fault' known known')
+normalizes_once unique input first second None None (m, frame, fits, is) (n, frame', fits', is') =
+    (is ∙ unique.written input m n frame frame' ∙ sym is', tt)
+normalizes_once unique input first second None (Some f) (m, frame, fits, is) (none, known, fault) =
+    absurd (no_fault unique input m f frame fits fault known)
+normalizes_once unique input first second (Some e) None (none, known, fault) (m, frame, fits, is) =
+    absurd (no_fault unique input m e frame fits fault known)
+normalizes_once unique input first second (Some e) (Some f) (none, known, fault) (none', known', fault') =
+    (none ∙ sym none', fault_once unique input e f fault fault' known known')
 
 -- a refused input has no message
-no_refusal : Uniqueness → (bytes : List ℕ) (m : NetlinkMessage PingPongMessage) (e : DecodeError) → IsFrame bytes m → IsRefused bytes e → e ≢ OutOfMemory → ⊥
+no_refusal : Uniqueness → (bytes : List ℕ) (m : NetlinkMessage PingPongMessage) (e : DecodeError) → IsFrame bytes m → IsRefused bytes e
+    → e ≢ OutOfMemory → ⊥
 no_refusal unique bytes m e frame refusal known = known (unique.frame bytes m e frame refusal)
 
 inner_once : (v w : PingPongMessage) → ping_pong_decoding.stands_for v ≡ ping_pong_decoding.stands_for w → inner_text v ≡ inner_text w
@@ -82,17 +96,23 @@ words_once (Overrun a) (Overrun b) same = ap (λ (t : List ℕ). codes "overrun 
 words_once (InnerMessage v) (InnerMessage w) same = inner_once v w same
 words_once x y same = absurd same
 
-message_once : (m n : NetlinkMessage PingPongMessage) → (m.header ≡ n.header) × SamePayload ping_pong_decoding m.payload n.payload → message_lines m ≡ message_lines n
+message_once : (m n : NetlinkMessage PingPongMessage) → (m.header ≡ n.header) × SamePayload ping_pong_decoding m.payload n.payload
+    → message_lines m ≡ message_lines n
 message_once m n (header, payload) =
     ap (λ (h : NetlinkHeader). header_lines h ++ (codes "payload " ++ (payload_words m.payload ++ (10 ∷ [])))) header
     ∙ ap (λ (t : List ℕ). header_lines n.header ++ (codes "payload " ++ (t ++ (10 ∷ [])))) (words_once m.payload n.payload payload)
 
-pub shows_once : Uniqueness → (input first second : List ℕ) (e f : Option DecodeError) → Makes Show input first e → Makes Show input second f → (first ≡ second) × SameFault e f
+pub shows_once : Uniqueness → (input first second : List ℕ) (e f : Option DecodeError) → Makes Show input first e
+    → Makes Show input second f → (first ≡ second) × SameFault e f
 unfolding Makes
-shows_once unique input first second None None (m, frame, is) (n, frame', is') = (is ∙ message_once m n (unique.same input m n frame frame') ∙ sym is', tt)
-shows_once unique input first second None (Some f) (m, frame, is) (none, known, fault) = absurd (no_refusal unique input m f frame fault known)
-shows_once unique input first second (Some e) None (none, known, fault) (m, frame, is) = absurd (no_refusal unique input m e frame fault known)
-shows_once unique input first second (Some e) (Some f) (none, known, fault) (none', known', fault') = (none ∙ sym none', unique.refusal input e f fault fault' known known')
+shows_once unique input first second None None (m, frame, is) (n, frame', is') =
+    (is ∙ message_once m n (unique.same input m n frame frame') ∙ sym is', tt)
+shows_once unique input first second None (Some f) (m, frame, is) (none, known, fault) =
+    absurd (no_refusal unique input m f frame fault known)
+shows_once unique input first second (Some e) None (none, known, fault) (m, frame, is) =
+    absurd (no_refusal unique input m e frame fault known)
+shows_once unique input first second (Some e) (Some f) (none, known, fault) (none', known', fault') =
+    (none ∙ sym none', unique.refusal input e f fault fault' known known')
 
 -- bytes walk in one way
 abbrev pub WalkUnique : Type 0
@@ -113,22 +133,29 @@ walk_itself bytes (a ∷ more) e (rest, starts, walk) = walk_itself rest more e 
 same_fault : (bytes : List ℕ) (all : List Attribute) (e f : Option DecodeError) → Walk bytes all e → e ≡ f → SameFault e f
 same_fault bytes all e f walk same = subst (λ (x : Option DecodeError). SameFault e x) same (walk_itself bytes all e walk)
 
-pub nlas_once : WalkUnique → (input first second : List ℕ) (e f : Option DecodeError) → Makes Nlas input first e → Makes Nlas input second f → (first ≡ second) × SameFault e f
+pub nlas_once : WalkUnique → (input first second : List ℕ) (e f : Option DecodeError) → Makes Nlas input first e → Makes Nlas input second f
+    → (first ≡ second) × SameFault e f
 unfolding Makes
 nlas_once unique input first second e f (all, walk, is) (all', walk', is') =
     let same = unique input all all' e f walk walk' in
     (is ∙ ap nla_lines same.0 ∙ sym is', same_fault input all e f walk same.1)
 
-pub canon_once : WalkUnique → (input first second : List ℕ) (e f : Option DecodeError) → Makes Canon input first e → Makes Canon input second f → (first ≡ second) × SameFault e f
+pub canon_once : WalkUnique → (input first second : List ℕ) (e f : Option DecodeError) → Makes Canon input first e
+    → Makes Canon input second f → (first ≡ second) × SameFault e f
 unfolding Makes
-canon_once unique input first second None None (all, walk, is) (all', walk', is') = (is ∙ ap canonical_block (unique input all all' None None walk walk').0 ∙ sym is', tt)
-canon_once unique input first second None (Some f) (all, walk, is) (none, known, (all', walk')) = absurd (let same = (unique input all all' None (Some f) walk walk').1 in cc)
-canon_once unique input first second (Some e) None (none, known, (all, walk)) (all', walk', is') = absurd (let same = (unique input all all' (Some e) None walk walk').1 in cc)
-canon_once unique input first second (Some e) (Some f) (none, known, (all, walk)) (none', known', (all', walk')) = (none ∙ sym none', same_fault input all (Some e) (Some f) walk (unique input all all' (Some e) (Some f) walk walk').1)
+canon_once unique input first second None None (all, walk, is) (all', walk', is') =
+    (is ∙ ap canonical_block (unique input all all' None None walk walk').0 ∙ sym is', tt)
+canon_once unique input first second None (Some f) (all, walk, is) (none, known, (all', walk')) =
+    absurd (let same = (unique input all all' None (Some f) walk walk').1 in cc)
+canon_once unique input first second (Some e) None (none, known, (all, walk)) (all', walk', is') =
+    absurd (let same = (unique input all all' (Some e) None walk walk').1 in cc)
+canon_once unique input first second (Some e) (Some f) (none, known, (all, walk)) (none', known', (all', walk')) =
+    (none ∙ sym none', same_fault input all (Some e) (Some f) walk (unique input all all' (Some e) (Some f) walk walk').1)
 
 -- a datagram is frames in one way
 abbrev pub FramesUnique : Type 0
-FramesUnique = (bytes : List ℕ) (a b : List (List ℕ)) (f g : Option DecodeError) → FrameWalk bytes a f → FrameWalk bytes b g → (a ≡ b) × (f ≡ g)
+FramesUnique =
+    (bytes : List ℕ) (a b : List (List ℕ)) (f g : Option DecodeError) → FrameWalk bytes a f → FrameWalk bytes b g → (a ≡ b) × (f ≡ g)
 
 -- nor are the faults of its frames free text
 frame_fault_itself : (bytes : List ℕ) (e : DecodeError) → IsFrameFault false bytes e → SameRefusal e e
@@ -142,7 +169,8 @@ frames_itself bytes [] None walk = tt
 frames_itself bytes [] (Some e) (some, is) = frame_fault_itself bytes e is
 frames_itself bytes (frame ∷ more) e (rest, starts, walk) = frames_itself rest more e walk
 
-pub frames_once : FramesUnique → (input first second : List ℕ) (e f : Option DecodeError) → Makes Frames input first e → Makes Frames input second f → (first ≡ second) × SameFault e f
+pub frames_once : FramesUnique → (input first second : List ℕ) (e f : Option DecodeError) → Makes Frames input first e
+    → Makes Frames input second f → (first ≡ second) × SameFault e f
 unfolding Makes
 frames_once unique input first second e f (all, walk, is) (all', walk', is') =
     let same = unique input all all' e f walk walk' in

@@ -5,5 +5,6 @@ use Rattle.netlink_packet_core.specs.declared.header.NetlinkHeader.{NetlinkHeade
 use Rattle.netlink_frame.specs.Zeros.{are_zeros, zeros_reading}
 use Rattle.netlink_frame.specs.ZerosLaws.{all_zeros}
 
-pub reads_zeros : (h : NetlinkHeader) (payload : List ℕ) → h.message_type ≡ 18 → are_zeros payload ≡ true → zeros_reading h payload ≡ Some (18, replicate (length payload) 0)
+pub reads_zeros : (h : NetlinkHeader) (payload : List ℕ) → h.message_type ≡ 18 → are_zeros payload ≡ true
+    → zeros_reading h payload ≡ Some (18, replicate (length payload) 0)
 reads_zeros h payload kind zeros = rw (kind, zeros) (ap (λ (text : List ℕ). Some (18, text)) (all_zeros payload zeros))

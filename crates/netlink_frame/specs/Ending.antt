@@ -22,7 +22,8 @@ word_of Frames = codes "frames"
 abbrev pub Asks : Option (List (String Global)) → Command → Type 0
 Asks None command = ⊥
 Asks (Some arguments) command =
-    (name : String Global) × (word : String Global) × (arguments ≡ name ∷ (word ∷ [])) × (string_bytes word ≡ word_of command)
+    (name : String Global) × (word : String Global) × (arguments ≡ name ∷ (word ∷ []))
+    × (string_bytes word ≡ word_of command)
 
 -- the status of the process
 abbrev pub status_of : Ending → ℕ
@@ -40,6 +41,7 @@ ending_text Usage = codes "usage: netlink_frame normalize|show|nlas|canon|frames
 -- nothing here
 abbrev pub Ends : Command → List ℕ → Option (List ℕ) → Option (List ℕ) → Ending → Type 0
 Ends command input old new Done = Wrote command input old new None
-Ends command input old new (Failed (Decode e)) = e ≢ OutOfMemory → Wrote command input old new (Some e)
+Ends command input old new (Failed (Decode e)) =
+    e ≢ OutOfMemory → Wrote command input old new (Some e)
 Ends command input old new (Failed fault) = Unit {0}
 Ends command input old new Usage = ⊥

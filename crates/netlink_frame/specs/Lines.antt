@@ -37,8 +37,10 @@ inner_text (Pong bytes) = codes "pong " ++ shown bytes.items
 -- what a payload is, its code and its bytes
 abbrev pub payload_words : NetlinkPayload PingPongMessage → List ℕ
 payload_words Noop = codes "noop"
-payload_words (Done m) = codes "done " ++ (signed_decimal m.code ++ (codes " " ++ shown m.extended_ack.items))
-payload_words (Error m) = codes "error " ++ (signed_decimal (raw_code m.code) ++ (codes " " ++ shown m.header.items))
+payload_words (Done m) =
+    codes "done " ++ (signed_decimal m.code ++ (codes " " ++ shown m.extended_ack.items))
+payload_words (Error m) =
+    codes "error " ++ (signed_decimal (raw_code m.code) ++ (codes " " ++ shown m.header.items))
 payload_words (Overrun bytes) = codes "overrun " ++ shown bytes.items
 payload_words (InnerMessage v) = inner_text v
 
@@ -53,12 +55,15 @@ header_lines h =
 
 -- the six lines of a message
 abbrev pub message_lines : NetlinkMessage PingPongMessage → List ℕ
-message_lines m = header_lines m.header ++ (codes "payload " ++ (payload_words m.payload ++ (10 ∷ [])))
+message_lines m =
+    header_lines m.header ++ (codes "payload " ++ (payload_words m.payload ++ (10 ∷ [])))
 
 -- the line of an attribute: its kind with the flags in four digits, the size of its value, and the
 -- value
 abbrev pub nla_line : Attribute → List ℕ
-nla_line a = hex_digits (a.kind / 256 ∷ (a.kind % 256 ∷ [])) ++ (codes " " ++ (decimal (length a.value) ++ (codes " " ++ (shown a.value ++ (10 ∷ [])))))
+nla_line a =
+    hex_digits (a.kind / 256 ∷ (a.kind % 256 ∷ []))
+    ++ (codes " " ++ (decimal (length a.value) ++ (codes " " ++ (shown a.value ++ (10 ∷ [])))))
 
 -- the lines of attributes, one after another
 abbrev pub nla_lines : List Attribute → List ℕ
@@ -67,7 +72,8 @@ nla_lines (a ∷ more) = nla_line a ++ nla_lines more
 
 -- the line of a frame: its length and its type
 abbrev pub frame_line : List ℕ → List ℕ
-frame_line frame = decimal (field 0 4 frame) ++ (codes " " ++ (decimal (field 4 2 frame) ++ (10 ∷ [])))
+frame_line frame =
+    decimal (field 0 4 frame) ++ (codes " " ++ (decimal (field 4 2 frame) ++ (10 ∷ [])))
 
 -- the lines of frames, one after another
 abbrev pub frame_lines : List (List ℕ) → List ℕ

@@ -18,7 +18,8 @@ ping_pong_bytes (Pong bytes) = bytes.items
 -- the two types read any payload
 abbrev pub ping_pong_reading : NetlinkHeader → List ℕ → Option (ℕ × List ℕ)
 ping_pong_reading h payload =
-    if h.message_type == 18 then Some (18, payload) else if h.message_type == 20 then Some (20, payload) else None
+    if h.message_type == 18 then Some (18, payload) else if h.message_type == 20 then Some
+    (20, payload) else None
 
 abbrev pub ping_pong_encoding : Encoding PingPongMessage
 ping_pong_encoding = record { type_of = ping_pong_type; bytes_of = ping_pong_bytes }

@@ -23,16 +23,24 @@ use Rattle.netlink_frame.specs.declared.run.Fault.TheVariants.{Read, Write, Deco
 -- the bytes that a command writes for an input, and the fault that it ends with
 unfoldable pub Makes : Command → List ℕ → List ℕ → Option DecodeError → Type 0
 Makes Normalize input output None =
-    (m : NetlinkMessage PingPongMessage) × Frame ping_pong_decoding input m × Fits ping_pong_encoding m × (output ≡ canonical_frame ping_pong_encoding m)
+    (m : NetlinkMessage PingPongMessage) × Frame ping_pong_decoding input m
+    × Fits ping_pong_encoding m × (output ≡ canonical_frame ping_pong_encoding m)
 Makes Normalize input output (Some e) =
-    (output ≡ []) × (e ≢ OutOfMemory) × IsNormalizeFault ping_pong_encoding ping_pong_decoding wants_memory input e
+    (output ≡ []) × (e ≢ OutOfMemory)
+    × IsNormalizeFault ping_pong_encoding ping_pong_decoding wants_memory input e
 Makes Show input output None =
-    (m : NetlinkMessage PingPongMessage) × Frame ping_pong_decoding input m × (output ≡ message_lines m)
-Makes Show input output (Some e) = (output ≡ []) × (e ≢ OutOfMemory) × IsRefusal ping_pong_decoding wants_memory input e
-Makes Nlas input output fault = (all : List Attribute) × Walk input all fault × (output ≡ nla_lines all)
-Makes Canon input output None = (all : List Attribute) × Walk input all None × (output ≡ canonical_block all)
-Makes Canon input output (Some e) = (output ≡ []) × (e ≢ OutOfMemory) × ((all : List Attribute) × Walk input all (Some e))
-Makes Frames input output fault = (all : List (List ℕ)) × FrameWalk input all fault × (output ≡ frame_lines all)
+    (m : NetlinkMessage PingPongMessage) × Frame ping_pong_decoding input m
+    × (output ≡ message_lines m)
+Makes Show input output (Some e) =
+    (output ≡ []) × (e ≢ OutOfMemory) × IsRefusal ping_pong_decoding wants_memory input e
+Makes Nlas input output fault =
+    (all : List Attribute) × Walk input all fault × (output ≡ nla_lines all)
+Makes Canon input output None =
+    (all : List Attribute) × Walk input all None × (output ≡ canonical_block all)
+Makes Canon input output (Some e) =
+    (output ≡ []) × (e ≢ OutOfMemory) × ((all : List Attribute) × Walk input all (Some e))
+Makes Frames input output fault =
+    (all : List (List ℕ)) × FrameWalk input all fault × (output ≡ frame_lines all)
 
 -- two faults are one, but for the words that follow the fixed beginning of a free text
 abbrev pub SameFault : Option DecodeError → Option DecodeError → Type 0
@@ -41,14 +49,18 @@ SameFault (Some e) (Some f) = SameRefusal e f
 SameFault _ _ = ⊥
 
 -- the writer took the output of the command and nothing else, and this is the fault
-abbrev pub Wrote : Command → List ℕ → Option (List ℕ) → Option (List ℕ) → Option DecodeError → Type 0
-Wrote command input old new fault = (output : List ℕ) × Makes command input output fault × Appends old new output
+abbrev pub Wrote : Command → List ℕ → Option (List ℕ) → Option (List ℕ) → Option DecodeError
+    → Type 0
+Wrote command input old new fault =
+    (output : List ℕ) × Makes command input output fault × Appends old new output
 
 -- what a run over the whole input did; want of memory, and a failed read or write, decide nothing
 -- here
-abbrev pub Answers : {A : Type 0} → Command → List ℕ → Option (List ℕ) → Option (List ℕ) → Result A Fault → Type 0
+abbrev pub Answers : {A : Type 0} → Command → List ℕ → Option (List ℕ) → Option (List ℕ)
+    → Result A Fault → Type 0
 Answers command input old new (Ok done) = Wrote command input old new None
-Answers command input old new (Err (Decode e)) = e ≢ OutOfMemory → Wrote command input old new (Some e)
+Answers command input old new (Err (Decode e)) =
+    e ≢ OutOfMemory → Wrote command input old new (Some e)
 Answers command input old new (Err fault) = Unit {0}
 
 -- two faults of runs that nobody can tell apart

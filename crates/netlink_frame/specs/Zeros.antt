@@ -17,7 +17,8 @@ zeros_bytes v = replicate v.0 0
 abbrev pub zeros_reading : NetlinkHeader → List ℕ → Option (ℕ × List ℕ)
 zeros_reading h payload =
     if h.message_type == 18 then (if are_zeros payload then Some (18, payload) else None)
-    else if h.message_type == 19 then (if length payload == 8 then Some (18, replicate (number_le payload) 0) else None)
+    else if h.message_type == 19
+    then (if length payload == 8 then Some (18, replicate (number_le payload) 0) else None)
     else None
 
 abbrev pub zeros_encoding : Encoding Zeros

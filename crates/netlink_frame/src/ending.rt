@@ -66,7 +66,8 @@ impl Termination for Ending {
 /// The command of the only argument behind the program's name. Arguments that cannot be had as a
 /// whole, be they no text or want of memory, are no command.
 pub fn asked(args: Option<Args>) -> Option<Command>
-    ensures asks { (command : Command) → (result ≡ Some command) ↔ Asks (option_map into_iter_items args) command }
+    ensures asks { (command : Command)
+        → (result ≡ Some command) ↔ Asks (option_map into_iter_items args) command }
 {
     let mut args = args?;
     let _name = args.next()?;
@@ -86,7 +87,8 @@ pub fn ended<R: Read, W: Write>(
 ) -> Ending
     ensures usage { (result ≡ Ending.Usage) ↔ (command ≡ None) }
     ensures untouched { command ≡ None → (reader.new ≡ reader.old) × (writer.new ≡ writer.old) }
-    ensures early { (fault : Fault) → result ≡ Ending.Failed fault → IsEarly fault → Keeps (W.contents writer.old) (W.contents writer.new) }
+    ensures early { (fault : Fault) → result ≡ Ending.Failed fault → IsEarly fault
+        → Keeps (W.contents writer.old) (W.contents writer.new) }
     ensures ends { IfSome command (λ asked. IfSome (R.remaining reader.old) (λ input.
         Ends asked input (W.contents writer.old) (W.contents writer.new) result)) }
 {

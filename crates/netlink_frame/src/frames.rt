@@ -14,8 +14,12 @@ use std::alloc::{AllocError, Global};
 /// The lines of a datagram's frames, up to its end or a fault: the length and the type of each in
 /// decimal. `OutOfMemory` is the only error.
 pub fn frames_text(alloc: Global, datagram: &[u8]) -> Result<String, DecodeError>
-    ensures lines { IfOk result (λ text. (all : List (List ℕ)) × (fault : Option DecodeError) × FrameWalk datagram.now all fault × (string_bytes text ≡ frame_lines all)) }
-    ensures each { IfOk result (λ text. (all : List (List ℕ)) (fault : Option DecodeError) → FrameWalk datagram.now all fault → string_bytes text ≡ frame_lines all) }
+    ensures lines { IfOk result
+        (λ text. (all : List (List ℕ)) × (fault : Option DecodeError)
+        × FrameWalk datagram.now all fault × (string_bytes text ≡ frame_lines all)) }
+    ensures each { IfOk result
+        (λ text. (all : List (List ℕ)) (fault : Option DecodeError)
+        → FrameWalk datagram.now all fault → string_bytes text ≡ frame_lines all) }
     ensures memory { IfErr result (λ e. e ≡ DecodeError.OutOfMemory) }
 {
     frames_unique();
@@ -26,7 +30,8 @@ pub fn frames_text(alloc: Global, datagram: &[u8]) -> Result<String, DecodeError
 /// `None` where they end without one. Asks for no memory.
 pub fn frames_fault(datagram: &[u8]) -> Option<DecodeError>
     ensures fault { (all : List (List ℕ)) × FrameWalk datagram.now all result }
-    ensures each { (all : List (List ℕ)) (fault : Option DecodeError) → FrameWalk datagram.now all fault → result ≡ fault }
+    ensures each { (all : List (List ℕ)) (fault : Option DecodeError)
+        → FrameWalk datagram.now all fault → result ≡ fault }
 {
     frames_unique();
     last_fault(datagram)
@@ -34,7 +39,9 @@ pub fn frames_fault(datagram: &[u8]) -> Option<DecodeError>
 
 /// The lines of frames.
 fn shown_frames(alloc: Global, datagram: &[u8]) -> Result<String, AllocError>
-    ensures { IfOk result (λ text. (all : List (List ℕ)) × (fault : Option DecodeError) × FrameWalk datagram.now all fault × (string_bytes text ≡ frame_lines all)) }
+    ensures { IfOk result
+        (λ text. (all : List (List ℕ)) × (fault : Option DecodeError)
+        × FrameWalk datagram.now all fault × (string_bytes text ≡ frame_lines all)) }
 {
     let mut text = String::new(alloc);
     for item in Frames::new(datagram) {

@@ -17,8 +17,12 @@ use std::fmt::Write;
 /// lower-case hexadecimal digits, the size of the value in decimal, and the value's bytes as two
 /// such digits each, or `-` where there are none. `OutOfMemory` is the only error.
 pub fn nlas_text(alloc: Global, block: &[u8]) -> Result<String, DecodeError>
-    ensures lines { IfOk result (λ text. (all : List Attribute) × (fault : Option DecodeError) × Walk block.now all fault × (string_bytes text ≡ nla_lines all)) }
-    ensures each { IfOk result (λ text. (all : List Attribute) (fault : Option DecodeError) → Walk block.now all fault → string_bytes text ≡ nla_lines all) }
+    ensures lines { IfOk result
+        (λ text. (all : List Attribute) × (fault : Option DecodeError) × Walk block.now all fault
+        × (string_bytes text ≡ nla_lines all)) }
+    ensures each { IfOk result
+        (λ text. (all : List Attribute) (fault : Option DecodeError) → Walk block.now all fault
+        → string_bytes text ≡ nla_lines all) }
     ensures memory { IfErr result (λ e. e ≡ DecodeError.OutOfMemory) }
 {
     walk_unique();
@@ -30,7 +34,8 @@ pub fn nlas_text(alloc: Global, block: &[u8]) -> Result<String, DecodeError>
 /// Asks for no memory.
 pub fn nlas_fault(block: &[u8]) -> Option<DecodeError>
     ensures fault { (all : List Attribute) × Walk block.now all result }
-    ensures each { (all : List Attribute) (fault : Option DecodeError) → Walk block.now all fault → result ≡ fault }
+    ensures each { (all : List Attribute) (fault : Option DecodeError) → Walk block.now all fault
+        → result ≡ fault }
 {
     walk_unique();
     walked_fault(block)
@@ -38,7 +43,9 @@ pub fn nlas_fault(block: &[u8]) -> Option<DecodeError>
 
 /// The lines of a walk.
 fn walked_text(alloc: Global, block: &[u8]) -> Result<String, AllocError>
-    ensures { IfOk result (λ text. (all : List Attribute) × (fault : Option DecodeError) × Walk block.now all fault × (string_bytes text ≡ nla_lines all)) }
+    ensures { IfOk result
+        (λ text. (all : List Attribute) × (fault : Option DecodeError) × Walk block.now all fault
+        × (string_bytes text ≡ nla_lines all)) }
 {
     let mut text = String::new(alloc);
     for item in NlasIterator::new(block) {
@@ -66,7 +73,8 @@ fn walked_fault(block: &[u8]) -> Option<DecodeError>
 /// Adds the line of an attribute.
 fn push_line(text: &mut String, nla: &NlaBuffer<&[u8]>) -> Result<(), AllocError>
     requires { HoldsAttribute (shown nla.now) }
-    ensures { OnOk result (string_bytes text.new ≡ string_bytes text.old ++ nla_line (attribute_of (shown nla.now))) }
+    ensures { OnOk result
+        (string_bytes text.new ≡ string_bytes text.old ++ nla_line (attribute_of (shown nla.now))) }
 {
     let value = nla.value();
     let size = value.len();
@@ -82,7 +90,9 @@ fn push_line(text: &mut String, nla: &NlaBuffer<&[u8]>) -> Result<(), AllocError
 
 /// Adds the four digits of a kind with its flags.
 fn push_kind(text: &mut String, kind: u16) -> Result<(), AllocError>
-    ensures { OnOk result (string_bytes text.new ≡ string_bytes text.old ++ hex_digits (kind / 256 ∷ (kind % 256 ∷ []))) }
+    ensures { OnOk result
+        (string_bytes text.new
+        ≡ string_bytes text.old ++ hex_digits (kind / 256 ∷ (kind % 256 ∷ []))) }
 {
     push_digits(text, &kind.to_be_bytes())
 }

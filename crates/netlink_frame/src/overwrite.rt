@@ -12,7 +12,8 @@ use netlink_packet_core::write_nla_value;
 /// a fault. True exactly where there is such an attribute and its value has the same size in bytes;
 /// otherwise the block stays as it was. Asks for no memory.
 pub fn overwrite(block: &mut [u8], index: usize, value: &[u8]) -> bool
-    ensures answer { (all : List Attribute) (fault : Option DecodeError) → Walk block.old all fault → IsTrue result ↔ HasValueOf all index (length value.now) }
+    ensures answer { (all : List Attribute) (fault : Option DecodeError) → Walk block.old all fault
+        → IsTrue result ↔ HasValueOf all index (length value.now) }
     ensures written { IsTrue result → IsWritten block.old index value.now block.new }
     ensures unchanged { result ≡ false → block.new ≡ block.old }
 {

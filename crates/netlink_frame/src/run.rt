@@ -62,7 +62,8 @@ pub fn run<R: Read, W: Write>(
     reader: &mut R,
     writer: &mut W,
 ) -> Result<(), Fault>
-    ensures nothing { IfErr result (λ fault. IsEarly fault → Keeps (W.contents writer.old) (W.contents writer.new)) }
+    ensures nothing { IfErr result
+        (λ fault. IsEarly fault → Keeps (W.contents writer.old) (W.contents writer.new)) }
     ensures answers { IfSome (R.remaining reader.old) (λ input.
         Answers command input (W.contents writer.old) (W.contents writer.new) result) }
 {
@@ -122,7 +123,8 @@ fn answer_to(alloc: Global, command: Command, input: &[u8]) -> Result<Answer, Al
 /// The canonical frame of a message, or the refusal.
 #[tactic(auto, unfolding(crate::specs::Run::Makes))]
 fn normalized(alloc: Global, input: &[u8]) -> Result<Answer, AllocError>
-    ensures makes { IfOk result (λ answer. Makes Normalize input.now answer.output.items answer.fault) }
+    ensures makes { IfOk result
+        (λ answer. Makes Normalize input.now answer.output.items answer.fault) }
     ensures fault { IfOk result (λ answer. IfSome answer.fault (λ e. e ≢ DecodeError.OutOfMemory)) }
 {
     match normalize::<PingPongMessage>(alloc, input) {
@@ -199,7 +201,9 @@ fn framed(alloc: Global, input: &[u8]) -> Result<Answer, AllocError>
 
 /// No output and the fault; want of memory is no fault of the input.
 fn refused(alloc: Global, cause: DecodeError) -> Result<Answer, AllocError>
-    ensures ok { IfOk result (λ answer. (answer.output.items ≡ []) × (answer.fault ≡ Some cause) × (cause ≢ DecodeError.OutOfMemory)) }
+    ensures ok { IfOk result
+        (λ answer. (answer.output.items ≡ []) × (answer.fault ≡ Some cause)
+        × (cause ≢ DecodeError.OutOfMemory)) }
 {
     if cause.is_out_of_memory() {
         return Err(AllocError);

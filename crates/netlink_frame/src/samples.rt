@@ -53,7 +53,9 @@ impl NetlinkDeserializable for Zeros {
         payload: &[u8],
     ) -> Result<Self, DeserializeError>
         ensures in_range { IfOk result (λ v. IsTrue (zeros_decoding.in_range v)) }
-        ensures reads { IfOk result (λ v. zeros_decoding.reading header.now payload.now ≡ Some (zeros_decoding.stands_for v)) }
+        ensures reads { IfOk result
+            (λ v. zeros_decoding.reading header.now payload.now
+            ≡ Some (zeros_decoding.stands_for v)) }
         ensures refuses { OnErr result (zeros_decoding.reading header.now payload.now ≡ None) }
         // There is one error, which is not want of memory.
         ensures fault { IfErr result (λ e. e ≡ DeserializeError.InvalidType) }

@@ -50,7 +50,8 @@ fn push_payload(
     text: &mut String,
     payload: &NetlinkPayload<PingPongMessage>,
 ) -> Result<(), AllocError>
-    ensures { OnOk result (string_bytes text.new ≡ string_bytes text.old ++ payload_words payload.now) }
+    ensures { OnOk result
+        (string_bytes text.new ≡ string_bytes text.old ++ payload_words payload.now) }
 {
     match payload {
         NetlinkPayload::Noop => text.push_str("noop"),
@@ -86,7 +87,10 @@ fn push_coded(
     code: i32,
     bytes: &[u8],
 ) -> Result<(), AllocError>
-    ensures { OnOk result (string_bytes text.new ≡ string_bytes text.old ++ (name.now ++ (signed_decimal code ++ (codes " " ++ shown bytes.now)))) }
+    ensures { OnOk result
+        (string_bytes text.new
+        ≡ string_bytes text.old
+        ++ (name.now ++ (signed_decimal code ++ (codes " " ++ shown bytes.now)))) }
 {
     text.push_str(code_text(alloc, name, code)?.as_str())?;
     push_shown(text, bytes)?;
@@ -95,14 +99,16 @@ fn push_coded(
 
 /// A name, a code and a space.
 fn code_text(alloc: Global, name: &str, code: i32) -> Result<String, AllocError>
-    ensures { IfOk result (λ text. string_bytes text ≡ name.now ++ (signed_decimal code ++ codes " ")) }
+    ensures { IfOk result
+        (λ text. string_bytes text ≡ name.now ++ (signed_decimal code ++ codes " ")) }
 {
     format!(in alloc; "{name}{code} ")
 }
 
 /// Adds a name and bytes.
 fn push_named(text: &mut String, name: &str, bytes: &[u8]) -> Result<(), AllocError>
-    ensures { OnOk result (string_bytes text.new ≡ string_bytes text.old ++ (name.now ++ shown bytes.now)) }
+    ensures { OnOk result
+        (string_bytes text.new ≡ string_bytes text.old ++ (name.now ++ shown bytes.now)) }
 {
     text.push_str(name)?;
     push_shown(text, bytes)?;

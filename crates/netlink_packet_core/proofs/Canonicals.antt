@@ -22,7 +22,8 @@ pub record CanonicalParts {I : Type 0} (decoding : Decoding I) (bytes : List ℕ
   pub body : IsCanonicalBody decoding h payload
 
 -- a canonical frame is a header and a payload, with nothing behind them
-pub canonical_parts : {I : Type 0} (decoding : Decoding I) (bytes : List ℕ) (h : NetlinkHeader) (payload : List ℕ) → IsCanonicalFrame decoding bytes → Begins bytes h payload → CanonicalParts decoding bytes h payload
+pub canonical_parts : {I : Type 0} (decoding : Decoding I) (bytes : List ℕ) (h : NetlinkHeader) (payload : List ℕ)
+    → IsCanonicalFrame decoding bytes → Begins bytes h payload → CanonicalParts decoding bytes h payload
 canonical_parts decoding bytes h payload canonical begins =
     let total = size-begins bytes h payload begins in
     let said = length-begins bytes h payload begins in
@@ -39,7 +40,8 @@ canonical_parts decoding bytes h payload canonical begins =
         error = λ e. let size = canonical.error (kind ∙ e) in omega arith;
         done = λ e. let size = canonical.done (kind ∙ e) in omega arith;
         own = subst (λ (j : NetlinkHeader). IsOwnType j.message_type → decoding.reading j payload ≡ Some (j.message_type, payload)) head
-            (subst (λ (q : List ℕ). IsOwnType (field 4 2 bytes) → decoding.reading (header_of bytes) q ≡ Some (field 4 2 bytes, q)) rest canonical.own);
+            (subst (λ (q : List ℕ). IsOwnType (field 4 2 bytes) → decoding.reading (header_of bytes) q ≡ Some (field 4 2 bytes, q)) rest
+            canonical.own);
       };
     }
 
@@ -51,7 +53,9 @@ canonical_holds decoding bytes canonical =
     record { header = long; least = omega arith; most = omega arith }
 
 -- what a canonical payload reads as is of its type, and is written as it
-pub body_back : {I : Type 0} {eq : I → I → Bool} {encoding : Encoding I} {decoding : Decoding I} → Laws eq encoding decoding → (x : NetlinkPayload I) (h : NetlinkHeader) (payload : List ℕ) → Body decoding h payload x → IsCanonicalBody decoding h payload → (payload_type encoding x ≡ h.message_type) × (payload_bytes encoding x ≡ payload)
+pub body_back : {I : Type 0} {eq : I → I → Bool} {encoding : Encoding I} {decoding : Decoding I} → Laws eq encoding decoding
+    → (x : NetlinkPayload I) (h : NetlinkHeader) (payload : List ℕ) → Body decoding h payload x → IsCanonicalBody decoding h payload
+    → (payload_type encoding x ≡ h.message_type) × (payload_bytes encoding x ≡ payload)
 body_back laws (Done m) h payload (kind, inl none) canonical = let some = canonical.done kind in absurd (omega (arith, ap length none.0))
 body_back laws (Done m) h payload (kind, inr some) canonical = (sym kind, sym some.whole)
 body_back laws (Error m) h payload body canonical = (sym body.0, sym body.1.whole)
@@ -64,7 +68,9 @@ body_back {encoding = encoding} {decoding = decoding} laws (InnerMessage v) h pa
     (ap (λ (q : ℕ × List ℕ). q.0) own, ap (λ (q : ℕ × List ℕ). q.1) own)
 
 -- a canonical frame of a message is what is written of it
-pub canonical_is_written : {I : Type 0} {eq : I → I → Bool} {encoding : Encoding I} {decoding : Decoding I} → Laws eq encoding decoding → (bytes : List ℕ) (m : NetlinkMessage I) → IsCanonicalFrame decoding bytes → Frame decoding bytes m → canonical_frame encoding m ≡ bytes
+pub canonical_is_written : {I : Type 0} {eq : I → I → Bool} {encoding : Encoding I} {decoding : Decoding I} → Laws eq encoding decoding
+    → (bytes : List ℕ) (m : NetlinkMessage I) → IsCanonicalFrame decoding bytes → Frame decoding bytes m
+    → canonical_frame encoding m ≡ bytes
 canonical_is_written {encoding = encoding} {decoding = decoding} laws bytes m canonical (payload, begins, body) =
     let h : NetlinkHeader = m.header in
     let parts = canonical_parts decoding bytes h payload canonical begins in
@@ -94,7 +100,8 @@ cut_holds_none bytes k whole proper holds =
 pub cut_short : (bytes : List ℕ) (k : ℕ) → k ≤ length bytes → k < 16 → IsFrameFault true (take k bytes) (FrameShort k true)
 cut_short bytes k within few = let size = cut_size bytes k within in (omega arith, sym size, refl)
 
-pub cut_later : (bytes : List ℕ) (k : ℕ) → field 0 4 bytes ≡ length bytes → k < length bytes → 16 ≤ k → IsFrameFault true (take k bytes) (FrameCut (length bytes) k true)
+pub cut_later : (bytes : List ℕ) (k : ℕ) → field 0 4 bytes ≡ length bytes → k < length bytes → 16 ≤ k
+    → IsFrameFault true (take k bytes) (FrameCut (length bytes) k true)
 cut_later bytes k whole proper many =
     let size = cut_size bytes k (omega arith) in
     let said = cut_field bytes k (omega arith) in

@@ -9,7 +9,8 @@ use Rattle.netlink_packet_core.specs.Frame.{Begins}
 use Rattle.netlink_packet_core.specs.declared.header.NetlinkHeader.{NetlinkHeader}
 
 -- headers of the same fields are one
-pub same_header : (a b : NetlinkHeader) → a.length ≡ b.length → a.message_type ≡ b.message_type → a.flags ≡ b.flags → a.sequence_number ≡ b.sequence_number → a.port_number ≡ b.port_number → a ≡ b
+pub same_header : (a b : NetlinkHeader) → a.length ≡ b.length → a.message_type ≡ b.message_type → a.flags ≡ b.flags
+    → a.sequence_number ≡ b.sequence_number → a.port_number ≡ b.port_number → a ≡ b
 same_header a b p q r s t = λ i. record { length = p i; message_type = q i; flags = r i; sequence_number = s i; port_number = t i }
 
 -- a header reads back from its text, whatever follows
@@ -31,7 +32,8 @@ enough : (at w : ℕ) (bytes : List ℕ) → at + w ≤ length bytes → w ≤ l
 enough at w bytes long = omega (arith, length-drop at bytes)
 
 -- a number in the middle, and what follows it
-next_number : (at w : ℕ) (bytes : List ℕ) → IsBytes bytes → at + w ≤ length bytes → drop at bytes ≡ bytes_le (number_le (take w (drop at bytes))) w ++ drop (at + w) bytes
+next_number : (at w : ℕ) (bytes : List ℕ) → IsBytes bytes → at + w ≤ length bytes
+    → drop at bytes ≡ bytes_le (number_le (take w (drop at bytes))) w ++ drop (at + w) bytes
 next_number at w bytes each long =
     split_number w (drop at bytes) (IsBytes-drop at bytes each) (enough at w bytes long)
     ∙ ap (λ (more : List ℕ). bytes_le (number_le (take w (drop at bytes))) w ++ more) (drop-drop w at bytes)
@@ -39,14 +41,17 @@ next_number at w bytes each long =
 five : (a b c d e more : List ℕ) → (a ++ (b ++ (c ++ (d ++ e)))) ++ more ≡ a ++ (b ++ (c ++ (d ++ (e ++ more))))
 five a b c d e more = simp append_assoc
 
-joined : (a b c d e x0 x1 x2 x3 x4 x5 : List ℕ) → x0 ≡ a ++ x1 → x1 ≡ b ++ x2 → x2 ≡ c ++ x3 → x3 ≡ d ++ x4 → x4 ≡ e ++ x5 → x0 ≡ (a ++ (b ++ (c ++ (d ++ e)))) ++ x5
+joined : (a b c d e x0 x1 x2 x3 x4 x5 : List ℕ) → x0 ≡ a ++ x1 → x1 ≡ b ++ x2 → x2 ≡ c ++ x3 → x3 ≡ d ++ x4 → x4 ≡ e ++ x5
+    → x0 ≡ (a ++ (b ++ (c ++ (d ++ e)))) ++ x5
 joined a b c d e x0 x1 x2 x3 x4 x5 p q r s t =
-    p ∙ ap (λ (m : List ℕ). a ++ m) (q ∙ ap (λ (m : List ℕ). b ++ m) (r ∙ ap (λ (m : List ℕ). c ++ m) (s ∙ ap (λ (m : List ℕ). d ++ m) t))) ∙ sym (five a b c d e x5)
+    p ∙ ap (λ (m : List ℕ). a ++ m) (q ∙ ap (λ (m : List ℕ). b ++ m) (r ∙ ap (λ (m : List ℕ). c ++ m) (s ∙ ap (λ (m : List ℕ). d ++ m) t)))
+    ∙ sym (five a b c d e x5)
 
 -- bytes are the text of the header that they begin with, and the rest
 pub header_bytes-header_of : (bytes : List ℕ) → IsBytes bytes → 16 ≤ length bytes → bytes ≡ header_bytes (header_of bytes) ++ drop 16 bytes
 header_bytes-header_of bytes each long =
-    joined (bytes_le (field 0 4 bytes) 4) (bytes_le (field 4 2 bytes) 2) (bytes_le (field 6 2 bytes) 2) (bytes_le (field 8 4 bytes) 4) (bytes_le (field 12 4 bytes) 4)
+    joined (bytes_le (field 0 4 bytes) 4) (bytes_le (field 4 2 bytes) 2) (bytes_le (field 6 2 bytes) 2) (bytes_le (field 8 4 bytes) 4)
+    (bytes_le (field 12 4 bytes) 4)
     bytes (drop 4 bytes) (drop 6 bytes) (drop 8 bytes) (drop 12 bytes) (drop 16 bytes)
     (split_number 4 bytes each (omega arith)) (next_number 4 2 bytes each (omega arith)) (next_number 6 2 bytes each (omega arith))
     (next_number 8 4 bytes each (omega arith)) (next_number 12 4 bytes each (omega arith))
@@ -86,9 +91,11 @@ behind-begins bytes h payload b = ap (drop 16) b.whole ∙ drop-header_bytes h (
 pub payload-begins : (bytes : List ℕ) (h : NetlinkHeader) (payload : List ℕ) → Begins bytes h payload → payload_of bytes ≡ payload
 payload-begins bytes h payload b =
     let size : field 0 4 bytes - 16 ≡ length payload = omega (arith, length-begins bytes h payload b) in
-    ap (λ (n : ℕ). take n (drop 16 bytes)) size ∙ ap (take (length payload)) (behind-begins bytes h payload b) ∙ take_at payload b.rest _ refl
+    ap (λ (n : ℕ). take n (drop 16 bytes)) size ∙ ap (take (length payload)) (behind-begins bytes h payload b)
+    ∙ take_at payload b.rest _ refl
 
-pub size-begins : (bytes : List ℕ) (h : NetlinkHeader) (payload : List ℕ) (b : Begins bytes h payload) → length bytes ≡ 16 + (length payload + length b.rest)
+pub size-begins : (bytes : List ℕ) (h : NetlinkHeader) (payload : List ℕ) (b : Begins bytes h payload)
+    → length bytes ≡ 16 + (length payload + length b.rest)
 size-begins bytes h payload b =
     ap length b.whole ∙ length-append (header_bytes h) (payload ++ b.rest)
     ∙ ap (λ (n : ℕ). n + length (payload ++ b.rest)) (length-header_bytes h) ∙ ap (λ (n : ℕ). 16 + n) (length-append payload b.rest)
@@ -100,7 +107,8 @@ begins-holds bytes h payload b =
     record { header = omega arith; least = omega arith; most = omega arith }
 
 pub same_start : (bytes : List ℕ) (h g : NetlinkHeader) (p q : List ℕ) → Begins bytes h p → Begins bytes g q → (h ≡ g) × (p ≡ q)
-same_start bytes h g p q a b = (sym (header-begins bytes h p a) ∙ header-begins bytes g q b, sym (payload-begins bytes h p a) ∙ payload-begins bytes g q b)
+same_start bytes h g p q a b =
+    (sym (header-begins bytes h p a) ∙ header-begins bytes g q b, sym (payload-begins bytes h p a) ∙ payload-begins bytes g q b)
 
 -- what follows a whole frame is no part of what the bytes begin with
 pub begins-before : (bytes more : List ℕ) (h : NetlinkHeader) (payload : List ℕ) → Begins bytes h payload → Begins (bytes ++ more) h payload
@@ -112,14 +120,17 @@ begins-before bytes more h payload b = record {
   in_range = b.in_range;
 }
 
-pub begins-front : (bytes more : List ℕ) (h : NetlinkHeader) (payload : List ℕ) → HoldsFrame bytes → Begins (bytes ++ more) h payload → Begins bytes h payload
+pub begins-front : (bytes more : List ℕ) (h : NetlinkHeader) (payload : List ℕ) → HoldsFrame bytes → Begins (bytes ++ more) h payload
+    → Begins bytes h payload
 begins-front bytes more h payload holds b =
     let text : List ℕ = header_bytes h ++ payload in
     let size : length text ≡ 16 + length payload = length-header_and h payload in
-    let said : field 0 4 bytes ≡ 16 + length payload = ap number_le (sym (take-append-le 4 bytes more (omega (arith, holds.header)))) ∙ length-begins (bytes ++ more) h payload b in
+    let said : field 0 4 bytes ≡ 16 + length payload =
+    ap number_le (sym (take-append-le 4 bytes more (omega (arith, holds.header)))) ∙ length-begins (bytes ++ more) h payload b in
     let within : length text ≤ length bytes = omega (arith, holds.most) in
     let taken : take (length text) bytes ≡ text =
-    sym (take-append-le (length text) bytes more within) ∙ ap (take (length text)) (b.whole ∙ sym (append_assoc (header_bytes h) payload b.rest)) ∙ take_at text b.rest _ refl in
+    sym (take-append-le (length text) bytes more within)
+    ∙ ap (take (length text)) (b.whole ∙ sym (append_assoc (header_bytes h) payload b.rest)) ∙ take_at text b.rest _ refl in
     record {
       rest = drop (length text) bytes;
       whole = sym (take-append-drop (length text) bytes) ∙ ap (λ (s : List ℕ). s ++ drop (length text) bytes) taken

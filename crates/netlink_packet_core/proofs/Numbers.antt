@@ -8,7 +8,8 @@ use Rattle.netlink_packet_core.specs.Payload.{code_bytes}
 use Rattle.netlink_packet_core.specs.Frame.{IsCodeAndRest}
 
 -- the size of a payload that has a code
-pub length-code_and_rest : (payload : List ℕ) (code : ℤ) (rest : List ℕ) → IsCodeAndRest payload code rest → length payload ≡ 4 + length rest
+pub length-code_and_rest : (payload : List ℕ) (code : ℤ) (rest : List ℕ) → IsCodeAndRest payload code rest
+    → length payload ≡ 4 + length rest
 length-code_and_rest payload code rest is = ap length is.whole ∙ length-code (unsigned 4 code) rest
 
 -- a code reads back from its text
@@ -17,7 +18,8 @@ code-code_bytes code fits =
     ap (signed 4) (number_le-bytes_le (unsigned 4 code) 4 (unsigned-fits 3 code fits)) ∙ signed-unsigned 3 code fits
 
 -- the four bytes in front are a code's text
-pub code_of-front : (payload : List ℕ) → IsBytes payload → 4 ≤ length payload → IsCodeAndRest payload (signed 4 (number_le (take 4 payload))) (drop 4 payload)
+pub code_of-front : (payload : List ℕ) → IsBytes payload → 4 ≤ length payload
+    → IsCodeAndRest payload (signed 4 (number_le (take 4 payload))) (drop 4 payload)
 code_of-front payload each long =
     let fits : number_le (take 4 payload) < 256 ^ 4 = front-fits 4 payload each long in
     record {

@@ -38,12 +38,14 @@ overrun_read : (payload : List ℕ) (e : DecodeError) → IsOverrunFault payload
 overrun_read payload OutOfMemory fault = refl
 overrun_read payload _ fault = absurd fault
 
-inner_read : {I E : Type 0} (decoding : Decoding I) (wants : E → Bool) (h : NetlinkHeader) (payload : List ℕ) (pair : ℕ × List ℕ) (e : DecodeError) → decoding.reading h payload ≡ Some pair → IsInnerFault decoding wants h payload e → e ≡ OutOfMemory
+inner_read : {I E : Type 0} (decoding : Decoding I) (wants : E → Bool) (h : NetlinkHeader) (payload : List ℕ) (pair : ℕ × List ℕ)
+    (e : DecodeError) → decoding.reading h payload ≡ Some pair → IsInnerFault decoding wants h payload e → e ≡ OutOfMemory
 inner_read decoding wants h payload pair (Message text) gives fault = let none : decoding.reading h payload ≡ None = fault.0 in cc
 inner_read decoding wants h payload pair OutOfMemory gives fault = refl
 inner_read decoding wants h payload pair _ gives fault = absurd fault
 
-body_read : {I E : Type 0} (decoding : Decoding I) (wants : E → Bool) (h : NetlinkHeader) (payload : List ℕ) (x : NetlinkPayload I) (e : DecodeError) → Body decoding h payload x → IsBodyFault decoding wants h payload e → e ≡ OutOfMemory
+body_read : {I E : Type 0} (decoding : Decoding I) (wants : E → Bool) (h : NetlinkHeader) (payload : List ℕ) (x : NetlinkPayload I)
+    (e : DecodeError) → Body decoding h payload x → IsBodyFault decoding wants h payload e → e ≡ OutOfMemory
 body_read decoding wants h payload Noop e is (inl fault) = absurd (omega (arith, is, fault.0))
 body_read decoding wants h payload Noop e is (inr (inl fault)) = absurd (omega (arith, is, fault.0))
 body_read decoding wants h payload Noop e is (inr (inr (inl fault))) = absurd (omega (arith, is, fault.0))
@@ -66,19 +68,24 @@ body_read decoding wants h payload (InnerMessage v) e is (inr (inr (inl fault)))
 body_read decoding wants h payload (InnerMessage v) e is (inr (inr (inr fault))) = inner_read decoding wants h payload _ e is.2 fault.1
 
 -- the refusal of bytes that begin with a header and a payload is the payload's
-pub body_refusal : {I E : Type 0} (decoding : Decoding I) (wants : E → Bool) (bytes : List ℕ) (h : NetlinkHeader) (payload : List ℕ) (e : DecodeError) → Begins bytes h payload → IsRefusal decoding wants bytes e → IsBodyFault decoding wants h payload e
-body_refusal decoding wants bytes h payload e begins (inl fault) = absurd (no_frame_fault true bytes e (begins-holds bytes h payload begins) fault)
+pub body_refusal : {I E : Type 0} (decoding : Decoding I) (wants : E → Bool) (bytes : List ℕ) (h : NetlinkHeader) (payload : List ℕ)
+    (e : DecodeError) → Begins bytes h payload → IsRefusal decoding wants bytes e → IsBodyFault decoding wants h payload e
+body_refusal decoding wants bytes h payload e begins (inl fault) =
+    absurd (no_frame_fault true bytes e (begins-holds bytes h payload begins) fault)
 body_refusal decoding wants bytes h payload e begins (inr (g, p, start, fault)) =
     let same = same_start bytes g h p payload start begins in
-    subst (λ (k : NetlinkHeader). IsBodyFault decoding wants k payload e) same.0 (subst (λ (q : List ℕ). IsBodyFault decoding wants g q e) same.1 fault)
+    subst (λ (k : NetlinkHeader). IsBodyFault decoding wants k payload e) same.0
+    (subst (λ (q : List ℕ). IsBodyFault decoding wants g q e) same.1 fault)
 
 -- a frame is refused for want of memory alone
-pub frame_refused : {I E : Type 0} (decoding : Decoding I) (wants : E → Bool) (bytes : List ℕ) (m : NetlinkMessage I) (e : DecodeError) → Frame decoding bytes m → IsRefusal decoding wants bytes e → e ≡ OutOfMemory
+pub frame_refused : {I E : Type 0} (decoding : Decoding I) (wants : E → Bool) (bytes : List ℕ) (m : NetlinkMessage I) (e : DecodeError)
+    → Frame decoding bytes m → IsRefusal decoding wants bytes e → e ≡ OutOfMemory
 frame_refused decoding wants bytes m e (payload, begins, body) refusal =
     body_read decoding wants m.header payload m.payload e body (body_refusal decoding wants bytes m.header payload e begins refusal)
 
 -- where nothing is copied and the protocol is not asked, memory is not wanted
-nothing_wanted : {I E : Type 0} (decoding : Decoding I) (wants : E → Bool) (h : NetlinkHeader) (payload : List ℕ) → HasNothingToCopy h.message_type payload → IsBodyFault decoding wants h payload OutOfMemory → ⊥
+nothing_wanted : {I E : Type 0} (decoding : Decoding I) (wants : E → Bool) (h : NetlinkHeader) (payload : List ℕ)
+    → HasNothingToCopy h.message_type payload → IsBodyFault decoding wants h payload OutOfMemory → ⊥
 nothing_wanted decoding wants h payload (inl a) (inl b) = omega (arith, a, b.0)
 nothing_wanted decoding wants h payload (inl a) (inr (inl b)) = omega (arith, a, b.0)
 nothing_wanted decoding wants h payload (inl a) (inr (inr (inl b))) = omega (arith, a, b.0)
@@ -96,10 +103,13 @@ nothing_wanted decoding wants h payload (inr (inr (inr a))) (inr (inl b)) = omeg
 nothing_wanted decoding wants h payload (inr (inr (inr a))) (inr (inr (inl b))) = omega (arith, ap length a.1, b.1)
 nothing_wanted decoding wants h payload (inr (inr (inr a))) (inr (inr (inr b))) = b.0.3 a.0
 
-pub no_memory_wanted : {I E : Type 0} (decoding : Decoding I) (wants : E → Bool) (bytes : List ℕ) (e : DecodeError) → AsksNoMemory bytes → IsRefusal decoding wants bytes e → e ≡ OutOfMemory → ⊥
+pub no_memory_wanted : {I E : Type 0} (decoding : Decoding I) (wants : E → Bool) (bytes : List ℕ) (e : DecodeError) → AsksNoMemory bytes
+    → IsRefusal decoding wants bytes e → e ≡ OutOfMemory → ⊥
 no_memory_wanted decoding wants bytes e asks_none (inl fault) memory = subst (IsFrameFault true bytes) memory fault
 no_memory_wanted decoding wants bytes e asks_none (inr (h, p, begins, fault)) memory =
     let nothing = asks_none (begins-holds bytes h p begins) in
-    let of_header : HasNothingToCopy h.message_type (payload_of bytes) = subst (λ (k : NetlinkHeader). HasNothingToCopy k.message_type (payload_of bytes)) (header-begins bytes h p begins) nothing in
-    let of_payload : HasNothingToCopy h.message_type p = subst (HasNothingToCopy h.message_type) (payload-begins bytes h p begins) of_header in
+    let of_header : HasNothingToCopy h.message_type (payload_of bytes) =
+    subst (λ (k : NetlinkHeader). HasNothingToCopy k.message_type (payload_of bytes)) (header-begins bytes h p begins) nothing in
+    let of_payload : HasNothingToCopy h.message_type p =
+    subst (HasNothingToCopy h.message_type) (payload-begins bytes h p begins) of_header in
     nothing_wanted decoding wants h p of_payload (subst (IsBodyFault decoding wants h p) memory fault)

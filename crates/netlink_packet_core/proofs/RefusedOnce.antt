@@ -24,14 +24,16 @@ frame_fault_once bytes (FrameLength said inside) (FrameLength said' inside') (a,
 frame_fault_once bytes (FrameLength said inside) _ p q = absurd q
 frame_fault_once bytes _ f p q = absurd p
 
-error_fault_once : (payload : List ℕ) (e f : DecodeError) → IsErrorFault payload e → IsErrorFault payload f → e ≢ OutOfMemory → f ≢ OutOfMemory → SameRefusal e f
+error_fault_once : (payload : List ℕ) (e f : DecodeError) → IsErrorFault payload e → IsErrorFault payload f → e ≢ OutOfMemory
+    → f ≢ OutOfMemory → SameRefusal e f
 error_fault_once payload OutOfMemory f p q known known' = absurd (known refl)
 error_fault_once payload (ErrorShort size inside) OutOfMemory p q known known' = absurd (known' refl)
 error_fault_once payload (ErrorShort size inside) (ErrorShort size' inside') (a, b, c) (a', b', c') known known' = cc
 error_fault_once payload (ErrorShort size inside) _ p q known known' = absurd q
 error_fault_once payload _ f p q known known' = absurd p
 
-done_fault_once : (payload : List ℕ) (e f : DecodeError) → IsDoneFault payload e → IsDoneFault payload f → e ≢ OutOfMemory → f ≢ OutOfMemory → SameRefusal e f
+done_fault_once : (payload : List ℕ) (e f : DecodeError) → IsDoneFault payload e → IsDoneFault payload f → e ≢ OutOfMemory → f ≢ OutOfMemory
+    → SameRefusal e f
 done_fault_once payload OutOfMemory f p q known known' = absurd (known refl)
 done_fault_once payload (DoneShort size inside) OutOfMemory p q known known' = absurd (known' refl)
 done_fault_once payload (DoneShort size inside) (DoneShort size' inside') (a, b, c, d) (a', b', c', d') known known' = cc
@@ -42,14 +44,18 @@ overrun_fault_once : (payload : List ℕ) (e f : DecodeError) → IsOverrunFault
 overrun_fault_once payload OutOfMemory f p known = absurd (known refl)
 overrun_fault_once payload _ f p known = absurd p
 
-inner_fault_once : {I E : Type 0} (decoding : Decoding I) (wants : E → Bool) (h : NetlinkHeader) (payload : List ℕ) (e f : DecodeError) → IsInnerFault decoding wants h payload e → IsInnerFault decoding wants h payload f → e ≢ OutOfMemory → f ≢ OutOfMemory → SameRefusal e f
+inner_fault_once : {I E : Type 0} (decoding : Decoding I) (wants : E → Bool) (h : NetlinkHeader) (payload : List ℕ) (e f : DecodeError)
+    → IsInnerFault decoding wants h payload e → IsInnerFault decoding wants h payload f → e ≢ OutOfMemory → f ≢ OutOfMemory
+    → SameRefusal e f
 inner_fault_once decoding wants h payload OutOfMemory f p q known known' = absurd (known refl)
 inner_fault_once decoding wants h payload (Message a) OutOfMemory p q known known' = absurd (known' refl)
-inner_fault_once decoding wants h payload (Message a) (Message b) (none, (r, is)) (none', (s, is')) known known' = (h.message_type, r, s, is, is')
+inner_fault_once decoding wants h payload (Message a) (Message b) (none, (r, is)) (none', (s, is')) known known' =
+    (h.message_type, r, s, is, is')
 inner_fault_once decoding wants h payload (Message a) _ p q known known' = absurd q
 inner_fault_once decoding wants h payload _ f p q known known' = absurd p
 
-body_fault_once : {I E : Type 0} (decoding : Decoding I) (wants : E → Bool) (h : NetlinkHeader) (payload : List ℕ) (e f : DecodeError) → IsBodyFault decoding wants h payload e → IsBodyFault decoding wants h payload f → e ≢ OutOfMemory → f ≢ OutOfMemory → SameRefusal e f
+body_fault_once : {I E : Type 0} (decoding : Decoding I) (wants : E → Bool) (h : NetlinkHeader) (payload : List ℕ) (e f : DecodeError)
+    → IsBodyFault decoding wants h payload e → IsBodyFault decoding wants h payload f → e ≢ OutOfMemory → f ≢ OutOfMemory → SameRefusal e f
 body_fault_once decoding wants h payload e f (inl a) (inl b) known known' = error_fault_once payload e f a.1 b.1 known known'
 body_fault_once decoding wants h payload e f (inl a) (inr (inl b)) known known' = absurd (omega (arith, a.0, b.0))
 body_fault_once decoding wants h payload e f (inl a) (inr (inr (inl b))) known known' = absurd (omega (arith, a.0, b.0))
@@ -62,10 +68,13 @@ body_fault_once decoding wants h payload e f (inr (inr (inl a))) q known known' 
 body_fault_once decoding wants h payload e f (inr (inr (inr a))) (inl b) known known' = absurd (a.0.1 b.0)
 body_fault_once decoding wants h payload e f (inr (inr (inr a))) (inr (inl b)) known known' = absurd (a.0.2 b.0)
 body_fault_once decoding wants h payload e f (inr (inr (inr a))) (inr (inr (inl b))) known known' = absurd (a.0.3 b.0)
-body_fault_once decoding wants h payload e f (inr (inr (inr a))) (inr (inr (inr b))) known known' = inner_fault_once decoding wants h payload e f a.1 b.1 known known'
+body_fault_once decoding wants h payload e f (inr (inr (inr a))) (inr (inr (inr b))) known known' =
+    inner_fault_once decoding wants h payload e f a.1 b.1 known known'
 
-pub refusal_once : {I E : Type 0} (decoding : Decoding I) (wants : E → Bool) (bytes : List ℕ) (e f : DecodeError) → IsRefusal decoding wants bytes e → IsRefusal decoding wants bytes f → e ≢ OutOfMemory → f ≢ OutOfMemory → SameRefusal e f
+pub refusal_once : {I E : Type 0} (decoding : Decoding I) (wants : E → Bool) (bytes : List ℕ) (e f : DecodeError)
+    → IsRefusal decoding wants bytes e → IsRefusal decoding wants bytes f → e ≢ OutOfMemory → f ≢ OutOfMemory → SameRefusal e f
 refusal_once decoding wants bytes e f (inl a) (inl b) known known' = frame_fault_once bytes e f a b
-refusal_once decoding wants bytes e f (inl a) (inr (h, p, begins, b)) known known' = absurd (no_frame_fault true bytes e (begins-holds bytes h p begins) a)
+refusal_once decoding wants bytes e f (inl a) (inr (h, p, begins, b)) known known' =
+    absurd (no_frame_fault true bytes e (begins-holds bytes h p begins) a)
 refusal_once decoding wants bytes e f (inr (h, p, begins, a)) q known known' =
     body_fault_once decoding wants h p e f a (body_refusal decoding wants bytes h p f begins q) known known'

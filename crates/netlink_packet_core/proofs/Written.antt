@@ -16,15 +16,19 @@ use Rattle.netlink_packet_core.specs.declared.payload.NetlinkPayload.TheVariants
 -- the laws of a protocol, over its members
 pub record Laws {I : Type 0} (eq : I → I → Bool) (encoding : Encoding I) (decoding : Decoding I) : Type 0 where
   pub own_pair : (v : I) → decoding.stands_for v ≡ (encoding.type_of v, encoding.bytes_of v)
-  pub equal_pairs : (v w : I) → IsTrue (decoding.in_range v) → IsTrue (decoding.in_range w) → (eq v w ≡ true) ↔ (decoding.stands_for v ≡ decoding.stands_for w)
+  pub equal_pairs : (v w : I) → IsTrue (decoding.in_range v) → IsTrue (decoding.in_range w)
+      → (eq v w ≡ true) ↔ (decoding.stands_for v ≡ decoding.stands_for w)
   pub value_is_lawful : (v : I) → IsTrue (decoding.in_range v) → IsLawful decoding (decoding.stands_for v)
 
 -- a value's own type and text are lawful
-own_is_lawful : {I : Type 0} {eq : I → I → Bool} {encoding : Encoding I} {decoding : Decoding I} → Laws eq encoding decoding → (v : I) → IsTrue (decoding.in_range v) → IsLawful decoding (encoding.type_of v, encoding.bytes_of v)
+own_is_lawful : {I : Type 0} {eq : I → I → Bool} {encoding : Encoding I} {decoding : Decoding I} → Laws eq encoding decoding → (v : I)
+    → IsTrue (decoding.in_range v) → IsLawful decoding (encoding.type_of v, encoding.bytes_of v)
 own_is_lawful {decoding = decoding} laws v in_range = subst (IsLawful decoding) (laws.own_pair v) (laws.value_is_lawful v in_range)
 
 -- a payload's text reads as the payload, in a header of its type and size
-body_of : {I : Type 0} {eq : I → I → Bool} {encoding : Encoding I} {decoding : Decoding I} → Laws eq encoding decoding → (x : NetlinkPayload I) → PayloadInRange x → InnerInRange decoding x → (h : NetlinkHeader) → h.message_type ≡ payload_type encoding x → h.length ≡ 16 + length (payload_bytes encoding x) → Body decoding h (payload_bytes encoding x) x
+body_of : {I : Type 0} {eq : I → I → Bool} {encoding : Encoding I} {decoding : Decoding I} → Laws eq encoding decoding
+    → (x : NetlinkPayload I) → PayloadInRange x → InnerInRange decoding x → (h : NetlinkHeader) → h.message_type ≡ payload_type encoding x
+    → h.length ≡ 16 + length (payload_bytes encoding x) → Body decoding h (payload_bytes encoding x) x
 body_of laws (Done m) r i h kind size = (kind, inr (record { whole = refl; in_range = r }))
 body_of laws (Error m) r i h kind size = (kind, record { whole = refl; in_range = r })
 body_of laws Noop r i h kind size = kind
@@ -33,7 +37,8 @@ body_of laws (InnerMessage v) r i h kind size =
     let own = own_is_lawful laws v i in
     (subst IsOwnType (sym kind) own.own_type, i, own.again h kind size ∙ ap Some (sym (laws.own_pair v)))
 
-type_fits : {I : Type 0} {eq : I → I → Bool} {encoding : Encoding I} {decoding : Decoding I} → Laws eq encoding decoding → (x : NetlinkPayload I) → InnerInRange decoding x → payload_type encoding x < 2 ^ 16
+type_fits : {I : Type 0} {eq : I → I → Bool} {encoding : Encoding I} {decoding : Decoding I} → Laws eq encoding decoding
+    → (x : NetlinkPayload I) → InnerInRange decoding x → payload_type encoding x < 2 ^ 16
 type_fits laws (Done m) i = omega arith
 type_fits laws (Error m) i = omega arith
 type_fits laws Noop i = omega arith
@@ -41,7 +46,8 @@ type_fits laws (Overrun bytes) i = omega arith
 type_fits laws (InnerMessage v) i = (own_is_lawful laws v i).width
 
 -- the header of a finalized message is in range
-finalized_in_range : {I : Type 0} {eq : I → I → Bool} {encoding : Encoding I} {decoding : Decoding I} → Laws eq encoding decoding → (m : NetlinkMessage I) → Fits encoding m → InnerInRange decoding m.payload → HeaderInRange (finalized encoding m).header
+finalized_in_range : {I : Type 0} {eq : I → I → Bool} {encoding : Encoding I} {decoding : Decoding I} → Laws eq encoding decoding
+    → (m : NetlinkMessage I) → Fits encoding m → InnerInRange decoding m.payload → HeaderInRange (finalized encoding m).header
 finalized_in_range laws m fits i = record {
   length = fits.size;
   message_type = type_fits laws m.payload i;
@@ -51,7 +57,9 @@ finalized_in_range laws m fits i = record {
 }
 
 -- what is written reads back, whatever follows
-pub reads_before : {I : Type 0} {eq : I → I → Bool} {encoding : Encoding I} {decoding : Decoding I} → Laws eq encoding decoding → (m : NetlinkMessage I) → Fits encoding m → InnerInRange decoding m.payload → (more : List ℕ) → Frame decoding (canonical_frame encoding m ++ more) (finalized encoding m)
+pub reads_before : {I : Type 0} {eq : I → I → Bool} {encoding : Encoding I} {decoding : Decoding I} → Laws eq encoding decoding
+    → (m : NetlinkMessage I) → Fits encoding m → InnerInRange decoding m.payload → (more : List ℕ)
+    → Frame decoding (canonical_frame encoding m ++ more) (finalized encoding m)
 reads_before {encoding = encoding} laws m fits i more =
     let h = (finalized encoding m).header in (
       payload_bytes encoding m.payload,
@@ -65,16 +73,25 @@ reads_before {encoding = encoding} laws m fits i more =
     )
 
 -- what a payload's type says of the size of its text
-sizes : {I : Type 0} {eq : I → I → Bool} {encoding : Encoding I} {decoding : Decoding I} → Laws eq encoding decoding → (x : NetlinkPayload I) → InnerInRange decoding x → (payload_type encoding x ≡ 1 → length (payload_bytes encoding x) ≡ 0) × (payload_type encoding x ≡ 2 → 4 ≤ length (payload_bytes encoding x)) × (payload_type encoding x ≡ 3 → 4 ≤ length (payload_bytes encoding x))
-sizes laws (Done m) i = let size = length-code (unsigned 4 m.code) m.extended_ack.items in (λ e. absurd (omega arith), λ e. omega arith, λ e. omega arith)
-sizes laws (Error m) i = let size = length-code (unsigned 4 (raw_code m.code)) m.header.items in (λ e. absurd (omega arith), λ e. omega arith, λ e. absurd (omega arith))
+sizes : {I : Type 0} {eq : I → I → Bool} {encoding : Encoding I} {decoding : Decoding I} → Laws eq encoding decoding
+    → (x : NetlinkPayload I) → InnerInRange decoding x
+    → (payload_type encoding x ≡ 1 → length (payload_bytes encoding x) ≡ 0)
+    × (payload_type encoding x ≡ 2 → 4 ≤ length (payload_bytes encoding x))
+    × (payload_type encoding x ≡ 3 → 4 ≤ length (payload_bytes encoding x))
+sizes laws (Done m) i = let size = length-code (unsigned 4 m.code) m.extended_ack.items in
+    (λ e. absurd (omega arith), λ e. omega arith, λ e. omega arith)
+sizes laws (Error m) i = let size = length-code (unsigned 4 (raw_code m.code)) m.header.items in
+    (λ e. absurd (omega arith), λ e. omega arith, λ e. absurd (omega arith))
 sizes laws Noop i = (λ e. refl, λ e. absurd (omega arith), λ e. absurd (omega arith))
 sizes laws (Overrun bytes) i = (λ e. absurd (omega arith), λ e. absurd (omega arith), λ e. absurd (omega arith))
 sizes laws (InnerMessage v) i =
     let own = (own_is_lawful laws v i).own_type in (λ e. absurd (own.0 e), λ e. absurd (own.1 e), λ e. absurd (own.2 e))
 
 -- a payload of the protocol's own type reads as itself
-own_reads : {I : Type 0} {eq : I → I → Bool} {encoding : Encoding I} {decoding : Decoding I} → Laws eq encoding decoding → (x : NetlinkPayload I) → InnerInRange decoding x → (h : NetlinkHeader) → h.message_type ≡ payload_type encoding x → h.length ≡ 16 + length (payload_bytes encoding x) → IsOwnType h.message_type → decoding.reading h (payload_bytes encoding x) ≡ Some (payload_type encoding x, payload_bytes encoding x)
+own_reads : {I : Type 0} {eq : I → I → Bool} {encoding : Encoding I} {decoding : Decoding I} → Laws eq encoding decoding
+    → (x : NetlinkPayload I) → InnerInRange decoding x → (h : NetlinkHeader) → h.message_type ≡ payload_type encoding x
+    → h.length ≡ 16 + length (payload_bytes encoding x) → IsOwnType h.message_type
+    → decoding.reading h (payload_bytes encoding x) ≡ Some (payload_type encoding x, payload_bytes encoding x)
 own_reads laws (Done m) i h kind size own = absurd (own.2 kind)
 own_reads laws (Error m) i h kind size own = absurd (own.1 kind)
 own_reads laws Noop i h kind size own = absurd (own.0 kind)
@@ -89,7 +106,8 @@ pub record IsCanonicalBody {I : Type 0} (decoding : Decoding I) (h : NetlinkHead
   pub own : IsOwnType h.message_type → decoding.reading h payload ≡ Some (h.message_type, payload)
 
 -- a header, and a payload of its length of which the grammar says so, are a canonical frame
-canonical_from : {I : Type 0} (decoding : Decoding I) (h : NetlinkHeader) (payload : List ℕ) → HeaderInRange h → h.length ≡ 16 + length payload → IsCanonicalBody decoding h payload → IsCanonicalFrame decoding (header_bytes h ++ payload)
+canonical_from : {I : Type 0} (decoding : Decoding I) (h : NetlinkHeader) (payload : List ℕ) → HeaderInRange h
+    → h.length ≡ 16 + length payload → IsCanonicalBody decoding h payload → IsCanonicalFrame decoding (header_bytes h ++ payload)
 canonical_from decoding h payload in_range says body =
     let bytes : List ℕ = header_bytes h ++ payload in
     let head : header_of bytes ≡ h = header_of-header_bytes h payload in_range in
@@ -103,12 +121,15 @@ canonical_from decoding h payload in_range says body =
       noop = λ e. size ∙ ap (λ (n : ℕ). 16 + n) (body.noop (sym kind ∙ e));
       error = λ e. let four = body.error (sym kind ∙ e) in omega arith;
       done = λ e. let four = body.done (sym kind ∙ e) in omega arith;
-      own = subst (λ (j : NetlinkHeader). IsOwnType j.message_type → decoding.reading j (drop 16 bytes) ≡ Some (j.message_type, drop 16 bytes)) (sym head)
+      own =
+          subst (λ (j : NetlinkHeader). IsOwnType j.message_type
+          → decoding.reading j (drop 16 bytes) ≡ Some (j.message_type, drop 16 bytes)) (sym head)
           (subst (λ (q : List ℕ). IsOwnType h.message_type → decoding.reading h q ≡ Some (h.message_type, q)) (sym rest) body.own);
     }
 
 -- what is written is canonical
-pub written_is_canonical : {I : Type 0} {eq : I → I → Bool} {encoding : Encoding I} {decoding : Decoding I} → Laws eq encoding decoding → (m : NetlinkMessage I) → Fits encoding m → InnerInRange decoding m.payload → IsCanonicalFrame decoding (canonical_frame encoding m)
+pub written_is_canonical : {I : Type 0} {eq : I → I → Bool} {encoding : Encoding I} {decoding : Decoding I} → Laws eq encoding decoding
+    → (m : NetlinkMessage I) → Fits encoding m → InnerInRange decoding m.payload → IsCanonicalFrame decoding (canonical_frame encoding m)
 written_is_canonical {encoding = encoding} {decoding = decoding} laws m fits i =
     let h : NetlinkHeader = (finalized encoding m).header in
     let of_type = sizes laws m.payload i in
@@ -116,7 +137,8 @@ written_is_canonical {encoding = encoding} {decoding = decoding} laws m fits i =
     (record { noop = of_type.0; error = of_type.1; done = of_type.2; own = own_reads laws m.payload i h refl refl })
 
 -- and so are a lawful type and text, in any header of theirs
-pub lawful_is_canonical : {I : Type 0} (decoding : Decoding I) (pair : ℕ × List ℕ) → IsLawful decoding pair → (h : NetlinkHeader) → HeaderInRange h → h.message_type ≡ pair.0 → h.length ≡ 16 + length pair.1 → IsCanonicalFrame decoding (header_bytes h ++ pair.1)
+pub lawful_is_canonical : {I : Type 0} (decoding : Decoding I) (pair : ℕ × List ℕ) → IsLawful decoding pair → (h : NetlinkHeader)
+    → HeaderInRange h → h.message_type ≡ pair.0 → h.length ≡ 16 + length pair.1 → IsCanonicalFrame decoding (header_bytes h ++ pair.1)
 lawful_is_canonical decoding pair lawful h in_range kind size =
     canonical_from decoding h pair.1 in_range size
     (record {
@@ -127,7 +149,9 @@ lawful_is_canonical decoding pair lawful h in_range kind size =
     })
 
 -- messages of one finalized header and one payload text are written alike
-pub written_from : {I : Type 0} (encoding : Encoding I) (m n : NetlinkMessage I) → (finalized encoding m).header ≡ (finalized encoding n).header → payload_bytes encoding m.payload ≡ payload_bytes encoding n.payload → canonical_frame encoding m ≡ canonical_frame encoding n
+pub written_from : {I : Type 0} (encoding : Encoding I) (m n : NetlinkMessage I)
+    → (finalized encoding m).header ≡ (finalized encoding n).header → payload_bytes encoding m.payload ≡ payload_bytes encoding n.payload
+    → canonical_frame encoding m ≡ canonical_frame encoding n
 written_from encoding m n h t =
     ap (λ (j : NetlinkHeader). header_bytes j ++ payload_bytes encoding m.payload) h
     ∙ ap (λ (text : List ℕ). header_bytes (finalized encoding n).header ++ text) t

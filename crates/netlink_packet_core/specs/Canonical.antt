@@ -18,11 +18,18 @@ pub record Fits {I : Type 0} (encoding : Encoding I) (m : NetlinkMessage I) : Ty
 -- the message with that length and with its payload's type
 abbrev pub finalized : {I : Type 0} → Encoding I → NetlinkMessage I → NetlinkMessage I
 finalized encoding m =
-    record m { header = record m.header { length = 16 + length (payload_bytes encoding m.payload); message_type = payload_type encoding m.payload } }
+    record m {
+      header = record m.header {
+        length = 16 + length (payload_bytes encoding m.payload);
+        message_type = payload_type
+            encoding m.payload;
+      };
+    }
 
 -- what is written of a message
 abbrev pub canonical_frame : {I : Type 0} → Encoding I → NetlinkMessage I → List ℕ
-canonical_frame encoding m = header_bytes (finalized encoding m).header ++ payload_bytes encoding m.payload
+canonical_frame encoding m =
+    header_bytes (finalized encoding m).header ++ payload_bytes encoding m.payload
 
 -- bytes that are a canonical frame: they are as long as they say, type 1 has no payload,
 -- types 2 and 3 have a code, and any other but 4 has a payload that reads as itself
@@ -32,7 +39,8 @@ pub record IsCanonicalFrame {I : Type 0} (decoding : Decoding I) (bytes : List �
   pub noop : field 4 2 bytes ≡ 1 → length bytes ≡ 16
   pub error : field 4 2 bytes ≡ 2 → 20 ≤ length bytes
   pub done : field 4 2 bytes ≡ 3 → 20 ≤ length bytes
-  pub own : IsOwnType (field 4 2 bytes) → decoding.reading (header_of bytes) (drop 16 bytes) ≡ Some (field 4 2 bytes, drop 16 bytes)
+  pub own : IsOwnType (field 4 2 bytes)
+      → decoding.reading (header_of bytes) (drop 16 bytes) ≡ Some (field 4 2 bytes, drop 16 bytes)
 
 -- a message whose length does not fit 32 bits
 abbrev pub IsTooLong : {I : Type 0} → Encoding I → NetlinkMessage I → Type 0
@@ -40,7 +48,8 @@ IsTooLong encoding m = 2 ^ 32 ≤ 16 + length (payload_bytes encoding m.payload)
 
 -- why bytes have no canonical frame: they are refused, or they are the frame of a message that is
 -- too long, or memory was refused for the canonical frame of one that fits
-abbrev pub IsNormalizeFault : {I E : Type 0} → Encoding I → Decoding I → (E → Bool) → List ℕ → DecodeError → Type 0
+abbrev pub IsNormalizeFault : {I E : Type 0} → Encoding I → Decoding I → (E → Bool) → List ℕ
+    → DecodeError → Type 0
 IsNormalizeFault {I} encoding decoding wants_memory bytes e =
     IsRefusal decoding wants_memory bytes e
     ⊎ (((e ≡ TooLong) × ((m : NetlinkMessage I) × Frame decoding bytes m × IsTooLong encoding m))

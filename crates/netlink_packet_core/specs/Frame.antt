@@ -32,7 +32,8 @@ Body decoding h payload (Error m) = (h.message_type ≡ 2) × IsError payload m
 Body decoding h payload (Done m) = (h.message_type ≡ 3) × IsDone payload m
 Body decoding h payload (Overrun bytes) = (h.message_type ≡ 4) × (bytes.items ≡ payload)
 Body decoding h payload (InnerMessage v) =
-    IsOwnType h.message_type × IsTrue (decoding.in_range v) × (decoding.reading h payload ≡ Some (decoding.stands_for v))
+    IsOwnType h.message_type × IsTrue (decoding.in_range v)
+    × (decoding.reading h payload ≡ Some (decoding.stands_for v))
 
 -- bytes begin with this header and this payload, whatever follows
 pub record Begins (bytes : List ℕ) (h : NetlinkHeader) (payload : List ℕ) : Type 0 where
@@ -43,13 +44,17 @@ pub record Begins (bytes : List ℕ) (h : NetlinkHeader) (payload : List ℕ) : 
 
 -- bytes begin with the frame of a message, whatever follows
 abbrev pub Frame : {I : Type 0} → Decoding I → List ℕ → NetlinkMessage I → Type 0
-Frame decoding bytes m = (payload : List ℕ) × Begins bytes m.header payload × Body decoding m.header payload m.payload
+Frame decoding bytes m =
+    (payload : List ℕ) × Begins bytes m.header payload × Body decoding m.header payload m.payload
 
 -- payloads say the same, an inner one to its protocol
 abbrev pub SamePayload : {I : Type 0} → Decoding I → NetlinkPayload I → NetlinkPayload I → Type 0
 SamePayload decoding Noop Noop = Unit {0}
-SamePayload decoding (Error m) (Error n) = (raw_code m.code ≡ raw_code n.code) × (m.header.items ≡ n.header.items)
-SamePayload decoding (Done m) (Done n) = (m.code ≡ n.code) × (m.extended_ack.items ≡ n.extended_ack.items)
+SamePayload decoding (Error m) (Error n) =
+    (raw_code m.code ≡ raw_code n.code) × (m.header.items ≡ n.header.items)
+SamePayload decoding (Done m) (Done n) =
+    (m.code ≡ n.code) × (m.extended_ack.items ≡ n.extended_ack.items)
 SamePayload decoding (Overrun a) (Overrun b) = a.items ≡ b.items
-SamePayload decoding (InnerMessage v) (InnerMessage w) = decoding.stands_for v ≡ decoding.stands_for w
+SamePayload decoding (InnerMessage v) (InnerMessage w) =
+    decoding.stands_for v ≡ decoding.stands_for w
 SamePayload decoding _ _ = ⊥

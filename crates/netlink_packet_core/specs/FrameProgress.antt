@@ -26,7 +26,8 @@ pub passes_frames_end : (bytes : List ℕ) (done : List (List ℕ)) (rest : List
     → PassesFrames bytes done rest → rest ≡ [] → FrameWalk bytes done None
 passes_frames_end = passed_ends StartsFrame (IsFrameFault false)
 
-pub passes_frames_fault : (bytes : List ℕ) (done : List (List ℕ)) (rest : List ℕ) (fault : DecodeError)
+pub passes_frames_fault : (bytes : List ℕ) (done : List (List ℕ)) (rest : List ℕ)
+    (fault : DecodeError)
     → PassesFrames bytes done rest → rest ≢ [] → IsFrameFault false rest fault
     → FrameWalk bytes done (Some fault)
 passes_frames_fault = passed_faults StartsFrame (IsFrameFault false)
@@ -34,7 +35,8 @@ passes_frames_fault = passed_faults StartsFrame (IsFrameFault false)
 -- what the rest walks as is what the bytes walk as behind these frames
 pub passes_frames_walk : (bytes : List ℕ) (done : List (List ℕ)) (rest : List ℕ)
     (more : List (List ℕ)) (fault : Option DecodeError)
-    → PassesFrames bytes done rest → FrameWalk rest more fault → FrameWalk bytes (done ++ more) fault
+    → PassesFrames bytes done rest → FrameWalk rest more fault
+    → FrameWalk bytes (done ++ more) fault
 passes_frames_walk = passed_walks StartsFrame (IsFrameFault false)
 
 -- and these frames are the front of any walk of the bytes

@@ -21,7 +21,8 @@ pub starts_frame-field : (bytes frame rest : List ℕ) → StartsFrame bytes fra
     → field 0 4 bytes ≡ length frame
 starts_frame-field bytes frame rest starts =
     let least = starts.least in
-    ap (field 0 4) starts.whole ∙ field-append frame (starts.gap ++ rest) (omega arith) ∙ starts.size
+    ap (field 0 4) starts.whole ∙ field-append frame (starts.gap ++ rest) (omega arith)
+    ∙ starts.size
 
 pub starts_frame-frame_of : (bytes frame rest : List ℕ) → StartsFrame bytes frame rest
     → frame_of bytes ≡ frame
@@ -45,19 +46,31 @@ starts_frame-rest bytes frame rest starts =
     let front = length-append frame starts.gap in
     let size = starts_frame-length bytes frame rest starts in
     elim starts.gap_size [
-      | inl full ↦ sym (ap (drop end) (starts.whole ∙ sym (append_assoc frame starts.gap rest)) ∙ drop_at (frame ++ starts.gap) rest end (omega arith))
-      | inr short ↦ (let none : length rest ≡ 0 = ap length short.1 in short.1 ∙ sym (drop_all end bytes (omega arith)))
+      | inl full ↦ sym (ap (drop end) (starts.whole ∙ sym (append_assoc frame starts.gap rest))
+          ∙ drop_at (frame ++ starts.gap) rest end (omega arith))
+      | inr short ↦ (let none : length rest ≡ 0 = ap length short.1 in
+          short.1 ∙ sym (drop_all end bytes (omega arith)))
     ]
 
 pub no_frame_starts : (bytes frame rest : List ℕ) → bytes ≡ [] → StartsFrame bytes frame rest → ⊥
-no_frame_starts bytes frame rest none starts = omega (arith, starts.least, starts_frame-length bytes frame rest starts, ap length none)
+no_frame_starts bytes frame rest none starts =
+    omega (arith, starts.least, starts_frame-length bytes frame rest starts, ap length none)
 
 -- bytes that start with a frame have no fault
 pub starts_frame-fault : (bytes frame rest : List ℕ) (fault : DecodeError)
     → StartsFrame bytes frame rest → IsFrameFault false bytes fault → ⊥
-starts_frame-fault bytes frame rest (FrameShort size inside) starts is = omega (arith, is.0, starts.least, starts_frame-length bytes frame rest starts)
-starts_frame-fault bytes frame rest (FrameCut said size inside) starts is = omega (arith, is.1, starts_frame-length bytes frame rest starts, starts_frame-field bytes frame rest starts)
-starts_frame-fault bytes frame rest (FrameLength said inside) starts is = omega (arith, is.1, starts.least, starts_frame-field bytes frame rest starts)
+starts_frame-fault bytes frame rest (FrameShort size inside) starts is =
+    omega (arith, is.0, starts.least, starts_frame-length bytes frame rest starts)
+starts_frame-fault bytes frame rest (FrameCut said size inside) starts is =
+    omega (
+      arith,
+      is.1,
+      starts_frame-length bytes frame rest starts,
+      starts_frame-field bytes frame
+          rest starts,
+    )
+starts_frame-fault bytes frame rest (FrameLength said inside) starts is =
+    omega (arith, is.1, starts.least, starts_frame-field bytes frame rest starts)
 starts_frame-fault bytes frame rest _ starts is = is
 
 -- and bytes have one fault at most
@@ -84,16 +97,20 @@ part_and_rest : (start end : ℕ) (bytes : List ℕ) → start ≤ end
     → bytes ≡ take start bytes ++ (take (end - start) (drop start bytes) ++ drop end bytes)
 part_and_rest start end bytes order =
     let whole : start + (end - start) ≡ end = omega arith in
-    let last : drop (end - start) (drop start bytes) ≡ drop end bytes = drop-drop (end - start) start bytes ∙ ap (λ (k : ℕ). drop k bytes) whole in
+    let last : drop (end - start) (drop start bytes) ≡ drop end bytes =
+    drop-drop (end - start) start bytes ∙ ap (λ (k : ℕ). drop k bytes) whole in
     let behind : drop start bytes ≡ take (end - start) (drop start bytes) ++ drop end bytes =
-    sym (take-append-drop (end - start) (drop start bytes)) ∙ ap (λ (rest : List ℕ). take (end - start) (drop start bytes) ++ rest) last in
+    sym (take-append-drop (end - start) (drop start bytes))
+    ∙ ap (λ (rest : List ℕ). take (end - start) (drop start bytes) ++ rest) last in
     sym (take-append-drop start bytes) ∙ ap (λ (rest : List ℕ). take start bytes ++ rest) behind
 
 -- the gap before the next multiple of 4, or to the end of the bytes
 gap_sizes : (field end size : ℕ) → field ≤ size → field ≤ end → end < field + 4 → end % 4 ≡ 0
-    → (min (end - field) (size - field) ≡ padding field) ⊎ ((min (end - field) (size - field) < padding field) × (size ≤ end))
+    → (min (end - field) (size - field) ≡ padding field)
+    ⊎ ((min (end - field) (size - field) < padding field) × (size ≤ end))
 gap_sizes field end size most low high multiple =
-    elim (cases_lt size end) [ inl short ↦ inr (omega arith, omega arith) | inr full ↦ inl (omega arith) ]
+    elim (cases_lt size end)
+    [ inl short ↦ inr (omega arith, omega arith) | inr full ↦ inl (omega arith) ]
 
 pub length-frame_of : (bytes : List ℕ) → HoldsFrame bytes
     → length (frame_of bytes) ≡ field 0 4 bytes
@@ -117,7 +134,9 @@ starts_frame_held bytes end holds low high multiple =
     let said : ℕ = field 0 4 bytes in
     let size : length (frame_of bytes) ≡ said = length-frame_of bytes holds in
     let gap : List ℕ = take (end - said) (drop said bytes) in
-    let taken : length gap ≡ min (end - said) (length bytes - said) = length-take (end - said) (drop said bytes) ∙ ap (min (end - said)) (length-drop said bytes) in
+    let taken : length gap ≡ min (end - said) (length bytes - said) =
+    length-take (end - said) (drop said bytes)
+    ∙ ap (min (end - said)) (length-drop said bytes) in
     record {
       size = field-frame_of bytes holds;
       least = omega (arith, holds.least, size);

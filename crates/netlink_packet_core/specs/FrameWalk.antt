@@ -13,7 +13,8 @@ pub record StartsFrame (bytes frame rest : List ℕ) : Type 0 where
   pub least : 16 ≤ length frame
   pub gap : List ℕ
   pub whole : bytes ≡ frame ++ (gap ++ rest)
-  pub gap_size : (length gap ≡ padding (length frame)) ⊎ ((length gap < padding (length frame)) × (rest ≡ []))
+  pub gap_size : (length gap ≡ padding (length frame))
+      ⊎ ((length gap < padding (length frame)) × (rest ≡ []))
 
 -- the bytes are these frames one after another, and then nothing or one fault
 abbrev pub FrameWalk : List ℕ → List (List ℕ) → Option DecodeError → Type 0

@@ -24,10 +24,17 @@ use Rattle.netlink_packet_core.specs.declared.message.NetlinkMessage.{NetlinkMes
 
 -- bytes start with one frame and one rest
 pub starts_frame_once : (bytes frame other : List ℕ) (rest behind : List ℕ)
-    → StartsFrame bytes frame rest → StartsFrame bytes other behind → (frame ≡ other) × (rest ≡ behind)
+    → StartsFrame bytes frame rest → StartsFrame bytes other behind
+    → (frame ≡ other) × (rest ≡ behind)
 starts_frame_once bytes frame other rest behind starts begins =
-    let same : frame ≡ other = sym (starts_frame-frame_of bytes frame rest starts) ∙ starts_frame-frame_of bytes other behind begins in
-    (same, starts_frame-rest bytes frame rest starts ∙ ap (λ (c : List ℕ). drop (length c + padding (length c)) bytes) same ∙ sym (starts_frame-rest bytes other behind begins))
+    let same : frame ≡ other =
+    sym (starts_frame-frame_of bytes frame rest starts)
+    ∙ starts_frame-frame_of bytes other behind begins in (
+      same,
+      starts_frame-rest bytes frame rest starts
+          ∙ ap (λ (c : List ℕ). drop (length c + padding (length c)) bytes) same
+          ∙ sym (starts_frame-rest bytes other behind begins),
+    )
 
 -- what a walk takes of its steps
 pub frame_steps_laws : StepLaws StartsFrame (IsFrameFault false)
@@ -60,8 +67,16 @@ next_frame bytes any some =
           | inr least ↦
               let end : ℕ = (said + 3) / 4 * 4 in
               let left : length (drop end bytes) ≡ length bytes - end = length-drop end bytes in
-              let holds : HoldsFrame bytes = record { header = header; least = least; most = most } in
-              inr (frame_of bytes, drop end bytes, starts_frame_held bytes end holds (omega arith) (omega arith) (omega arith), tt, omega arith)
+              let holds : HoldsFrame bytes =
+              record { header = header; least = least; most = most } in
+              inr (
+                frame_of bytes,
+                drop end bytes,
+                starts_frame_held bytes end holds (omega arith)
+                    (omega arith) (omega arith),
+                tt,
+                omega arith,
+              )
         ]
       ]
     ]
@@ -72,7 +87,8 @@ has_frames bytes = has_one StartsFrame (IsFrameFault false) Anything next_frame 
 
 -- ---- each frame of it
 
-pub starts_frame-whole : (bytes frame rest : List ℕ) → StartsFrame bytes frame rest → IsWholeFrame frame
+pub starts_frame-whole : (bytes frame rest : List ℕ) → StartsFrame bytes frame rest
+    → IsWholeFrame frame
 starts_frame-whole bytes frame rest starts = record { size = starts.size; least = starts.least }
 
 -- a whole frame holds itself whole
@@ -86,21 +102,26 @@ whole_holds frame is =
 pub each_whole : (bytes : List ℕ) (all : List (List ℕ)) (fault : Option DecodeError)
     → FrameWalk bytes all fault → All IsWholeFrame all
 each_whole bytes [] fault walk k d inside = absurd (omega arith)
-each_whole bytes (f ∷ more) fault (rest, starts, walk) zero d inside = starts_frame-whole bytes f rest starts
-each_whole bytes (f ∷ more) fault (rest, starts, walk) (suc k) d inside = each_whole rest more fault walk k d (omega arith)
+each_whole bytes (f ∷ more) fault (rest, starts, walk) zero d inside =
+    starts_frame-whole bytes f rest starts
+each_whole bytes (f ∷ more) fault (rest, starts, walk) (suc k) d inside =
+    each_whole rest more fault walk k d (omega arith)
 
 pub each_holds : (bytes : List ℕ) (all : List (List ℕ)) (fault : Option DecodeError)
     → FrameWalk bytes all fault → All HoldsFrame all
 each_holds bytes [] fault walk k d inside = absurd (omega arith)
-each_holds bytes (f ∷ more) fault (rest, starts, walk) zero d inside = starts_frame-holds bytes f rest starts
-each_holds bytes (f ∷ more) fault (rest, starts, walk) (suc k) d inside = each_holds rest more fault walk k d (omega arith)
+each_holds bytes (f ∷ more) fault (rest, starts, walk) zero d inside =
+    starts_frame-holds bytes f rest starts
+each_holds bytes (f ∷ more) fault (rest, starts, walk) (suc k) d inside =
+    each_holds rest more fault walk k d (omega arith)
 
 -- ---- what is written
 
 -- a canonical frame is a whole one
 pub canonical_whole : {I : Type 0} (decoding : Decoding I) (bytes : List ℕ)
     → IsCanonicalFrame decoding bytes → IsWholeFrame bytes
-canonical_whole decoding bytes canonical = record { size = canonical.whole; least = canonical.header }
+canonical_whole decoding bytes canonical =
+    record { size = canonical.whole; least = canonical.header }
 
 length-said : (h : NetlinkHeader) (more : List ℕ) → h.length < 2 ^ 32
     → field 0 4 (header_bytes h ++ more) ≡ h.length
@@ -139,7 +160,8 @@ written_frames_walk (frame ∷ more) each = (
 
 -- and as nothing else
 pub written_frames_once : (all found : List (List ℕ)) (fault : Option DecodeError)
-    → All IsWholeFrame all → FrameWalk (datagram_of all) found fault → (found ≡ all) × (fault ≡ None)
+    → All IsWholeFrame all → FrameWalk (datagram_of all) found fault
+    → (found ≡ all) × (fault ≡ None)
 written_frames_once all found fault each walk =
     frames_once (datagram_of all) found all fault None walk (written_frames_walk all each)
 
@@ -147,7 +169,8 @@ written_frames_once all found fault each walk =
 pub written_frames_alike : (x y : List (List ℕ)) → All IsWholeFrame x → All IsWholeFrame y
     → (datagram_of x ≡ datagram_of y) ↔ (x ≡ y)
 written_frames_alike x y each other = (
-  λ same. (written_frames_once y x None other (subst (λ (b : List ℕ). FrameWalk b x None) same (written_frames_walk x each))).0,
+  λ same. (written_frames_once y x None other
+      (subst (λ (b : List ℕ). FrameWalk b x None) same (written_frames_walk x each))).0,
   λ same. ap datagram_of same,
 )
 
@@ -160,7 +183,8 @@ datagram_push (first ∷ done) frame =
     ∙ sym (append_assoc (padded_frame first) (datagram_of done) (padded_frame frame))
 
 -- one frame with its padding
-pub one_frame : (frame : List ℕ) → IsWholeFrame frame → FrameWalk (padded_frame frame) (frame ∷ []) None
+pub one_frame : (frame : List ℕ) → IsWholeFrame frame
+    → FrameWalk (padded_frame frame) (frame ∷ []) None
 one_frame frame is =
     subst (λ (b : List ℕ). FrameWalk b (frame ∷ []) None) (append-nil (padded_frame frame))
     ([], starts_padded_frame frame [] is, refl)
@@ -175,7 +199,8 @@ aligned_join : (bytes frame rest after : List ℕ) → IsAligned bytes → Start
     → StartsFrame (bytes ++ after) frame (rest ++ after) × IsAligned rest
 aligned_join bytes frame rest after aligned starts =
     let size = starts_frame-length bytes frame rest starts in
-    let sizes : (length starts.gap ≡ padding (length frame)) × IsAligned rest = elim starts.gap_size [
+    let sizes : (length starts.gap ≡ padding (length frame)) × IsAligned rest =
+    elim starts.gap_size [
       | inl full ↦ (full, omega arith)
       | inr short ↦ (let none : length rest ≡ 0 = ap length short.1 in absurd (omega arith))
     ] in (
@@ -183,7 +208,10 @@ aligned_join bytes frame rest after aligned starts =
         size = starts.size;
         least = starts.least;
         gap = starts.gap;
-        whole = ap (λ (front : List ℕ). front ++ after) starts.whole ∙ append_assoc frame (starts.gap ++ rest) after ∙ ap (λ (x : List ℕ). frame ++ x) (append_assoc starts.gap rest after);
+        whole =
+            ap (λ (front : List ℕ). front ++ after) starts.whole
+            ∙ append_assoc frame (starts.gap ++ rest) after
+            ∙ ap (λ (x : List ℕ). frame ++ x) (append_assoc starts.gap rest after);
         gap_size = inl sizes.0;
       },
       sizes.1,
@@ -209,7 +237,8 @@ padded_aligned frame =
     let missing : ℕ = padding (length frame) in
     let zeros : List ℕ = replicate missing 0 in
     let size : length zeros ≡ missing = length-replicate missing 0 in
-    let whole : length (padded_frame frame) ≡ length frame + length zeros = length-append frame zeros in
+    let whole : length (padded_frame frame) ≡ length frame + length zeros =
+    length-append frame zeros in
     omega (arith, size, whole)
 
 -- and so is what is written of frames

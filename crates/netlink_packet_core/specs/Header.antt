@@ -6,7 +6,8 @@ use Rattle.netlink_packet_core.specs.declared.header.NetlinkHeader.{NetlinkHeade
 -- the five fields in their order, 16 bytes
 abbrev pub header_bytes : NetlinkHeader → List ℕ
 header_bytes h =
-    bytes_le h.length 4 ++ (bytes_le h.message_type 2 ++ (bytes_le h.flags 2 ++ (bytes_le h.sequence_number 4 ++ bytes_le h.port_number 4)))
+    bytes_le h.length 4 ++ (bytes_le h.message_type 2
+    ++ (bytes_le h.flags 2 ++ (bytes_le h.sequence_number 4 ++ bytes_le h.port_number 4)))
 
 -- each field is a number of its width
 pub record HeaderInRange (h : NetlinkHeader) : Type 0 where
@@ -24,7 +25,8 @@ pub record IsHeader (bytes : List ℕ) (h : NetlinkHeader) : Type 0 where
 
 -- a header of five zeros
 abbrev pub default_header : NetlinkHeader
-default_header = record { length = 0; message_type = 0; flags = 0; sequence_number = 0; port_number = 0 }
+default_header =
+    record { length = 0; message_type = 0; flags = 0; sequence_number = 0; port_number = 0 }
 
 -- the number of w bytes at a place
 abbrev pub field : ℕ → ℕ → List ℕ → ℕ

@@ -22,4 +22,5 @@ IsOwnType t = (t ≢ 1) × (t ≢ 2) × (t ≢ 3) × (t ≢ 4)
 pub record IsLawful {I : Type 0} (decoding : Decoding I) (pair : ℕ × List ℕ) : Type 0 where
   pub own_type : IsOwnType pair.0
   pub width : pair.0 < 2 ^ 16
-  pub again : (h : NetlinkHeader) → h.message_type ≡ pair.0 → h.length ≡ 16 + length pair.1 → decoding.reading h pair.1 ≡ Some pair
+  pub again : (h : NetlinkHeader) → h.message_type ≡ pair.0 → h.length ≡ 16 + length pair.1
+      → decoding.reading h pair.1 ≡ Some pair

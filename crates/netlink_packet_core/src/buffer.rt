@@ -123,8 +123,10 @@ impl<T: StorageMut> NetlinkBuffer<T> {
     #[inline]
     pub fn set_length(&mut self, value: u32)
         requires field { 4 ≤ length (T.contents self.old.buffer) }
-        ensures bytes { T.contents self.new.buffer ≡ put_at (T.contents self.old.buffer) 0 (bytes_le value 4) }
-        ensures same_storage { self.new.buffer ≡ T.with_contents self.old.buffer (put_at (T.contents self.old.buffer) 0 (bytes_le value 4)) }
+        ensures bytes { T.contents self.new.buffer
+            ≡ put_at (T.contents self.old.buffer) 0 (bytes_le value 4) }
+        ensures same_storage { self.new.buffer ≡ T.with_contents self.old.buffer
+            (put_at (T.contents self.old.buffer) 0 (bytes_le value 4)) }
     {
         put_u32(self.buffer.bytes_mut(), 0, value);
     }
@@ -133,8 +135,10 @@ impl<T: StorageMut> NetlinkBuffer<T> {
     #[inline]
     pub fn set_message_type(&mut self, value: u16)
         requires field { 6 ≤ length (T.contents self.old.buffer) }
-        ensures bytes { T.contents self.new.buffer ≡ put_at (T.contents self.old.buffer) 4 (bytes_le value 2) }
-        ensures same_storage { self.new.buffer ≡ T.with_contents self.old.buffer (put_at (T.contents self.old.buffer) 4 (bytes_le value 2)) }
+        ensures bytes { T.contents self.new.buffer
+            ≡ put_at (T.contents self.old.buffer) 4 (bytes_le value 2) }
+        ensures same_storage { self.new.buffer ≡ T.with_contents self.old.buffer
+            (put_at (T.contents self.old.buffer) 4 (bytes_le value 2)) }
     {
         put_u16(self.buffer.bytes_mut(), 4, value);
     }
@@ -143,8 +147,10 @@ impl<T: StorageMut> NetlinkBuffer<T> {
     #[inline]
     pub fn set_flags(&mut self, value: u16)
         requires field { 8 ≤ length (T.contents self.old.buffer) }
-        ensures bytes { T.contents self.new.buffer ≡ put_at (T.contents self.old.buffer) 6 (bytes_le value 2) }
-        ensures same_storage { self.new.buffer ≡ T.with_contents self.old.buffer (put_at (T.contents self.old.buffer) 6 (bytes_le value 2)) }
+        ensures bytes { T.contents self.new.buffer
+            ≡ put_at (T.contents self.old.buffer) 6 (bytes_le value 2) }
+        ensures same_storage { self.new.buffer ≡ T.with_contents self.old.buffer
+            (put_at (T.contents self.old.buffer) 6 (bytes_le value 2)) }
     {
         put_u16(self.buffer.bytes_mut(), 6, value);
     }
@@ -154,8 +160,10 @@ impl<T: StorageMut> NetlinkBuffer<T> {
     #[inline]
     pub fn set_sequence_number(&mut self, value: u32)
         requires field { 12 ≤ length (T.contents self.old.buffer) }
-        ensures bytes { T.contents self.new.buffer ≡ put_at (T.contents self.old.buffer) 8 (bytes_le value 4) }
-        ensures same_storage { self.new.buffer ≡ T.with_contents self.old.buffer (put_at (T.contents self.old.buffer) 8 (bytes_le value 4)) }
+        ensures bytes { T.contents self.new.buffer
+            ≡ put_at (T.contents self.old.buffer) 8 (bytes_le value 4) }
+        ensures same_storage { self.new.buffer ≡ T.with_contents self.old.buffer
+            (put_at (T.contents self.old.buffer) 8 (bytes_le value 4)) }
     {
         put_u32(self.buffer.bytes_mut(), 8, value);
     }
@@ -164,8 +172,10 @@ impl<T: StorageMut> NetlinkBuffer<T> {
     #[inline]
     pub fn set_port_number(&mut self, value: u32)
         requires field { 16 ≤ length (T.contents self.old.buffer) }
-        ensures bytes { T.contents self.new.buffer ≡ put_at (T.contents self.old.buffer) 12 (bytes_le value 4) }
-        ensures same_storage { self.new.buffer ≡ T.with_contents self.old.buffer (put_at (T.contents self.old.buffer) 12 (bytes_le value 4)) }
+        ensures bytes { T.contents self.new.buffer
+            ≡ put_at (T.contents self.old.buffer) 12 (bytes_le value 4) }
+        ensures same_storage { self.new.buffer ≡ T.with_contents self.old.buffer
+            (put_at (T.contents self.old.buffer) 12 (bytes_le value 4)) }
     {
         put_u32(self.buffer.bytes_mut(), 12, value);
     }
@@ -174,7 +184,11 @@ impl<T: StorageMut> NetlinkBuffer<T> {
     /// and no others. The storage has to hold a whole frame, as `new_checked` tests.
     pub fn payload_mut(&mut self) -> &mut [u8]
         requires whole { HoldsFrame (T.contents self.old.buffer) }
-        ensures* writes_back { sem 𝓛 (Lends (the_row T.row) (Array byte 0) self.entry result (λ part. record { buffer = T.with_contents self.old.buffer (put_at (T.contents self.old.buffer) 16 part) })) }
+        ensures* writes_back { sem 𝓛 (Lends (the_row T.row) (Array byte 0) self.entry result
+            (λ part. record {
+              buffer = T.with_contents self.old.buffer
+                  (put_at (T.contents self.old.buffer) 16 part);
+            })) }
         ensures value { result.now ≡ payload_of (T.contents self.old.buffer) }
     {
         let end = self.length() as usize;

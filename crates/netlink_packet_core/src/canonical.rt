@@ -23,19 +23,26 @@ use std::alloc::Global;
 /// frame.
 pub fn normalize<I: NetlinkProtocol>(alloc: Global, bytes: &[u8]) -> Result<Vec<u8>, DecodeError>
     // The answer is the canonical frame of the message that the bytes are the frame of.
-    ensures accepts { IfOk result (λ v. (m : NetlinkMessage I) × Frame I.decoding bytes.now m × Fits I.encoding m × (v.items ≡ canonical_frame I.encoding m)) }
+    ensures accepts { IfOk result
+        (λ v. (m : NetlinkMessage I) × Frame I.decoding bytes.now m × Fits I.encoding m
+        × (v.items ≡ canonical_frame I.encoding m)) }
     ensures writes { (m : NetlinkMessage I) → Frame I.decoding bytes.now m → Fits I.encoding m
         → MatchResult result (λ v. v.items ≡ canonical_frame I.encoding m) (λ e. e ≡ DecodeError.OutOfMemory) }
     // `TooLong` is the answer exactly where the message does not fit; `OutOfMemory` there is the
     // reading's alone.
-    ensures too_long { (m : NetlinkMessage I) → Frame I.decoding bytes.now m → IsTooLong I.encoding m
+    ensures too_long { (m : NetlinkMessage I) → Frame I.decoding bytes.now m
+        → IsTooLong I.encoding m
         → IsErrAnd result (λ e. (e ≡ DecodeError.TooLong) ⊎ ((e ≡ DecodeError.OutOfMemory) × IsRefusal I.decoding I.wants_memory bytes.now e)) }
     ensures refuses { IfErr result (IsNormalizeFault I.encoding I.decoding I.wants_memory bytes.now) }
     // Only the answer itself is the canonical frame of a message that the answer is the frame of.
-    ensures again { IfOk result (λ v. (n : NetlinkMessage I) → Frame I.decoding v.items n → canonical_frame I.encoding n ≡ v.items) }
+    ensures again { IfOk result
+        (λ v. (n : NetlinkMessage I) → Frame I.decoding v.items n
+        → canonical_frame I.encoding n ≡ v.items) }
     // The answer is the input exactly if the input is canonical.
-    ensures fixed { IsCanonicalFrame I.decoding bytes.now → MatchResult result (λ v. v.items ≡ bytes.now) (λ e. e ≡ DecodeError.OutOfMemory) }
-    ensures only_fixed { IfOk result (λ v. v.items ≡ bytes.now → IsCanonicalFrame I.decoding bytes.now) }
+    ensures fixed { IsCanonicalFrame I.decoding bytes.now
+        → MatchResult result (λ v. v.items ≡ bytes.now) (λ e. e ≡ DecodeError.OutOfMemory) }
+    ensures only_fixed { IfOk result
+        (λ v. v.items ≡ bytes.now → IsCanonicalFrame I.decoding bytes.now) }
 {
     let message = NetlinkMessage::<I>::deserialize(alloc, bytes)?;
     message.into_frame(alloc)
@@ -80,7 +87,9 @@ fn reads_as_itself<I: NetlinkProtocol>(
     header: &NetlinkHeader,
     payload: &[u8],
 ) -> Result<bool, DecodeError>
-    ensures says { IfOk result (λ yes. IsTrue yes ↔ (I.decoding.reading header.now payload.now ≡ Some (header.now.message_type, payload.now))) }
+    ensures says { IfOk result
+        (λ yes. IsTrue yes ↔ (I.decoding.reading header.now payload.now
+        ≡ Some (header.now.message_type, payload.now))) }
     ensures memory { IfErr result (λ e. e ≡ DecodeError.OutOfMemory) }
 {
     match I::deserialize(alloc, header, payload) {

@@ -36,7 +36,9 @@ impl<T: Storage> DoneBuffer<T> {
     pub fn new_checked(buffer: T) -> Result<Self, DecodeError>
         ensures keeps { IfOk result (λ view. view.buffer ≡ buffer) }
         ensures whole { OnOk result (4 ≤ length (T.contents buffer)) }
-        ensures refuses { IfErr result (λ e. (length (T.contents buffer) < 4) × (e ≡ DecodeError.DoneShort (length (T.contents buffer)) false)) }
+        ensures refuses { IfErr result
+            (λ e. (length (T.contents buffer) < 4)
+            × (e ≡ DecodeError.DoneShort (length (T.contents buffer)) false)) }
     {
         let size = buffer.bytes().len();
         if size < 4 {
@@ -92,8 +94,10 @@ impl<T: StorageMut> DoneBuffer<T> {
     #[inline]
     pub fn set_code(&mut self, code: i32)
         requires field { 4 ≤ length (T.contents self.old.buffer) }
-        ensures bytes { T.contents self.new.buffer ≡ put_at (T.contents self.old.buffer) 0 (code_bytes code) }
-        ensures same_storage { self.new.buffer ≡ T.with_contents self.old.buffer (put_at (T.contents self.old.buffer) 0 (code_bytes code)) }
+        ensures bytes { T.contents self.new.buffer
+            ≡ put_at (T.contents self.old.buffer) 0 (code_bytes code) }
+        ensures same_storage { self.new.buffer ≡ T.with_contents self.old.buffer
+            (put_at (T.contents self.old.buffer) 0 (code_bytes code)) }
     {
         put_i32(self.buffer.bytes_mut(), 0, code);
     }
@@ -102,7 +106,11 @@ impl<T: StorageMut> DoneBuffer<T> {
     /// bytes at least.
     pub fn extended_ack_mut(&mut self) -> &mut [u8]
         requires field { 4 ≤ length (T.contents self.old.buffer) }
-        ensures* writes_back { sem 𝓛 (Lends (the_row T.row) (Array byte 0) self.entry result (λ part. record { buffer = T.with_contents self.old.buffer (put_at (T.contents self.old.buffer) 4 part) })) }
+        ensures* writes_back { sem 𝓛 (Lends (the_row T.row) (Array byte 0) self.entry result
+            (λ part. record {
+              buffer = T.with_contents self.old.buffer
+                  (put_at (T.contents self.old.buffer) 4 part);
+            })) }
         ensures value { result.now ≡ drop 4 (T.contents self.old.buffer) }
     {
         let end = self.buffer.bytes().len();

@@ -38,7 +38,9 @@ impl<T: Storage> ErrorBuffer<T> {
     pub fn new_checked(buffer: T) -> Result<Self, DecodeError>
         ensures keeps { IfOk result (λ view. view.buffer ≡ buffer) }
         ensures whole { OnOk result (4 ≤ length (T.contents buffer)) }
-        ensures refuses { IfErr result (λ e. (length (T.contents buffer) < 4) × (e ≡ DecodeError.ErrorShort (length (T.contents buffer)) false)) }
+        ensures refuses { IfErr result
+            (λ e. (length (T.contents buffer) < 4)
+            × (e ≡ DecodeError.ErrorShort (length (T.contents buffer)) false)) }
     {
         let size = buffer.bytes().len();
         if size < 4 {
@@ -71,7 +73,9 @@ impl<T: Storage> ErrorBuffer<T> {
     #[inline]
     pub fn code(&self) -> Option<NonZeroI32>
         requires field { 4 ≤ length (T.contents self.now.buffer) }
-        ensures number { MatchOption result (signed 4 (field 0 4 (T.contents self.now.buffer)) ≡ pos 0) (λ code. number_of code ≡ signed 4 (field 0 4 (T.contents self.now.buffer))) }
+        ensures number { MatchOption result
+            (signed 4 (field 0 4 (T.contents self.now.buffer)) ≡ pos 0)
+            (λ code. number_of code ≡ signed 4 (field 0 4 (T.contents self.now.buffer))) }
     {
         NonZeroI32::new(i32_at(self.buffer.bytes(), 0))
     }
@@ -95,8 +99,10 @@ impl<T: StorageMut> ErrorBuffer<T> {
     #[inline]
     pub fn set_code(&mut self, code: i32)
         requires field { 4 ≤ length (T.contents self.old.buffer) }
-        ensures bytes { T.contents self.new.buffer ≡ put_at (T.contents self.old.buffer) 0 (code_bytes code) }
-        ensures same_storage { self.new.buffer ≡ T.with_contents self.old.buffer (put_at (T.contents self.old.buffer) 0 (code_bytes code)) }
+        ensures bytes { T.contents self.new.buffer
+            ≡ put_at (T.contents self.old.buffer) 0 (code_bytes code) }
+        ensures same_storage { self.new.buffer ≡ T.with_contents self.old.buffer
+            (put_at (T.contents self.old.buffer) 0 (code_bytes code)) }
     {
         put_i32(self.buffer.bytes_mut(), 0, code);
     }
@@ -105,7 +111,11 @@ impl<T: StorageMut> ErrorBuffer<T> {
     /// lent for writing; no others change. The storage has to hold 4 bytes at least.
     pub fn payload_mut(&mut self) -> &mut [u8]
         requires field { 4 ≤ length (T.contents self.old.buffer) }
-        ensures* writes_back { sem 𝓛 (Lends (the_row T.row) (Array byte 0) self.entry result (λ part. record { buffer = T.with_contents self.old.buffer (put_at (T.contents self.old.buffer) 4 part) })) }
+        ensures* writes_back { sem 𝓛 (Lends (the_row T.row) (Array byte 0) self.entry result
+            (λ part. record {
+              buffer = T.with_contents self.old.buffer
+                  (put_at (T.contents self.old.buffer) 4 part);
+            })) }
         ensures value { result.now ≡ drop 4 (T.contents self.old.buffer) }
     {
         let end = self.buffer.bytes().len();
@@ -161,7 +171,8 @@ impl ErrorMessage {
     pub fn try_clone(&self, alloc: Global) -> Result<Self, DecodeError>
         ensures code { IfOk result (λ copy. copy.code ≡ self.now.code) }
         ensures bytes { IfOk result (λ copy. copy.header.items ≡ self.now.header.items) }
-        ensures equal { IfOk result (λ copy. IsTrue (⟦<ErrorMessage as PartialEq>⟧.eq copy self.now)) }
+        ensures equal { IfOk result
+            (λ copy. IsTrue (⟦<ErrorMessage as PartialEq>⟧.eq copy self.now)) }
         ensures memory { IfErr result (λ e. e ≡ DecodeError.OutOfMemory) }
         ensures empty { OnErr result (0 < length self.now.header.items) }
     {

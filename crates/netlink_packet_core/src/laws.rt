@@ -45,14 +45,18 @@ fn known<I: NetlinkProtocol>(payload: &NetlinkPayload<I>)
 
 /// Two views are equal exactly if their storages are, by `==`.
 pub fn message_views_equal<T: Storage + PartialEq>()
-    ensures message { (a b : NetlinkBuffer T) → ⟦<NetlinkBuffer<T> as PartialEq>⟧.eq a b ≡ T.eq a.buffer b.buffer }
-    ensures done { (a b : DoneBuffer T) → ⟦<DoneBuffer<T> as PartialEq>⟧.eq a b ≡ T.eq a.buffer b.buffer }
-    ensures error { (a b : ErrorBuffer T) → ⟦<ErrorBuffer<T> as PartialEq>⟧.eq a b ≡ T.eq a.buffer b.buffer }
+    ensures message { (a b : NetlinkBuffer T)
+        → ⟦<NetlinkBuffer<T> as PartialEq>⟧.eq a b ≡ T.eq a.buffer b.buffer }
+    ensures done { (a b : DoneBuffer T)
+        → ⟦<DoneBuffer<T> as PartialEq>⟧.eq a b ≡ T.eq a.buffer b.buffer }
+    ensures error { (a b : ErrorBuffer T)
+        → ⟦<ErrorBuffer<T> as PartialEq>⟧.eq a b ≡ T.eq a.buffer b.buffer }
 {}
 
 /// Two headers are equal exactly if they are the same value.
 pub fn headers_equal()
-    ensures equal { (a b : NetlinkHeader) → IsTrue (⟦<NetlinkHeader as PartialEq>⟧.eq a b) ↔ (a ≡ b) }
+    ensures equal { (a b : NetlinkHeader)
+        → IsTrue (⟦<NetlinkHeader as PartialEq>⟧.eq a b) ↔ (a ≡ b) }
 {}
 
 /// Two done messages, and two error messages, are equal exactly if their codes and their bytes are.
@@ -78,13 +82,17 @@ pub fn messages_equal<I: NetlinkProtocol>()
 
 /// Bytes are the frame of one message at most, by `==`, and have one canonical frame at most.
 pub fn frame_unique<I: NetlinkProtocol>()
-    ensures unique { (bytes : List ℕ) (m n : NetlinkMessage I) → Frame I.decoding bytes m → Frame I.decoding bytes n
+    ensures unique { (bytes : List ℕ) (m n : NetlinkMessage I) → Frame I.decoding bytes m
+        → Frame I.decoding bytes n
         → IsTrue (⟦<NetlinkMessage<I> as PartialEq>⟧.eq m n) }
-    ensures same { (bytes : List ℕ) (m n : NetlinkMessage I) → Frame I.decoding bytes m → Frame I.decoding bytes n
+    ensures same { (bytes : List ℕ) (m n : NetlinkMessage I) → Frame I.decoding bytes m
+        → Frame I.decoding bytes n
         → (m.header ≡ n.header) × SamePayload I.decoding m.payload n.payload }
-    ensures fits { (bytes : List ℕ) (m n : NetlinkMessage I) → Frame I.decoding bytes m → Frame I.decoding bytes n
+    ensures fits { (bytes : List ℕ) (m n : NetlinkMessage I) → Frame I.decoding bytes m
+        → Frame I.decoding bytes n
         → Fits I.encoding m → Fits I.encoding n }
-    ensures written { (bytes : List ℕ) (m n : NetlinkMessage I) → Frame I.decoding bytes m → Frame I.decoding bytes n
+    ensures written { (bytes : List ℕ) (m n : NetlinkMessage I) → Frame I.decoding bytes m
+        → Frame I.decoding bytes n
         → canonical_frame I.encoding m ≡ canonical_frame I.encoding n }
 {
     messages_equal::<I>();
@@ -93,9 +101,11 @@ pub fn frame_unique<I: NetlinkProtocol>()
 /// Bytes are refused in one way at most, want of memory and a protocol's own words aside, and the
 /// frame of a message is refused for want of memory alone.
 pub fn refusal_unique<I: NetlinkDeserializable>()
-    ensures unique { (bytes : List ℕ) (e f : DecodeError) → IsRefusal I.decoding I.wants_memory bytes e → IsRefusal I.decoding I.wants_memory bytes f
+    ensures unique { (bytes : List ℕ) (e f : DecodeError)
+        → IsRefusal I.decoding I.wants_memory bytes e → IsRefusal I.decoding I.wants_memory bytes f
         → e ≢ DecodeError.OutOfMemory → f ≢ DecodeError.OutOfMemory → SameRefusal e f }
-    ensures frame { (bytes : List ℕ) (m : NetlinkMessage I) (e : DecodeError) → Frame I.decoding bytes m → IsRefusal I.decoding I.wants_memory bytes e
+    ensures frame { (bytes : List ℕ) (m : NetlinkMessage I) (e : DecodeError)
+        → Frame I.decoding bytes m → IsRefusal I.decoding I.wants_memory bytes e
         → e ≡ DecodeError.OutOfMemory }
 {}
 
@@ -106,10 +116,15 @@ pub fn reads_back<I: NetlinkProtocol>(m: &NetlinkMessage<I>, n: &NetlinkMessage<
     requires first { Fits I.encoding m.now }
     requires second { Fits I.encoding n.now }
     ensures canonical { IsCanonicalFrame I.decoding (canonical_frame I.encoding m.now) }
-    ensures only { (b : List ℕ) → IsCanonicalFrame I.decoding b → Frame I.decoding b (finalized I.encoding m.now) → b ≡ canonical_frame I.encoding m.now }
-    ensures before { Frame I.decoding (canonical_frame I.encoding m.now ++ c.now) (finalized I.encoding m.now) }
-    ensures cut { (k : ℕ) → k < length (canonical_frame I.encoding m.now) → (x : NetlinkMessage I) → Frame I.decoding (take k (canonical_frame I.encoding m.now)) x → ⊥ }
-    ensures cut_short { (k : ℕ) → k < 16 → IsFrameFault true (take k (canonical_frame I.encoding m.now)) (DecodeError.FrameShort k true) }
+    ensures only { (b : List ℕ) → IsCanonicalFrame I.decoding b
+        → Frame I.decoding b (finalized I.encoding m.now) → b ≡ canonical_frame I.encoding m.now }
+    ensures before { Frame I.decoding (canonical_frame I.encoding m.now ++ c.now)
+        (finalized I.encoding m.now) }
+    ensures cut { (k : ℕ) → k < length (canonical_frame I.encoding m.now) → (x : NetlinkMessage I)
+        → Frame I.decoding (take k (canonical_frame I.encoding m.now)) x → ⊥ }
+    ensures cut_short { (k : ℕ) → k < 16
+        → IsFrameFault true (take k (canonical_frame I.encoding m.now))
+        (DecodeError.FrameShort k true) }
     ensures cut_later { (k : ℕ) → 16 ≤ k → k < length (canonical_frame I.encoding m.now)
         → IsFrameFault true (take k (canonical_frame I.encoding m.now)) (DecodeError.FrameCut (length (canonical_frame I.encoding m.now)) k true) }
     ensures equal { (canonical_frame I.encoding m.now ≡ canonical_frame I.encoding n.now)
@@ -136,11 +151,14 @@ pub fn reading_is_canonical<I: NetlinkProtocol>()
 /// A canonical frame cut short is the frame of no message (`FrameShort` below 16 bytes, `FrameCut`
 /// from there on), and is not canonical: no canonical frame is a proper beginning of another.
 pub fn cut_refused<I: NetlinkProtocol>(bytes: &[u8], cut: usize)
-    ensures cut { IsCanonicalFrame I.decoding bytes.now → cut < length bytes.now → (m : NetlinkMessage I) → Frame I.decoding (take cut bytes.now) m → ⊥ }
-    ensures cut_short { IsCanonicalFrame I.decoding bytes.now → cut < 16 → IsFrameFault true (take cut bytes.now) (DecodeError.FrameShort cut true) }
+    ensures cut { IsCanonicalFrame I.decoding bytes.now → cut < length bytes.now
+        → (m : NetlinkMessage I) → Frame I.decoding (take cut bytes.now) m → ⊥ }
+    ensures cut_short { IsCanonicalFrame I.decoding bytes.now → cut < 16
+        → IsFrameFault true (take cut bytes.now) (DecodeError.FrameShort cut true) }
     ensures cut_later { IsCanonicalFrame I.decoding bytes.now → 16 ≤ cut → cut < length bytes.now
         → IsFrameFault true (take cut bytes.now) (DecodeError.FrameCut (length bytes.now) cut true) }
-    ensures beginning { IsCanonicalFrame I.decoding bytes.now → cut < length bytes.now → IsCanonicalFrame I.decoding (take cut bytes.now) → ⊥ }
+    ensures beginning { IsCanonicalFrame I.decoding bytes.now → cut < length bytes.now
+        → IsCanonicalFrame I.decoding (take cut bytes.now) → ⊥ }
 {}
 
 /// What follows a whole frame decides nothing: with it and without it, the bytes are the frame of

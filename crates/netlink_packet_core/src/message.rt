@@ -65,10 +65,12 @@ impl<I: NetlinkDeserializable> NetlinkMessage<I> {
         // Only a frame of the message is read as it.
         ensures accepts { IfOk result (Frame I.decoding buffer.now) }
         // A frame of some message is read, unless memory was refused.
-        ensures complete { (m : NetlinkMessage I) → Frame I.decoding buffer.now m → IsOkUnless result DecodeError.OutOfMemory }
+        ensures complete { (m : NetlinkMessage I) → Frame I.decoding buffer.now m
+            → IsOkUnless result DecodeError.OutOfMemory }
         // Each refusal has its cause and its numbers.
         ensures refuses { IfErr result (IsRefusal I.decoding I.wants_memory buffer.now) }
-        ensures no_memory { AsksNoMemory buffer.now → IfErr result (λ e. e ≢ DecodeError.OutOfMemory) }
+        ensures no_memory { AsksNoMemory buffer.now
+            → IfErr result (λ e. e ≢ DecodeError.OutOfMemory) }
     {
         check_frame(buffer, true)?;
         read_frame(alloc, buffer)
@@ -152,9 +154,12 @@ impl<I: NetlinkSerializable> NetlinkMessage<I> {
     /// behind them. The header's length has to be their size, as `finalize` leaves it, and the
     /// buffer has to hold as many bytes.
     pub fn serialize(&self, buffer: &mut [u8])
-        requires length { self.now.header.length ≡ 16 + length (payload_bytes I.encoding self.now.payload) }
+        requires length { self.now.header.length
+            ≡ 16 + length (payload_bytes I.encoding self.now.payload) }
         requires room { self.now.header.length ≤ length buffer.old }
-        ensures text { buffer.new ≡ header_bytes self.now.header ++ (payload_bytes I.encoding self.now.payload ++ drop self.now.header.length buffer.old) }
+        ensures text { buffer.new
+            ≡ header_bytes self.now.header
+            ++ (payload_bytes I.encoding self.now.payload ++ drop self.now.header.length buffer.old) }
     {
         let length = self.header.length as usize;
         let (head, rest) = buffer.split_at_mut(NETLINK_HEADER_LEN);

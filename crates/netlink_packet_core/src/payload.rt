@@ -111,7 +111,8 @@ impl<I: NetlinkSerializable> NetlinkPayload<I> {
     #[tactic(auto, using(crate::specs::Sizes::text_sizes))]
     pub(crate) fn append(&self, frame: &mut Vec<u8>) -> Result<(), AllocError>
         requires { vec_len frame.old + length (payload_bytes I.encoding self.now) < 2 ^ 64 }
-        ensures { OnOk result (frame.new.items ≡ frame.old.items ++ payload_bytes I.encoding self.now) }
+        ensures { OnOk result
+            (frame.new.items ≡ frame.old.items ++ payload_bytes I.encoding self.now) }
     {
         match self {
             NetlinkPayload::Done(message) => {
@@ -152,7 +153,8 @@ fn read_inner<I: NetlinkDeserializable>(
     payload: &[u8],
 ) -> Result<I, DecodeError>
     ensures in_range { IfOk result (λ v. IsTrue (I.decoding.in_range v)) }
-    ensures reads { IfOk result (λ v. I.decoding.reading header.now payload.now ≡ Some (I.decoding.stands_for v)) }
+    ensures reads { IfOk result
+        (λ v. I.decoding.reading header.now payload.now ≡ Some (I.decoding.stands_for v)) }
     ensures err { IfErr result (IsInnerFault I.decoding I.wants_memory header.now payload.now) }
 {
     match I::deserialize(alloc, header, payload) {
@@ -172,7 +174,8 @@ fn read_inner<I: NetlinkDeserializable>(
 /// The text of a protocol's refusal. Both strings have room at once: 64 bytes for the protocol's
 /// own words, and 41 for what stands in front of them.
 fn refusal<E: Error>(alloc: Global, message_type: u16, error: &E) -> Result<String, AllocError>
-    ensures { IfOk result (λ text. (rest : List ℕ) × (string_bytes text ≡ refusal_text message_type rest)) }
+    ensures { IfOk result
+        (λ text. (rest : List ℕ) × (string_bytes text ≡ refusal_text message_type rest)) }
 {
     let mut rest = String::with_capacity(alloc, 64)?;
     match write!(rest, "{error}") {

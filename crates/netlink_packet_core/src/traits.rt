@@ -35,7 +35,8 @@ pub trait NetlinkSerializable {
     fn append(&self, frame: &mut Vec<u8>) -> Result<(), AllocError>
         requires fits { vec_len frame.old + length (encoding.bytes_of self.now) < 2 ^ 64 }
         ensures text { OnOk result (frame.new.items ≡ frame.old.items ++ encoding.bytes_of self.now) }
-        ensures room { vec_len frame.old + length (encoding.bytes_of self.now) ≤ vec_capacity frame.old → IsOk result }
+        ensures room { vec_len frame.old + length (encoding.bytes_of self.now)
+            ≤ vec_capacity frame.old → IsOk result }
     {
         let start = frame.len();
         frame.resize(start + self.buffer_len(), 0)?;
@@ -81,8 +82,10 @@ pub trait NetlinkDeserializable: Sized {
         payload: &[u8],
     ) -> Result<Self, Self::Error>
         ensures in_range { IfOk result (λ v. IsTrue (decoding.in_range v)) }
-        ensures reads { IfOk result (λ v. decoding.reading header.now payload.now ≡ Some (decoding.stands_for v)) }
-        ensures refuses { IfErr result (λ e. wants_memory e ≡ false → decoding.reading header.now payload.now ≡ None) };
+        ensures reads { IfOk result
+            (λ v. decoding.reading header.now payload.now ≡ Some (decoding.stands_for v)) }
+        ensures refuses { IfErr result
+            (λ e. wants_memory e ≡ false → decoding.reading header.now payload.now ≡ None) };
 
     /// Whether an error says that a request for memory was refused.
     fn is_out_of_memory(error: &Self::Error) -> bool
@@ -96,14 +99,19 @@ pub trait NetlinkProtocol: NetlinkSerializable + NetlinkDeserializable + Eq + Dr
         ensures in_range { IsTrue (Self.decoding.in_range self.now) };
 
     /// A value stands for its own type and text.
-    ghost own_pair: { (v : Self) → Self.decoding.stands_for v ≡ (Self.encoding.type_of v, Self.encoding.bytes_of v) };
+    ghost own_pair: { (v : Self)
+        → Self.decoding.stands_for v ≡ (Self.encoding.type_of v, Self.encoding.bytes_of v) };
 
     /// Two values are equal exactly if they stand for the same type and text.
-    ghost equal_pairs: { (v w : Self) → IsTrue (Self.decoding.in_range v) → IsTrue (Self.decoding.in_range w) → (Self.eq v w ≡ true) ↔ (Self.decoding.stands_for v ≡ Self.decoding.stands_for w) };
+    ghost equal_pairs: { (v w : Self) → IsTrue (Self.decoding.in_range v)
+        → IsTrue (Self.decoding.in_range w)
+        → (Self.eq v w ≡ true) ↔ (Self.decoding.stands_for v ≡ Self.decoding.stands_for w) };
 
     /// What a value stands for is read again, whatever else its header says.
-    ghost value_is_lawful: { (v : Self) → IsTrue (Self.decoding.in_range v) → IsLawful Self.decoding (Self.decoding.stands_for v) };
+    ghost value_is_lawful: { (v : Self) → IsTrue (Self.decoding.in_range v)
+        → IsLawful Self.decoding (Self.decoding.stands_for v) };
 
     /// And so is what a reading gives.
-    ghost reading_is_lawful: { (h : NetlinkHeader) (payload : List ℕ) (pair : ℕ × List ℕ) → Self.decoding.reading h payload ≡ Some pair → IsLawful Self.decoding pair };
+    ghost reading_is_lawful: { (h : NetlinkHeader) (payload : List ℕ) (pair : ℕ × List ℕ)
+        → Self.decoding.reading h payload ≡ Some pair → IsLawful Self.decoding pair };
 }

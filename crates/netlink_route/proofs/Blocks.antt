@@ -11,7 +11,8 @@ use Rattle.netlink_route.specs.TypedLaws.{equal_blocks, equal_lists}
 use Rattle.netlink_route.specs.declared.info.InfoAttribute.{InfoAttribute}
 use Rattle.netlink_route.proofs.Texts.{same_test}
 
-pub blocks_alike : (a b : List InfoAttribute) → All FitsAttribute (attributes_of info_kind info_value a) → All FitsAttribute (attributes_of info_kind info_value b)
+pub blocks_alike : (a b : List InfoAttribute) → All FitsAttribute (attributes_of info_kind info_value a)
+    → All FitsAttribute (attributes_of info_kind info_value b)
     → pointwise (λ x y. attribute_eq (info_attribute x) (info_attribute y)) a b ≡ bytes_eq (info_block_text a) (info_block_text b)
 blocks_alike a b fit fits =
     let lists = equal_lists info_attribute a b in

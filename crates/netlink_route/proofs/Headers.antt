@@ -10,10 +10,12 @@ use Rattle.netlink_route.specs.LinkHeader.{header_bytes}
 use Rattle.netlink_route.specs.declared.link_header.LinkHeader.{LinkHeader}
 
 -- fields up to the end are the bytes from there on
-pub fields_to_end : (at : ℕ) (widths bytes : List ℕ) → IsBytes bytes → length bytes ≡ at + sum widths → fields_at at widths bytes ≡ drop at bytes
+pub fields_to_end : (at : ℕ) (widths bytes : List ℕ) → IsBytes bytes → length bytes ≡ at + sum widths
+    → fields_at at widths bytes ≡ drop at bytes
 fields_to_end at widths bytes each size =
     let none : drop (at + sum widths) bytes ≡ [] = drop_all (at + sum widths) bytes (omega (arith, size)) in
-    sym (fields_kept at widths bytes each (omega (arith, size)) ∙ ap (λ (more : List ℕ). fields_at at widths bytes ++ more) none ∙ append-nil (fields_at at widths bytes))
+    sym (fields_kept at widths bytes each (omega (arith, size)) ∙ ap (λ (more : List ℕ). fields_at at widths bytes ++ more) none
+    ∙ append-nil (fields_at at widths bytes))
 
 pub two_first : (bytes : List ℕ) → 2 ≤ length bytes → get_or bytes 0 0 ∷ get_or bytes 1 0 ∷ drop 2 bytes ≡ bytes
 two_first [] long = absurd (omega arith)
@@ -31,7 +33,8 @@ length-address_header h more = omega arith
 pub ruleset address_sizes = (length-address_header)
 
 -- the four bytes in front, and what follows them
-pub four_first : (bytes : List ℕ) → 4 ≤ length bytes → get_or bytes 0 0 ∷ get_or bytes 1 0 ∷ get_or bytes 2 0 ∷ get_or bytes 3 0 ∷ drop 4 bytes ≡ bytes
+pub four_first : (bytes : List ℕ) → 4 ≤ length bytes
+    → get_or bytes 0 0 ∷ get_or bytes 1 0 ∷ get_or bytes 2 0 ∷ get_or bytes 3 0 ∷ drop 4 bytes ≡ bytes
 four_first [] long = absurd (omega arith)
 four_first (a ∷ []) long = absurd (omega arith)
 four_first (a ∷ b ∷ []) long = absurd (omega arith)

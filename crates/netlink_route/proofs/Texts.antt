@@ -35,7 +35,8 @@ texts_alike a b =
     (λ e. one.1 (sym (zero_dropped a) ∙ ap without_last_zero (other.0 e) ∙ zero_dropped b))
 
 -- four bytes are the text of their number
-pub number_read : (value : List ℕ) (number : ℕ) → IsBytes value → length value ≡ 4 → number ≡ number_at 0 4 value → read_as four_bytes value ≡ Some (bytes_le number 4)
+pub number_read : (value : List ℕ) (number : ℕ) → IsBytes value → length value ≡ 4 → number ≡ number_at 0 4 value
+    → read_as four_bytes value ≡ Some (bytes_le number 4)
 number_read value number each size is =
     let kept = all_fields_kept (4 ∷ []) value each size in
     ap (λ (b : Bool). keep b value) (eq-eqb (length value) 4 size) ∙ ap Some (sym kept ∙ ap (λ (n : ℕ). bytes_le n 4) (sym is))
@@ -48,18 +49,22 @@ ended (zero ∷ b ∷ more) is = absurd (cc)
 ended (suc b ∷ []) is = absurd (cc)
 ended (suc b ∷ c ∷ more) is = ap (λ (x : List ℕ). suc b ∷ x) (ended (c ∷ more) is)
 
-pub text_plain : (value : List ℕ) (text : String Global) → zero_ended value ≡ true → string_bytes text ≡ without_last_zero value → zero_ended (string_bytes text ++ (0 ∷ [])) ≡ true
+pub text_plain : (value : List ℕ) (text : String Global) → zero_ended value ≡ true → string_bytes text ≡ without_last_zero value
+    → zero_ended (string_bytes text ++ (0 ∷ [])) ≡ true
 text_plain value text is same = ap (λ (x : List ℕ). zero_ended (x ++ (0 ∷ []))) same ∙ ap zero_ended (ended value is) ∙ is
 
-pub text_read : (value : List ℕ) (text : String Global) → zero_ended value ≡ true → string_bytes text ≡ without_last_zero value → read_as zero_text value ≡ Some (string_bytes text ++ (0 ∷ []))
+pub text_read : (value : List ℕ) (text : String Global) → zero_ended value ≡ true → string_bytes text ≡ without_last_zero value
+    → read_as zero_text value ≡ Some (string_bytes text ++ (0 ∷ []))
 text_read value text is same =
-    let utf8 : is_utf8 (without_last_zero value) ≡ true = ap is_utf8 (sym same) ∙ is_utf8-from_IsUtf8 (string_bytes text) (IsUtf8-string_bytes text) in
+    let utf8 : is_utf8 (without_last_zero value) ≡ true =
+    ap is_utf8 (sym same) ∙ is_utf8-from_IsUtf8 (string_bytes text) (IsUtf8-string_bytes text) in
     ap (λ (b : Bool). keep b value) (and_from _ _ is utf8) ∙ ap Some (sym (ap (λ (x : List ℕ). x ++ (0 ∷ [])) same ∙ ended value is))
 
 pub no_text : (value : List ℕ) → zero_ended value ≡ false → read_as zero_text value ≡ None
 no_text value not = ap (λ (b : Bool). keep b value) (and_left _ _ not)
 
-pub no_utf8 : (value : List ℕ) (e : DecodeError) → (IsUtf8 (without_last_zero value) → e ≡ OutOfMemory) → e ≢ OutOfMemory → read_as zero_text value ≡ None
+pub no_utf8 : (value : List ℕ) (e : DecodeError) → (IsUtf8 (without_last_zero value) → e ≡ OutOfMemory) → e ≢ OutOfMemory
+    → read_as zero_text value ≡ None
 no_utf8 value e utf8 other = elim (cases_Bool (is_utf8 (without_last_zero value))) [
   | inl valid ↦ absurd (other (utf8 (IsUtf8-from_is_utf8 (without_last_zero value) valid)))
   | inr broken ↦ ap (λ (b : Bool). keep b value) (and_right _ _ broken)

@@ -31,10 +31,13 @@ abbrev pub address_attribute : AddressAttribute → Attribute
 address_attribute a = attribute_with (address_kind a) (address_value a)
 
 -- what is written of an attribute is read as it
-pub address_itself : (a : AddressAttribute) → address_values (address_kind a) (address_value a) ≡ Some (address_value a)
+pub address_itself : (a : AddressAttribute)
+    → address_values (address_kind a) (address_value a) ≡ Some (address_value a)
 address_itself (Address ip) = ap (λ (b : Bool). keep b ip.bytes.items) ip.sized
 address_itself (Local ip) = ap (λ (b : Bool). keep b ip.bytes.items) ip.sized
 address_itself (Label name) = text_itself name.text name.plain
 address_itself (Broadcast ip) = ap (λ (b : Bool). keep b ip.bytes.items) ip.sized
 address_itself (Flags number) = number_itself number
-address_itself (Other other) = itself any_bytes address_row other.kind other.value.items (no_row (address_row other.kind) other.other) refl
+address_itself (Other other) =
+    itself any_bytes address_row other.kind other.value.items
+    (no_row (address_row other.kind) other.other) refl

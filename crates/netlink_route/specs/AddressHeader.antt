@@ -19,4 +19,7 @@ address_header_text h = h.family ∷ h.prefix_len ∷ h.flags ∷ h.scope ∷ by
 
 -- each number fits its field
 abbrev pub address_header_fits : AddressHeader → Bool
-address_header_fits h = nat_lt h.family (2 ^ 8) && (nat_lt h.prefix_len (2 ^ 8) && (nat_lt h.flags (2 ^ 8) && (nat_lt h.scope (2 ^ 8) && nat_lt h.index (2 ^ 32))))
+address_header_fits h =
+    nat_lt h.family (2 ^ 8) &&
+    (nat_lt h.prefix_len (2 ^ 8) &&
+    (nat_lt h.flags (2 ^ 8) && (nat_lt h.scope (2 ^ 8) && nat_lt h.index (2 ^ 32))))

@@ -27,6 +27,7 @@ abbrev pub IsValueFault : Shape → ℕ → List ℕ → RouteError → Type 0
 IsValueFault four_bytes kind value e = e ≡ error.Size kind 4 (length value)
 IsValueFault one_byte kind value e = e ≡ error.Size kind 1 (length value)
 IsValueFault zero_text kind value e = (e ≡ error.Text kind) ⊎ (e ≡ error.OutOfMemory)
-IsValueFault ip_bytes kind value e = (e ≡ error.Address kind (length value)) ⊎ (e ≡ error.OutOfMemory)
+IsValueFault ip_bytes kind value e =
+    (e ≡ error.Address kind (length value)) ⊎ (e ≡ error.OutOfMemory)
 IsValueFault any_bytes kind value e = e ≡ error.OutOfMemory
 IsValueFault info_block kind value e = ⊥

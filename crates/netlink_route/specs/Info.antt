@@ -27,9 +27,12 @@ abbrev pub info_attribute : InfoAttribute → Attribute
 info_attribute a = attribute_with (info_kind a) (info_value a)
 
 -- what is written of an attribute is read as it
-pub info_itself : (a : InfoAttribute) → info_values (info_kind a) (info_value a) ≡ Some (info_value a)
+pub info_itself : (a : InfoAttribute)
+    → info_values (info_kind a) (info_value a) ≡ Some (info_value a)
 info_itself (Kind name) = text_itself name.text name.plain
 info_itself (Data bytes) = refl
 info_itself (SlaveKind name) = text_itself name.text name.plain
 info_itself (SlaveData bytes) = refl
-info_itself (Other other) = itself any_bytes info_row other.kind other.value.items (no_row (info_row other.kind) other.other) refl
+info_itself (Other other) =
+    itself any_bytes info_row other.kind other.value.items
+    (no_row (info_row other.kind) other.other) refl

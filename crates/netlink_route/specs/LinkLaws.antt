@@ -28,11 +28,14 @@ use Rattle.netlink_route.specs.contracts.link_header.LinkHeaderPartialEq.TheImpl
 use Rattle.netlink_route.specs.contracts.link_header.LinkVerbPartialEq.TheImpl.{eq-value as verb_eq}
 
 -- a nest is read as itself
-info_block_itself : (list : List InfoAttribute) (size : ℕ) → All FitsAttribute (attributes_of info_kind info_value list) → size ≡ length (info_block_text list) → size ≤ 4294963200
+info_block_itself : (list : List InfoAttribute) (size : ℕ)
+    → All FitsAttribute (attributes_of info_kind info_value list)
+    → size ≡ length (info_block_text list) → size ≤ 4294963200
     → info_text (info_block_text list) ≡ Some (info_block_text list)
 info_block_itself list size each counted whole =
     ap (option_map canonical_block)
-    (block_again info_values (attributes_of info_kind info_value list) (block_spelled info_kind info_value info_values info_itself list size each counted whole))
+    (block_again info_values (attributes_of info_kind info_value list)
+    (block_spelled info_kind info_value info_values info_itself list size each counted whole))
 
 -- what is written of an attribute is read as it
 pub link_itself : (a : LinkAttribute) → link_values (kind_of a) (value_of a) ≡ Some (value_of a)
@@ -45,18 +48,24 @@ link_itself (Qdisc name) = text_itself name.text name.plain
 link_itself (Master number) = number_itself number
 link_itself (TxQueueLen number) = number_itself number
 link_itself (OperState byte) = refl
-link_itself (LinkInfo block) = info_block_itself block.list.items block.size block.each block.counted block.whole
-link_itself (NestedLinkInfo block) = info_block_itself block.list.items block.size block.each block.counted block.whole
+link_itself (LinkInfo block) =
+    info_block_itself block.list.items block.size block.each block.counted block.whole
+link_itself (NestedLinkInfo block) =
+    info_block_itself block.list.items block.size block.each block.counted block.whole
 link_itself (IfAlias name) = text_itself name.text name.plain
 link_itself (Group number) = number_itself number
 link_itself (ExtMask number) = number_itself number
 link_itself (Carrier byte) = refl
-link_itself (Other other) = nested_itself any_bytes link_row other.kind other.value.items (no_row (link_row other.kind) other.other) refl
+link_itself (Other other) =
+    nested_itself any_bytes link_row other.kind other.value.items
+    (no_row (link_row other.kind) other.other) refl
 
 -- ---- headers
 
-same_header : (g h : LinkHeader) → g.family ≡ h.family → g.layer_type ≡ h.layer_type → g.index ≡ h.index → g.flags ≡ h.flags → g.change_mask ≡ h.change_mask → g ≡ h
-same_header g h p q r s t = λ i. record { family = p i; layer_type = q i; index = r i; flags = s i; change_mask = t i }
+same_header : (g h : LinkHeader) → g.family ≡ h.family → g.layer_type ≡ h.layer_type
+    → g.index ≡ h.index → g.flags ≡ h.flags → g.change_mask ≡ h.change_mask → g ≡ h
+same_header g h p q r s t =
+    λ i. record { family = p i; layer_type = q i; index = r i; flags = s i; change_mask = t i }
 
 pub family_back : (n : ℕ) → number_le (n ∷ []) ≡ n
 unfolding number_le
@@ -72,7 +81,8 @@ header_in bytes = record {
   change_mask = number_le (take 4 (drop 12 bytes));
 }
 
-header_back : (h : LinkHeader) (more : List ℕ) → header_fits h ≡ true → header_in (header_bytes h ++ more) ≡ h
+header_back : (h : LinkHeader) (more : List ℕ) → header_fits h ≡ true
+    → header_in (header_bytes h ++ more) ≡ h
 unfolding header_in bytes_le
 header_back h more fits =
     let p = and_parts _ _ fits in
@@ -87,19 +97,24 @@ header_back h more fits =
     (number_le-bytes_le h.change_mask 4 (ltb-true _ _ s.1))
 
 -- headers in front of two texts
-pub same_front : (g h : LinkHeader) (x y : List ℕ) → header_fits g ≡ true → header_fits h ≡ true → header_bytes g ++ x ≡ header_bytes h ++ y → (g ≡ h) × (x ≡ y)
+pub same_front : (g h : LinkHeader) (x y : List ℕ) → header_fits g ≡ true → header_fits h ≡ true
+    → header_bytes g ++ x ≡ header_bytes h ++ y → (g ≡ h) × (x ≡ y)
 unfolding bytes_le
-same_front g h x y first second same = (sym (header_back g x first) ∙ ap header_in same ∙ header_back h y second, ap (drop 16) same)
+same_front g h x y first second same =
+    (sym (header_back g x first) ∙ ap header_in same ∙ header_back h y second, ap (drop 16) same)
 
 -- headers are equal by `==` exactly if they are the same
 pub headers_decide : (g h : LinkHeader) → (header_eq.it g h ≡ true) ↔ (g ≡ h)
 headers_decide g h = (
-  λ e. (let p = and_parts _ _ e in let q = and_parts _ _ p.1 in let r = and_parts _ _ q.1 in let s = and_parts _ _ r.1 in
-      same_header g h (eqb-true _ _ p.0) (eqb-true _ _ q.0) (eqb-true _ _ r.0) (eqb-true _ _ s.0) (eqb-true _ _ s.1)),
+  λ e. (let p = and_parts _ _ e in let q = and_parts _ _ p.1 in let r = and_parts _ _ q.1 in
+      let s = and_parts _ _ r.1 in
+      same_header g h (eqb-true _ _ p.0) (eqb-true _ _ q.0) (eqb-true _ _ r.0) (eqb-true _ _ s.0)
+      (eqb-true _ _ s.1)),
   λ same. and_from _ _ (eq-eqb _ _ (ap (λ (x : LinkHeader). x.family) same))
       (and_from _ _ (eq-eqb _ _ (ap (λ (x : LinkHeader). x.layer_type) same))
       (and_from _ _ (eq-eqb _ _ (ap (λ (x : LinkHeader). x.index) same))
-      (and_from _ _ (eq-eqb _ _ (ap (λ (x : LinkHeader). x.flags) same)) (eq-eqb _ _ (ap (λ (x : LinkHeader). x.change_mask) same))))),
+      (and_from _ _ (eq-eqb _ _ (ap (λ (x : LinkHeader). x.flags) same))
+      (eq-eqb _ _ (ap (λ (x : LinkHeader). x.change_mask) same))))),
 )
 
 -- ---- what is done

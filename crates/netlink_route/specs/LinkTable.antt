@@ -9,7 +9,8 @@ abbrev pub link_row : ℕ → Option Shape
 link_row kind =
     if kind == 1 || kind == 2 then Some any_bytes
     else if kind == 3 || (kind == 6 || kind == 20) then Some zero_text
-    else if kind == 4 || (kind == 5 || (kind == 10 || (kind == 13 || (kind == 27 || kind == 29)))) then Some four_bytes
+    else if kind == 4 || (kind == 5 || (kind == 10 || (kind == 13 || (kind == 27 || kind == 29))))
+    then Some four_bytes
     else if kind == 18 || kind == 32786 then Some info_block
     else if kind == 16 || kind == 33 then Some one_byte
     else None

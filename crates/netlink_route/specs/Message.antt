@@ -33,10 +33,12 @@ addresses = record { size = 8; is_header = λ head. true; values = address_value
 
 -- the attributes of an address
 abbrev pub address_attributes : AddressMessage → List Attribute
-address_attributes m = attributes_of address.address_kind address.address_value m.attributes.list.items
+address_attributes m =
+    attributes_of address.address_kind address.address_value m.attributes.list.items
 
 abbrev pub address_bytes : AddressMessage → List ℕ
-address_bytes m = address_header.address_header_text m.header ++ canonical_block (address_attributes m)
+address_bytes m =
+    address_header.address_header_text m.header ++ canonical_block (address_attributes m)
 
 abbrev pub route_type : RouteMessage → ℕ
 route_type (Link verb m) = link_header.verb_type verb
@@ -55,11 +57,18 @@ route_in_range (Address verb m) = address_header.address_header_fits m.header
 abbrev pub route_reading : NetlinkHeader → List ℕ → Option (ℕ × List ℕ)
 route_reading h payload =
     if link_header.is_link_type h.message_type then family_reading links h.message_type payload
-    else if address_header.is_address_type h.message_type then family_reading addresses h.message_type payload
+    else if address_header.is_address_type h.message_type then family_reading addresses
+    h.message_type payload
     else None
 
 abbrev pub route_encoding : Encoding RouteMessage
 route_encoding = record { type_of = route_type; bytes_of = route_bytes }
 
 abbrev pub route_decoding : Decoding RouteMessage
-route_decoding = record { reading = route_reading; stands_for = λ m. (route_type m, route_bytes m); in_range = route_in_range }
+route_decoding =
+    record {
+      reading = route_reading;
+      stands_for = λ m.
+          (route_type m, route_bytes m);
+      in_range = route_in_range;
+    }

@@ -27,16 +27,22 @@ nested_by row kind value = read_in (shape_or (row kind)) value
 
 -- ---- what is read is read again as it is
 
-by_block : (value text : List ℕ) (all : Option (List Attribute)) → block_reading info_values value ≡ all → option_map canonical_block all ≡ Some text → info_text text ≡ Some text
+by_block : (value text : List ℕ) (all : Option (List Attribute))
+    → block_reading info_values value ≡ all → option_map canonical_block all ≡ Some text
+    → info_text text ≡ Some text
 by_block value text None is gives = absurd (cc)
 by_block value text (Some all) is gives =
     let same : canonical_block all ≡ text = cc in
     let again : info_text (canonical_block all) ≡ Some (canonical_block all) =
-    ap (option_map canonical_block) (block_again info_values all (reading_spelled info_values value all (keeps_by info_row) is)) in
+    ap (option_map canonical_block)
+    (block_again info_values all (reading_spelled info_values value all (keeps_by info_row) is))
+    in
     subst (λ (x : List ℕ). info_text x ≡ Some x) same again
 
-nested_again : (shape : Shape) (value text : List ℕ) → read_in shape value ≡ Some text → read_in shape text ≡ Some text
-nested_again info_block value text gives = by_block value text (block_reading info_values value) refl gives
+nested_again : (shape : Shape) (value text : List ℕ) → read_in shape value ≡ Some text
+    → read_in shape text ≡ Some text
+nested_again info_block value text gives =
+    by_block value text (block_reading info_values value) refl gives
 nested_again four_bytes value text gives = read_again four_bytes value text gives
 nested_again one_byte value text gives = read_again one_byte value text gives
 nested_again zero_text value text gives = read_again zero_text value text gives
@@ -47,5 +53,7 @@ pub keeps_nested : (row : ℕ → Option Shape) → KeepsValues (nested_by row)
 keeps_nested row kind value text gives = nested_again (shape_or (row kind)) value text gives
 
 -- a value of a kind of this shape is read as itself
-pub nested_itself : (shape : Shape) (row : ℕ → Option Shape) (kind : ℕ) (value : List ℕ) → shape_or (row kind) ≡ shape → read_in shape value ≡ Some value → nested_by row kind value ≡ Some value
+pub nested_itself : (shape : Shape) (row : ℕ → Option Shape) (kind : ℕ) (value : List ℕ)
+    → shape_or (row kind) ≡ shape → read_in shape value ≡ Some value
+    → nested_by row kind value ≡ Some value
 nested_itself shape row kind value same is = ap (λ (s : Shape). read_in s value) same ∙ is

@@ -50,7 +50,9 @@ block_reading reading bytes = keep_fit (spelled_in reading bytes)
 
 -- what is written of a value is read as it
 abbrev pub KeepsValues : ValueReading → Type 0
-KeepsValues reading = (kind : ℕ) (value text : List ℕ) → reading kind value ≡ Some text → reading kind text ≡ Some text
+KeepsValues reading =
+    (kind : ℕ) (value text : List ℕ) → reading kind value ≡ Some text
+    → reading kind text ≡ Some text
 
 -- attributes are equal by kind and value
 abbrev pub attribute_eq : Attribute → Attribute → Bool

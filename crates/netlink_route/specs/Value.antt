@@ -65,10 +65,12 @@ kept : (is : Bool) (value text : List ℕ) → keep is value ≡ Some text → v
 kept true value text gives = cc
 kept false value text gives = absurd (cc)
 
-kept_again : (is : List ℕ → Bool) (value text : List ℕ) → keep (is value) value ≡ Some text → keep (is text) text ≡ Some text
+kept_again : (is : List ℕ → Bool) (value text : List ℕ) → keep (is value) value ≡ Some text
+    → keep (is text) text ≡ Some text
 kept_again is value text gives = rw (kept (is value) value text gives) at gives
 
-pub read_again : (shape : Shape) (value text : List ℕ) → read_as shape value ≡ Some text → read_as shape text ≡ Some text
+pub read_again : (shape : Shape) (value text : List ℕ) → read_as shape value ≡ Some text
+    → read_as shape text ≡ Some text
 read_again four_bytes value text gives = kept_again (λ v. length v == 4) value text gives
 read_again one_byte value text gives = kept_again (λ v. length v == 1) value text gives
 read_again zero_text value text gives = kept_again is_text value text gives
@@ -88,7 +90,9 @@ no_row (Some shape) is = absurd (cc)
 -- ---- values are read as themselves
 
 -- of a kind of this shape
-pub itself : (shape : Shape) (row : ℕ → Option Shape) (kind : ℕ) (value : List ℕ) → shape_or (row kind) ≡ shape → read_as shape value ≡ Some value → reading_by row kind value ≡ Some value
+pub itself : (shape : Shape) (row : ℕ → Option Shape) (kind : ℕ) (value : List ℕ)
+    → shape_or (row kind) ≡ shape → read_as shape value ≡ Some value
+    → reading_by row kind value ≡ Some value
 itself shape row kind value same is = ap (λ (s : Shape). read_as s value) same ∙ is
 
 pub number_itself : (number : ℕ) → read_as four_bytes (bytes_le number 4) ≡ Some (bytes_le number 4)
@@ -102,8 +106,10 @@ zero_dropped (suc b ∷ []) = refl
 zero_dropped (zero ∷ c ∷ text) = ap (λ (x : List ℕ). 0 ∷ x) (zero_dropped (c ∷ text))
 zero_dropped (suc b ∷ c ∷ text) = ap (λ (x : List ℕ). suc b ∷ x) (zero_dropped (c ∷ text))
 
-pub text_itself : (text : String Global) → zero_ended (string_bytes text ++ (0 ∷ [])) ≡ true → read_as zero_text (string_bytes text ++ (0 ∷ [])) ≡ Some (string_bytes text ++ (0 ∷ []))
+pub text_itself : (text : String Global) → zero_ended (string_bytes text ++ (0 ∷ [])) ≡ true
+    → read_as zero_text (string_bytes text ++ (0 ∷ [])) ≡ Some (string_bytes text ++ (0 ∷ []))
 text_itself text plain =
     let utf8 : is_utf8 (without_last_zero (string_bytes text ++ (0 ∷ []))) ≡ true =
-    ap is_utf8 (zero_dropped (string_bytes text)) ∙ is_utf8-from_IsUtf8 (string_bytes text) (IsUtf8-string_bytes text) in
+    ap is_utf8 (zero_dropped (string_bytes text))
+    ∙ is_utf8-from_IsUtf8 (string_bytes text) (IsUtf8-string_bytes text) in
     ap (λ (b : Bool). keep b (string_bytes text ++ (0 ∷ []))) (and_from _ _ plain utf8)

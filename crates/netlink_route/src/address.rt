@@ -51,7 +51,8 @@ impl AddressAttribute {
     /// An attribute of any other kind; none for a kind that has a variant of its own.
     pub fn other(kind: u16, value: Vec<u8>) -> Option<Self>
         ensures other { IsSome result ↔ IsTrue (is_none (address_row kind)) }
-        ensures attribute { IfSome result (λ a. address_attribute a ≡ attribute_with kind value.items) }
+        ensures attribute { IfSome result
+            (λ a. address_attribute a ≡ attribute_with kind value.items) }
     {
         match kind {
             IFA_ADDRESS | IFA_LOCAL | IFA_LABEL | IFA_BROADCAST | IFA_FLAGS => None,

@@ -64,8 +64,10 @@ impl AddressMessage {
     /// The message in a payload.
     pub(crate) fn read(alloc: Global, payload: &[u8]) -> Result<Self, RouteError>
         ensures fits { IfOk result (λ m. IsTrue (address_header_fits m.header)) }
-        ensures reads { IfOk result (λ m. (t : ℕ) → family_reading addresses t payload.now ≡ Some (t, address_bytes m)) }
-        ensures refuses { IfErr result (λ e. wants_memory e ≡ false → (t : ℕ) → family_reading addresses t payload.now ≡ None) }
+        ensures reads { IfOk result
+            (λ m. (t : ℕ) → family_reading addresses t payload.now ≡ Some (t, address_bytes m)) }
+        ensures refuses { IfErr result
+            (λ e. wants_memory e ≡ false → (t : ℕ) → family_reading addresses t payload.now ≡ None) }
     {
         if payload.len() < ADDRESS_HEADER_LEN {
             return Err(RouteError::HeaderShort {

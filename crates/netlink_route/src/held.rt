@@ -53,7 +53,8 @@ impl<'a> Held<'a> {
 
 /// Whether two nests are written alike.
 fn same_block(a: &NlaBlock<InfoAttribute>, b: &NlaBlock<InfoAttribute>) -> bool
-    ensures { result ≡ bytes_eq (info_block_text a.now.list.items) (info_block_text b.now.list.items) }
+    ensures { result ≡ bytes_eq (info_block_text a.now.list.items)
+        (info_block_text b.now.list.items) }
 {
     a == b
 }

@@ -70,8 +70,10 @@ impl LinkMessage {
     /// The message in a payload.
     fn read(alloc: Global, payload: &[u8]) -> Result<Self, RouteError>
         ensures fits { IfOk result (λ m. IsTrue (header_fits m.header)) }
-        ensures reads { IfOk result (λ m. (t : ℕ) → family_reading links t payload.now ≡ Some (t, link_bytes m)) }
-        ensures refuses { IfErr result (λ e. wants_memory e ≡ false → (t : ℕ) → family_reading links t payload.now ≡ None) }
+        ensures reads { IfOk result
+            (λ m. (t : ℕ) → family_reading links t payload.now ≡ Some (t, link_bytes m)) }
+        ensures refuses { IfErr result
+            (λ e. wants_memory e ≡ false → (t : ℕ) → family_reading links t payload.now ≡ None) }
     {
         if payload.len() < LINK_HEADER_LEN {
             return Err(RouteError::HeaderShort {

@@ -30,8 +30,11 @@ pub trait RouteNla: Nla + Sized + Drop {
 /// its kind by the fault of its kind, and attributes that do not fit as `TooLong`; `OutOfMemory`
 /// says that a request for memory was refused.
 pub fn read_block<T: RouteNla>(alloc: Global, bytes: &[u8]) -> Result<NlaBlock<T>, RouteError>
-    ensures reads { IfOk result (λ block. block_reading T.reading bytes.now ≡ Some (attributes_of T.kind_of T.value_of block.list.items)) }
-    ensures refuses { IfErr result (λ e. wants_memory e ≡ false → block_reading T.reading bytes.now ≡ None) }
+    ensures reads { IfOk result
+        (λ block. block_reading T.reading bytes.now
+        ≡ Some (attributes_of T.kind_of T.value_of block.list.items)) }
+    ensures refuses { IfErr result
+        (λ e. wants_memory e ≡ false → block_reading T.reading bytes.now ≡ None) }
 {
     let list = read_list(alloc, bytes)?;
     match NlaBlock::new(list) {
@@ -42,8 +45,11 @@ pub fn read_block<T: RouteNla>(alloc: Global, bytes: &[u8]) -> Result<NlaBlock<T
 
 /// The attributes of a block in order.
 fn read_list<T: RouteNla>(alloc: Global, bytes: &[u8]) -> Result<Vec<T>, RouteError>
-    ensures reads { IfOk result (λ list. spelled_in T.reading bytes.now ≡ Some (attributes_of T.kind_of T.value_of list.items)) }
-    ensures refuses { IfErr result (λ e. wants_memory e ≡ false → spelled_in T.reading bytes.now ≡ None) }
+    ensures reads { IfOk result
+        (λ list. spelled_in T.reading bytes.now
+        ≡ Some (attributes_of T.kind_of T.value_of list.items)) }
+    ensures refuses { IfErr result
+        (λ e. wants_memory e ≡ false → spelled_in T.reading bytes.now ≡ None) }
 {
     walk_total();
     let mut list = Vec::new(alloc);

@@ -89,7 +89,8 @@ fn same_number(a: u32, b: u32) -> bool
 /// Whether two texts are written alike.
 #[tactic(auto, using(crate::proofs::Texts::texts_alike))]
 fn same_text(a: &Text, b: &Text) -> bool
-    ensures { result ≡ bytes_eq (string_bytes a.now.text ++ (0 ∷ [])) (string_bytes b.now.text ++ (0 ∷ [])) }
+    ensures { result ≡ bytes_eq (string_bytes a.now.text ++ (0 ∷ []))
+        (string_bytes b.now.text ++ (0 ∷ [])) }
 {
     a.text == b.text
 }
@@ -129,7 +130,8 @@ pub(crate) fn read_byte(kind: u16, value: &[u8]) -> Result<u8, RouteError>
 /// The text of a value with one zero byte, its last.
 #[tactic(auto, using(crate::proofs::Texts::text_plain, crate::proofs::Texts::text_read, crate::proofs::Texts::no_text))]
 pub(crate) fn read_text(alloc: Global, kind: u16, value: &[u8]) -> Result<Text, RouteError>
-    ensures ok { IfOk result (λ text. read_as zero_text value.now ≡ Some (string_bytes text.text ++ (0 ∷ []))) }
+    ensures ok { IfOk result
+        (λ text. read_as zero_text value.now ≡ Some (string_bytes text.text ++ (0 ∷ []))) }
     ensures err { IfErr result (λ e. wants_memory e ≡ false → read_as zero_text value.now ≡ None) }
     ensures fault { IfErr result (IsValueFault zero_text kind value.now) }
 {

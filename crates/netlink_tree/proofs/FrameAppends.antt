@@ -15,7 +15,8 @@ added old front middle new text count first second third counted =
     ∙ ap (λ (n : ℕ). (old ++ text) ++ replicate n 0) counted ∙ append_assoc old text (replicate (padding (length text)) 0)
 
 -- a datagram and one frame more
-pub frames_push : (old new text bytes : List ℕ) → length old % 4 ≡ 0 → HoldsFrame bytes → text ≡ frame_of bytes → new ≡ old ++ padded_frame text
+pub frames_push : (old new text bytes : List ℕ) → length old % 4 ≡ 0 → HoldsFrame bytes → text ≡ frame_of bytes
+    → new ≡ old ++ padded_frame text
     → (all : List (List ℕ)) → FrameWalk old all None → FrameWalk new (all ++ (frame_of bytes ∷ [])) None
 frames_push old new text bytes aligned holds same is all walk =
     let size = length-frame_of bytes holds in

@@ -8,21 +8,25 @@ use Rattle.netlink_packet_core.specs.FrameWalkLaws.{frames_once, has_frames}
 use Rattle.netlink_tree.specs.FrameSteps.{unread_frames, frame_steps, frame_bound, FrameItem, AreFrames, GivesFrames}
 use Rattle.netlink_tree.specs.declared.frames.Frames.{Frames}
 
-frames_of_steps : (s : Frames (Bor (List ℕ))) (items : List FrameItem) → Drains frame_steps s items → (all : List (List ℕ)) × (fault : Option DecodeError) × FrameWalk (unread_frames s) all fault × AreFrames items all fault
+frames_of_steps : (s : Frames (Bor (List ℕ))) (items : List FrameItem) → Drains frame_steps s items
+    → (all : List (List ℕ)) × (fault : Option DecodeError) × FrameWalk (unread_frames s) all fault × AreFrames items all fault
 frames_of_steps s [] (u, (t, same, (done, left))) = ([], None, ap unread_frames same ∙ done, tt)
 frames_of_steps s (Ok frame ∷ items) (u, (t, (j, (holds, starts), more), last)) =
     let later = frames_of_steps j items (u, (t, more, last)) in
     (frame.now ∷ later.0, later.1, (unread_frames j, starts, later.2), (refl, later.3))
 frames_of_steps s (Err fault ∷ []) (u, (t, (j, (some, is, none), more), last)) = ([], Some fault, (some, is), (refl, refl))
-frames_of_steps s (Err fault ∷ (Ok frame ∷ items)) (u, (t, (j, (some, is, none), (k, (holds, starts), more)), last)) = absurd (no_frame_starts _ _ _ none starts)
-frames_of_steps s (Err fault ∷ (Err other ∷ items)) (u, (t, (j, (some, is, none), (k, (again, other_is, end), more)), last)) = absurd (again none)
+frames_of_steps s (Err fault ∷ (Ok frame ∷ items)) (u, (t, (j, (some, is, none), (k, (holds, starts), more)), last)) =
+    absurd (no_frame_starts _ _ _ none starts)
+frames_of_steps s (Err fault ∷ (Err other ∷ items)) (u, (t, (j, (some, is, none), (k, (again, other_is, end), more)), last)) =
+    absurd (again none)
 
 some_bytes : (bytes : List ℕ) → bytes ≢ [] → 0 < length bytes
 some_bytes [] some = absurd (some refl)
 some_bytes (x ∷ bytes) some = omega arith
 
 -- a walk has an item for each 16 bytes at most, a part of 16 counted as a whole
-item_count : (bytes : List ℕ) (items : List FrameItem) (all : List (List ℕ)) (fault : Option DecodeError) → FrameWalk bytes all fault → AreFrames items all fault → length items ≤ frame_bound bytes
+item_count : (bytes : List ℕ) (items : List FrameItem) (all : List (List ℕ)) (fault : Option DecodeError) → FrameWalk bytes all fault
+    → AreFrames items all fault → length items ≤ frame_bound bytes
 item_count bytes [] all fault walk are = omega arith
 item_count bytes (Err found ∷ items) [] None walk are = absurd are
 item_count bytes (Err found ∷ items) [] (Some fault) walk are =

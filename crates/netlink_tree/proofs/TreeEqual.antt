@@ -95,7 +95,8 @@ same_leaves k l v w =
     let e = leaf_leaf k l v w in
     let a = view-leaf k v in
     let b = view-leaf l w in (
-      λ h. let p = both (k == l) (pointwise ◌==◌ v.items w.items) (sym e ∙ h) in let n = (numbers k l).0 p.0 in let i = (lists v.items w.items).0 p.1 in cc,
+      λ h. let p = both (k == l) (pointwise ◌==◌ v.items w.items) (sym e ∙ h) in let n = (numbers k l).0 p.0 in
+          let i = (lists v.items w.items).0 p.1 in cc,
       λ h. let p = leaves k l v.items w.items (sym a ∙ h ∙ b) in e ∙ and_so _ _ ((numbers k l).1 p.0) ((lists v.items w.items).1 p.1),
     )
 
@@ -118,8 +119,10 @@ same_nests k l ts us es from =
     let e = nest_nest k l ts us in
     let a = view-nest k ts in
     let b = view-nest l us in
-    let inside = subst (λ (xs : List NlaTree). IsTrue (pointwise equal xs us.items) ↔ (views xs ≡ views us.items)) from (same_lists es us.items) in (
-      λ h. let p = both (k == l) (pointwise equal ts.items us.items) (sym e ∙ h) in let n = (numbers k l).0 p.0 in let i = inside.0 p.1 in cc,
+    let inside =
+    subst (λ (xs : List NlaTree). IsTrue (pointwise equal xs us.items) ↔ (views xs ≡ views us.items)) from (same_lists es us.items) in (
+      λ h. let p = both (k == l) (pointwise equal ts.items us.items) (sym e ∙ h) in let n = (numbers k l).0 p.0 in let i = inside.0 p.1 in
+          cc,
       λ h. let p = nests k l (views ts.items) (views us.items) (sym a ∙ h ∙ b) in e ∙ and_so _ _ ((numbers k l).1 p.0) (inside.1 p.1),
     )
 
@@ -135,5 +138,7 @@ same_level (NlaTree-F.Nest k ts) (NlaTree-F.Nest l us) = same_nests k l _ us ts.
 pub same_tree : (a : NlaTree) → IsSame a
 same_tree = ind-NlaTree IsSame (λ x y e b.
     let level = same_level y (out-NlaTree b) in
-    let whole = subst (λ (z : NlaTree-F NlaTree). IsTrue (equal (roll-NlaTree z) (roll-NlaTree (out-NlaTree b))) ↔ (view (roll-NlaTree z) ≡ view (roll-NlaTree (out-NlaTree b)))) e (rw is level) in
+    let whole =
+    subst (λ (z : NlaTree-F NlaTree). IsTrue (equal (roll-NlaTree z) (roll-NlaTree (out-NlaTree b)))
+    ↔ (view (roll-NlaTree z) ≡ view (roll-NlaTree (out-NlaTree b)))) e (rw is level) in
     subst (λ (c : NlaTree). IsTrue (equal (roll-NlaTree x) c) ↔ (view (roll-NlaTree x) ≡ view c)) (roll-out-NlaTree b) whole)

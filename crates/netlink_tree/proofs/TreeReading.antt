@@ -21,19 +21,22 @@ AreRead Inside [] ts = ts ≡ no_trees
 AreRead Inside (a ∷ done) no_trees = ⊥
 AreRead Inside (a ∷ done) (grow t ts) = IsRead Inside a (Ok t) × AreRead Inside done ts
 
-pub read_push : (Inside : List ℕ → Outcome → Type 0) (done : List Attribute) (ts : Forest) (a : Attribute) (t : Tree) → AreRead Inside done ts → IsRead Inside a (Ok t) → AreRead Inside (done ++ (a ∷ [])) (grown ts t)
+pub read_push : (Inside : List ℕ → Outcome → Type 0) (done : List Attribute) (ts : Forest) (a : Attribute) (t : Tree)
+    → AreRead Inside done ts → IsRead Inside a (Ok t) → AreRead Inside (done ++ (a ∷ [])) (grown ts t)
 read_push Inside [] no_trees a t so_far last = (last, refl)
 read_push Inside [] (grow first ts) a t so_far last = absurd (cc)
 read_push Inside (d ∷ done) no_trees a t so_far last = absurd so_far
 read_push Inside (d ∷ done) (grow first ts) a t so_far last = (so_far.0, read_push Inside done ts a t so_far.1 last)
 
-along_done : (Inside : List ℕ → Outcome → Type 0) (done : List Attribute) (ts : Forest) → AreRead Inside done ts → Along Inside done None (Ok ts)
+along_done : (Inside : List ℕ → Outcome → Type 0) (done : List Attribute) (ts : Forest) → AreRead Inside done ts
+    → Along Inside done None (Ok ts)
 along_done Inside [] ts r = ap Ok r
 along_done Inside (a ∷ done) no_trees r = absurd r
 along_done Inside (a ∷ done) (grow t ts) r = (r.0, along_done Inside done ts r.1)
 
 -- a fault behind attributes that were read
-along_fault : (Inside : List ℕ → Outcome → Type 0) (done more : List Attribute) (ts : Forest) (fault : Option DecodeError) (e : TreeFault) → AreRead Inside done ts → Along Inside more fault (Err e) → Along Inside (done ++ more) fault (Err e)
+along_fault : (Inside : List ℕ → Outcome → Type 0) (done more : List Attribute) (ts : Forest) (fault : Option DecodeError) (e : TreeFault)
+    → AreRead Inside done ts → Along Inside more fault (Err e) → Along Inside (done ++ more) fault (Err e)
 along_fault Inside [] more ts fault e r along = along
 along_fault Inside (a ∷ done) more no_trees fault e r along = absurd r
 along_fault Inside (a ∷ done) more (grow t ts) fault e r along = inr (t, r.0, along_fault Inside done more ts fault e r.1 along)
@@ -54,7 +57,8 @@ trees_deep zero bytes least some = inr (λ none. some (ap length none), refl)
 trees_deep (suc n) bytes least some = absurd (omega arith)
 
 -- a walk, and what its attributes come to
-trees_of : (n : ℕ) (bytes : List ℕ) (all : List Attribute) (fault : Option DecodeError) (outcome : Outcome) → n ≢ 0 → Walk bytes all fault → Along (Trees (n - 1)) all fault outcome → Trees n bytes outcome
+trees_of : (n : ℕ) (bytes : List ℕ) (all : List Attribute) (fault : Option DecodeError) (outcome : Outcome) → n ≢ 0 → Walk bytes all fault
+    → Along (Trees (n - 1)) all fault outcome → Trees n bytes outcome
 unfolding Trees
 trees_of zero bytes all fault outcome some walk along = absurd (some refl)
 trees_of (suc n) bytes all fault outcome some walk along =
@@ -62,23 +66,29 @@ trees_of (suc n) bytes all fault outcome some walk along =
     (all, fault, walk, subst (λ (k : ℕ). Along (Trees k) all fault outcome) one along)
 
 -- the end of the walk
-pub trees_end : (n : ℕ) (bytes : List ℕ) (done : List Attribute) (rest : List ℕ) (ts : Forest) → n ≢ 0 → Passes bytes done rest → rest ≡ [] → AreRead (Trees (n - 1)) done ts → Trees n bytes (Ok ts)
+pub trees_end : (n : ℕ) (bytes : List ℕ) (done : List Attribute) (rest : List ℕ) (ts : Forest) → n ≢ 0 → Passes bytes done rest → rest ≡ []
+    → AreRead (Trees (n - 1)) done ts → Trees n bytes (Ok ts)
 trees_end n bytes done rest ts some passes none are =
     trees_of n bytes _ None (Ok ts) some (passes_walks bytes done rest [] None passes none)
-    (subst (λ (all : List Attribute). Along (Trees (n - 1)) all None (Ok ts)) (sym (append-nil done)) (along_done (Trees (n - 1)) done ts are))
+    (subst (λ (all : List Attribute). Along (Trees (n - 1)) all None (Ok ts)) (sym (append-nil done))
+    (along_done (Trees (n - 1)) done ts are))
 
 -- what a proof of these cases needs
 pub ruleset block_ends = (trees_none, trees_deep, trees_end)
 
 -- its fault
-pub trees_fault : (n : ℕ) (bytes : List ℕ) (done : List Attribute) (rest : List ℕ) (ts : Forest) (e : DecodeError) → n ≢ 0 → Passes bytes done rest → rest ≢ [] → IsFault rest e → AreRead (Trees (n - 1)) done ts → Trees n bytes (Err (Decode e))
+pub trees_fault : (n : ℕ) (bytes : List ℕ) (done : List Attribute) (rest : List ℕ) (ts : Forest) (e : DecodeError) → n ≢ 0
+    → Passes bytes done rest → rest ≢ [] → IsFault rest e → AreRead (Trees (n - 1)) done ts → Trees n bytes (Err (Decode e))
 trees_fault n bytes done rest ts e some passes left is are =
-    trees_of n bytes _ (Some e) (Err (Decode e)) some (passes_walks bytes done rest [] (Some e) passes (left, is)) (along_fault (Trees (n - 1)) done [] ts (Some e) (Decode e) are refl)
+    trees_of n bytes _ (Some e) (Err (Decode e)) some (passes_walks bytes done rest [] (Some e) passes (left, is))
+    (along_fault (Trees (n - 1)) done [] ts (Some e) (Decode e) are refl)
 
 -- a fault inside an attribute, or want of memory; what stands behind the attribute walks somehow
-pub trees_inside : (n : ℕ) (bytes : List ℕ) (done : List Attribute) (middle : List ℕ) (a : Attribute) (rest : List ℕ) (ts : Forest) (e : TreeFault) → n ≢ 0 → Passes bytes done middle → Starts middle a rest
+pub trees_inside : (n : ℕ) (bytes : List ℕ) (done : List Attribute) (middle : List ℕ) (a : Attribute) (rest : List ℕ) (ts : Forest)
+    (e : TreeFault) → n ≢ 0 → Passes bytes done middle → Starts middle a rest
     → (later : (all : List Attribute) × (fault : Option DecodeError) × Walk rest all fault)
-    → (e ≡ Decode OutOfMemory) ⊎ IsRead (Trees (n - 1)) a (Err e) → AreRead (Trees (n - 1)) done ts → (e ≡ Decode OutOfMemory) ⊎ Trees n bytes (Err e)
+    → (e ≡ Decode OutOfMemory) ⊎ IsRead (Trees (n - 1)) a (Err e) → AreRead (Trees (n - 1)) done ts
+    → (e ≡ Decode OutOfMemory) ⊎ Trees n bytes (Err e)
 trees_inside n bytes done middle a rest ts e some passes starts later (inl memory) are = inl memory
 trees_inside n bytes done middle a rest ts e some passes starts later (inr inside) are = inr
     (trees_of n bytes _ later.1 (Err e) some (passes_walks bytes done middle (a ∷ later.0) later.1 passes (rest, starts, later.2))
@@ -86,11 +96,13 @@ trees_inside n bytes done middle a rest ts e some passes starts later (inr insid
 
 -- ---- what is read is well formed
 
-formed_along : (Inside : List ℕ → Outcome → Type 0) → ((v : List ℕ) (ts : Forest) → Inside v (Ok ts) → AreWellFormed ts) → (all : List Attribute) (fault : Option DecodeError) (ts : Forest) → Along Inside all fault (Ok ts) → AreWellFormed ts
+formed_along : (Inside : List ℕ → Outcome → Type 0) → ((v : List ℕ) (ts : Forest) → Inside v (Ok ts) → AreWellFormed ts)
+    → (all : List Attribute) (fault : Option DecodeError) (ts : Forest) → Along Inside all fault (Ok ts) → AreWellFormed ts
 formed_along Inside formed all fault no_trees along = tt
 formed_along Inside formed [] None (grow t ts) along = absurd (cc)
 formed_along Inside formed [] (Some e) (grow t ts) along = absurd (cc)
-formed_along Inside formed (b ∷ all) fault (grow (leaf kind value) ts) along = (ap is_nested along.0.1 ∙ along.0.0, formed_along Inside formed all fault ts along.1)
+formed_along Inside formed (b ∷ all) fault (grow (leaf kind value) ts) along =
+    (ap is_nested along.0.1 ∙ along.0.0, formed_along Inside formed all fault ts along.1)
 formed_along Inside formed (b ∷ all) fault (grow (nest kind children) ts) along =
     ((ap is_nested along.0.1 ∙ along.0.0, formed b.value children along.0.2), formed_along Inside formed all fault ts along.1)
 

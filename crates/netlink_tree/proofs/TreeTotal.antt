@@ -36,7 +36,8 @@ value_bytes bytes a rest starts each = front_bytes a.value (starts.gap ++ rest) 
     rw (← behind, get_or-drop) (each (4 + i)))
 
 -- an attribute comes to a tree, or to a fault inside
-read_some : (Inside : List ℕ → Outcome → Type 0) → Comes Inside → (a : Attribute) → IsBytes a.value → (r : Result Tree TreeFault) × IsRead Inside a r
+read_some : (Inside : List ℕ → Outcome → Type 0) → Comes Inside → (a : Attribute) → IsBytes a.value
+    → (r : Result Tree TreeFault) × IsRead Inside a r
 read_some Inside comes a each = by_flag (is_nested a.kind) refl
   where
     by_flag : (flag : Bool) → is_nested a.kind ≡ flag → (r : Result Tree TreeFault) × IsRead Inside a r
@@ -55,11 +56,13 @@ joined Inside a more fault (Err e, first) behind = (Err e, inl first)
 joined Inside a more fault (Ok t, first) (Ok ts, along) = (Ok (grow t ts), (first, along))
 joined Inside a more fault (Ok t, first) (Err e, along) = (Err e, inr (t, first, along))
 
-along_some : (Inside : List ℕ → Outcome → Type 0) → Comes Inside → (bytes : List ℕ) (all : List Attribute) (fault : Option DecodeError) → IsBytes bytes → Walk bytes all fault → (outcome : Outcome) × Along Inside all fault outcome
+along_some : (Inside : List ℕ → Outcome → Type 0) → Comes Inside → (bytes : List ℕ) (all : List Attribute) (fault : Option DecodeError)
+    → IsBytes bytes → Walk bytes all fault → (outcome : Outcome) × Along Inside all fault outcome
 along_some Inside comes bytes [] None each walk = (Ok no_trees, refl)
 along_some Inside comes bytes [] (Some e) each walk = (Err (Decode e), refl)
 along_some Inside comes bytes (a ∷ more) fault each (rest, starts, walk) =
-    joined Inside a more fault (read_some Inside comes a (value_bytes bytes a rest starts each)) (along_some Inside comes rest more fault (starts_bytes bytes a rest starts each) walk)
+    joined Inside a more fault (read_some Inside comes a (value_bytes bytes a rest starts each))
+    (along_some Inside comes rest more fault (starts_bytes bytes a rest starts each) walk)
 
 pub trees_some : Walks → (n : ℕ) (bytes : List ℕ) → IsBytes bytes → (outcome : Outcome) × Trees n bytes outcome
 unfolding Trees

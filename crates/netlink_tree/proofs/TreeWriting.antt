@@ -34,29 +34,36 @@ put_behind [] rest text = refl
 put_behind (b ∷ front) rest text =
     let whole : List ℕ = b ∷ (front ++ rest) in
     let place : suc (length front) + length text ≡ suc (length front + length text) = omega arith in
-    ap (λ (n : ℕ). take (suc (length front)) whole ++ (text ++ drop n whole)) place ∙ ap (λ (l : List ℕ). b ∷ l) (put_behind front rest text)
+    ap (λ (n : ℕ). take (suc (length front)) whole ++ (text ++ drop n whole)) place
+    ∙ ap (λ (l : List ℕ). b ∷ l) (put_behind front rest text)
 
-counted : (kind : ℕ) (inner : List ℕ) → length inner % 4 ≡ 0 → put_at (padded (attribute_with kind []) ++ inner) 0 (bytes_le (4 + length inner) 2) ≡ padded (attribute_with kind inner)
+counted : (kind : ℕ) (inner : List ℕ) → length inner % 4 ≡ 0
+    → put_at (padded (attribute_with kind []) ++ inner) 0 (bytes_le (4 + length inner) 2) ≡ padded (attribute_with kind inner)
 unfolding bytes_le
 counted kind inner aligned =
     let text : List ℕ = attribute_bytes (attribute_with kind inner) in
     let none : padding (length inner) ≡ 0 = omega arith in
     sym (ap (λ (n : ℕ). text ++ replicate n 0) none ∙ append-nil text)
 
-pub nest_length : (old one two : List ℕ) (kind : ℕ) (ts : Forest) → one ≡ old ++ padded (attribute_with kind []) → two ≡ one ++ tree_bytes ts → length two ≡ length old + (4 + length (tree_bytes ts))
+pub nest_length : (old one two : List ℕ) (kind : ℕ) (ts : Forest) → one ≡ old ++ padded (attribute_with kind [])
+    → two ≡ one ++ tree_bytes ts → length two ≡ length old + (4 + length (tree_bytes ts))
 nest_length old one two kind ts first second =
     let a = ap length first ∙ length-append old (padded (attribute_with kind [])) in
     let b = ap length second ∙ length-append one (tree_bytes ts) in
     let c = length-padded (attribute_with kind []) in
     omega arith
 
-pub nest_counted : (old one two new : List ℕ) (kind start : ℕ) (ts : Forest) → start ≡ length old → one ≡ old ++ padded (attribute_with kind []) → two ≡ one ++ tree_bytes ts
+pub nest_counted : (old one two new : List ℕ) (kind start : ℕ) (ts : Forest) → start ≡ length old
+    → one ≡ old ++ padded (attribute_with kind []) → two ≡ one ++ tree_bytes ts
     → new ≡ put_at two start (bytes_le (length two - start) 2) → new ≡ old ++ padded (attribute_with kind (tree_bytes ts))
 nest_counted old one two new kind start ts at first second third =
     let header : List ℕ = padded (attribute_with kind []) in
-    let size : length two - length old ≡ 4 + length (tree_bytes ts) = let all = nest_length old one two kind ts first second in omega arith in
-    let whole : two ≡ old ++ (header ++ tree_bytes ts) = second ∙ ap (λ (l : List ℕ). l ++ tree_bytes ts) first ∙ append_assoc old header (tree_bytes ts) in
-    third ∙ ap (λ (n : ℕ). put_at two n (bytes_le (length two - n) 2)) at ∙ ap (λ (n : ℕ). put_at two (length old) (bytes_le n 2)) size ∙ ap (λ (l : List ℕ). put_at l (length old) (bytes_le (4 + length (tree_bytes ts)) 2)) whole
+    let size : length two - length old ≡ 4 + length (tree_bytes ts) = let all = nest_length old one two kind ts first second in
+    omega arith in
+    let whole : two ≡ old ++ (header ++ tree_bytes ts) =
+    second ∙ ap (λ (l : List ℕ). l ++ tree_bytes ts) first ∙ append_assoc old header (tree_bytes ts) in
+    third ∙ ap (λ (n : ℕ). put_at two n (bytes_le (length two - n) 2)) at ∙ ap (λ (n : ℕ). put_at two (length old) (bytes_le n 2)) size
+    ∙ ap (λ (l : List ℕ). put_at l (length old) (bytes_le (4 + length (tree_bytes ts)) 2)) whole
     ∙ put_behind old (header ++ tree_bytes ts) (bytes_le (4 + length (tree_bytes ts)) 2)
     ∙ ap (λ (l : List ℕ). old ++ l) (counted kind (tree_bytes ts) (text_aligned ts))
 
@@ -79,12 +86,18 @@ padded-append a rest = append_assoc (attribute_bytes a) (replicate (padding (len
 
 written_block : (all : List Attribute) → All FitsAttribute all → IsBlockOf (canonical_block all) all
 written_block [] each = refl
-written_block (a ∷ more) each =
-    (canonical_block more, All-head FitsAttribute a more each, padded-append a (canonical_block more), written_block more (All-tail FitsAttribute a more each))
+written_block (a ∷ more) each = (
+  canonical_block more,
+  All-head FitsAttribute a more each,
+  padded-append a (canonical_block more),
+  written_block more
+      (All-tail FitsAttribute a more each),
+)
 
 pub block_bytes : (bytes : List ℕ) (all : List Attribute) → IsBlockOf bytes all → canonical_block all ≡ bytes
 block_bytes bytes [] none = sym none
-block_bytes bytes (a ∷ more) (rest, fits, whole, block) = ap (λ (x : List ℕ). padded a ++ x) (block_bytes rest more block) ∙ padded-append a rest ∙ sym whole
+block_bytes bytes (a ∷ more) (rest, fits, whole, block) =
+    ap (λ (x : List ℕ). padded a ++ x) (block_bytes rest more block) ∙ padded-append a rest ∙ sym whole
 
 pub block_fits : (bytes : List ℕ) (all : List Attribute) → IsBlockOf bytes all → All FitsAttribute all
 block_fits bytes [] none = All-nil FitsAttribute
@@ -118,12 +131,14 @@ text_deep ts formed range fit = block_deep (attributes_of ts) (forest_fits ts ra
 
 -- ---- what the writing comes to
 
-chosen : (d l : Bool) (t text : List ℕ) → (if d then Err TooDeep else if l then Err TooLong else Ok t) ≡ Ok text → (d ≡ false) × (l ≡ false) × (t ≡ text)
+chosen : (d l : Bool) (t text : List ℕ) → (if d then Err TooDeep else if l then Err TooLong else Ok t) ≡ Ok text
+    → (d ≡ false) × (l ≡ false) × (t ≡ text)
 chosen true l t text e = absurd (cc)
 chosen false true t text e = absurd (cc)
 chosen false false t text e = (refl, refl, cc)
 
-pub writing_ok : (ts : Forest) (text : List ℕ) → writing ts ≡ Ok text → (levels ts ≤ 16) × (are_too_long ts ≡ false) × (tree_bytes ts ≡ text)
+pub writing_ok : (ts : Forest) (text : List ℕ) → writing ts ≡ Ok text
+    → (levels ts ≤ 16) × (are_too_long ts ≡ false) × (tree_bytes ts ≡ text)
 writing_ok ts text e =
     let parts = chosen (nat_lt 16 (levels ts)) (are_too_long ts) (tree_bytes ts) text e in
     let low : levels ts ≤ 16 = grind (arith, parts.0) in

@@ -20,7 +20,8 @@ FrameItem = Result (Bor (List ℕ)) DecodeError
 -- whole
 abbrev pub GivesFrame : List ℕ → Option FrameItem → List ℕ → Type 0
 GivesFrame bytes None rest = (bytes ≡ []) × (rest ≡ [])
-GivesFrame bytes (Some (Err fault)) rest = (bytes ≢ []) × IsFrameFault false bytes fault × (rest ≡ [])
+GivesFrame bytes (Some (Err fault)) rest =
+    (bytes ≢ []) × IsFrameFault false bytes fault × (rest ≡ [])
 GivesFrame bytes (Some (Ok frame)) rest = HoldsFrame frame.now × StartsFrame bytes frame.now rest
 
 -- one call of `next`
@@ -47,4 +48,5 @@ frame_bound bytes = (length bytes + 15) / 16
 abbrev pub GivesFrames : Frames (Bor (List ℕ)) → Type 0
 GivesFrames walk =
     (all : List (List ℕ)) × (fault : Option DecodeError) × FrameWalk (unread_frames walk) all fault
-    × ((items : List FrameItem) → Drains frame_steps walk items → AreFrames items all fault × (length items ≤ frame_bound (unread_frames walk)))
+    × ((items : List FrameItem) → Drains frame_steps walk items
+    → AreFrames items all fault × (length items ≤ frame_bound (unread_frames walk)))

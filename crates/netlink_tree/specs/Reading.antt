@@ -15,19 +15,28 @@ Outcome = Result Forest TreeFault
 -- the attribute is this tree, or has this fault inside, where `Inside` says what the value of a
 -- nest comes to
 abbrev pub IsRead : (List ℕ → Outcome → Type 0) → Attribute → Result Tree TreeFault → Type 0
-IsRead Inside a (Ok (leaf kind value)) = (is_nested a.kind ≡ false) × (kind ≡ a.kind) × (value ≡ a.value)
-IsRead Inside a (Ok (nest kind children)) = (is_nested a.kind ≡ true) × (kind ≡ a.kind) × Inside a.value (Ok children)
+IsRead Inside a (Ok (leaf kind value)) =
+    (is_nested a.kind ≡ false) × (kind ≡ a.kind) × (value ≡ a.value)
+IsRead Inside a (Ok (nest kind children)) =
+    (is_nested a.kind ≡ true) × (kind ≡ a.kind) × Inside a.value (Ok children)
 IsRead Inside a (Err fault) = (is_nested a.kind ≡ true) × Inside a.value (Err fault)
 
 -- what attributes come to, one after another and then nothing or one fault: the first fault decides
-abbrev pub Along : (List ℕ → Outcome → Type 0) → List Attribute → Option DecodeError → Outcome → Type 0
+abbrev pub Along : (List ℕ → Outcome → Type 0) → List Attribute → Option DecodeError → Outcome
+    → Type 0
 Along Inside [] None outcome = outcome ≡ Ok no_trees
 Along Inside [] (Some fault) outcome = outcome ≡ Err (Decode fault)
 Along Inside (a ∷ more) fault (Ok no_trees) = ⊥
-Along Inside (a ∷ more) fault (Ok (grow t ts)) = IsRead Inside a (Ok t) × Along Inside more fault (Ok ts)
-Along Inside (a ∷ more) fault (Err found) = IsRead Inside a (Err found) ⊎ ((t : Tree) × IsRead Inside a (Ok t) × Along Inside more fault (Err found))
+Along Inside (a ∷ more) fault (Ok (grow t ts)) =
+    IsRead Inside a (Ok t) × Along Inside more fault (Ok ts)
+Along Inside (a ∷ more) fault (Err found) =
+    IsRead Inside a (Err found)
+    ⊎ ((t : Tree) × IsRead Inside a (Ok t) × Along Inside more fault (Err found))
 
 -- what bytes come to, where attributes may stand so many levels deep
 unfoldable pub Trees : ℕ → List ℕ → Outcome → Type 0
-Trees zero bytes outcome = ((bytes ≡ []) × (outcome ≡ Ok no_trees)) ⊎ ((bytes ≢ []) × (outcome ≡ Err TooDeep))
-Trees (suc levels) bytes outcome = (all : List Attribute) × (fault : Option DecodeError) × Walk bytes all fault × Along (Trees levels) all fault outcome
+Trees zero bytes outcome =
+    ((bytes ≡ []) × (outcome ≡ Ok no_trees)) ⊎ ((bytes ≢ []) × (outcome ≡ Err TooDeep))
+Trees (suc levels) bytes outcome =
+    (all : List Attribute) × (fault : Option DecodeError) × Walk bytes all fault
+    × Along (Trees levels) all fault outcome

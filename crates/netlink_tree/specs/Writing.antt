@@ -11,7 +11,8 @@ abbrev mutual
   -- the attribute that a tree is written as: the value of a nest is the block of what is inside
   pub written : Tree → Attribute
   written (leaf kind value) = record { kind = kind; value = value }
-  written (nest kind children) = record { kind = kind; value = canonical_block (attributes_of children) }
+  written (nest kind children) =
+      record { kind = kind; value = canonical_block (attributes_of children) }
 
   pub attributes_of : Forest → List Attribute
   attributes_of no_trees = []
@@ -37,7 +38,9 @@ abbrev mutual
 
 -- what the writing of trees comes to
 abbrev pub writing : Forest → Result (List ℕ) TreeFault
-writing ts = if nat_lt 16 (levels ts) then Err TooDeep else if are_too_long ts then Err TooLong else Ok (tree_bytes ts)
+writing ts =
+    if nat_lt 16 (levels ts) then Err TooDeep else if are_too_long ts then Err TooLong else Ok
+    (tree_bytes ts)
 
 -- a canonical block, and so is the value of each of its attributes with the bit of nested
 -- attributes, at every depth

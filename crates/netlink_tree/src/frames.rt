@@ -98,13 +98,20 @@ fn behind_frame(bytes: &[u8], size: usize) -> &[u8]
 pub fn append_frame(_alloc: Global, datagram: &mut Vec<u8>, frame: &[u8]) -> Result<(), DecodeError>
     requires aligned { length datagram.old.items % 4 ≡ 0 }
     ensures whole { OnOk result (HoldsFrame frame.now) }
-    ensures appended { OnOk result (datagram.new.items ≡ datagram.old.items ++ padded_frame (frame_of frame.now)) }
-    ensures refuses { IfErr result (λ e. IsFrameFault false frame.now e ⊎ (HoldsFrame frame.now × (e ≡ DecodeError.OutOfMemory))) }
+    ensures appended { OnOk result
+        (datagram.new.items ≡ datagram.old.items ++ padded_frame (frame_of frame.now)) }
+    ensures refuses { IfErr result
+        (λ e. IsFrameFault false frame.now e
+        ⊎ (HoldsFrame frame.now × (e ≡ DecodeError.OutOfMemory))) }
     ensures unchanged { OnErr result (datagram.new.items ≡ datagram.old.items) }
-    ensures room { HoldsFrame frame.now → vec_len datagram.old + length (padded_frame (frame_of frame.now)) ≤ vec_capacity datagram.old → IsOk result }
+    ensures room { HoldsFrame frame.now
+        → vec_len datagram.old + length (padded_frame (frame_of frame.now))
+        ≤ vec_capacity datagram.old → IsOk result }
 
     // what the datagram is then, to those that walk it or add to it
-    ensures walk { OnOk result ((all : List (List ℕ)) → FrameWalk datagram.old.items all None → FrameWalk datagram.new.items (all ++ (frame_of frame.now ∷ [])) None) }
+    ensures walk { OnOk result
+        ((all : List (List ℕ)) → FrameWalk datagram.old.items all None
+        → FrameWalk datagram.new.items (all ++ (frame_of frame.now ∷ [])) None) }
     ensures aligned { length datagram.new.items % 4 ≡ 0 }
 {
     let text = first_frame(frame)?;

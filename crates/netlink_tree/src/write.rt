@@ -117,7 +117,8 @@ fn text_size(trees: &[NlaTree]) -> Option<usize>
 fn bytes_of(alloc: Global, trees: &[NlaTree], size: usize) -> Result<Vec<u8>, TreeFault>
     requires short { are_too_long (views trees.now) ≡ false }
     requires size { trees.now ≡ [] → size ≡ 0 }
-    ensures text { MatchResult result (λ v. v.items ≡ tree_bytes (views trees.now)) (λ e. e ≡ TreeFault.Decode DecodeError.OutOfMemory) }
+    ensures text { MatchResult result (λ v. v.items ≡ tree_bytes (views trees.now))
+        (λ e. e ≡ TreeFault.Decode DecodeError.OutOfMemory) }
     ensures in_range { OnOk result (TreesInRange (views trees.now)) }
     ensures empty { trees.now ≡ [] → IsOk result }
 {
@@ -155,7 +156,9 @@ fn append_nest(
 ) -> Result<(), TreeFault>
     requires inside { are_too_long (views children.now) ≡ false }
     requires fits { length (tree_bytes (views children.now)) ≤ 65531 }
-    ensures ok { OnOk result (block.new.items ≡ block.old.items ++ padded (attribute_with kind (tree_bytes (views children.now)))) }
+    ensures ok { OnOk result
+        (block.new.items ≡ block.old.items
+        ++ padded (attribute_with kind (tree_bytes (views children.now)))) }
     ensures in_range { OnOk result (TreesInRange (views children.now)) }
     ensures err { IfErr result (λ e. e ≡ TreeFault.Decode DecodeError.OutOfMemory) }
 {
@@ -170,7 +173,8 @@ fn append_nest(
 fn count_from(block: &mut Vec<u8>, start: usize)
     requires inside { start + 4 ≤ length block.old.items }
     requires fits { length block.old.items ≤ start + 65535 }
-    ensures { block.new.items ≡ put_at block.old.items start (bytes_le (length block.old.items - start) 2) }
+    ensures { block.new.items
+        ≡ put_at block.old.items start (bytes_le (length block.old.items - start) 2) }
 {
     let size = block.len() - start;
     put_u16(block, start, size as u16);

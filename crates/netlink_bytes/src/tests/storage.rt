@@ -17,7 +17,8 @@ fn count<T: Storage>(storage: &T) -> usize
 fn set_at<T: StorageMut>(storage: &mut T, at: usize, value: u8)
     requires { at < length (T.contents storage.old) }
     ensures held { T.contents storage.new ≡ slice_set (T.contents storage.old) at value }
-    ensures same { storage.new ≡ T.with_contents storage.old (slice_set (T.contents storage.old) at value) }
+    ensures same { storage.new
+        ≡ T.with_contents storage.old (slice_set (T.contents storage.old) at value) }
 {
     let bytes = storage.bytes_mut();
     bytes[at] = value;
@@ -27,7 +28,8 @@ fn set_at<T: StorageMut>(storage: &mut T, at: usize, value: u8)
 fn fill_part<T: StorageMut>(storage: &mut T, start: usize, end: usize, value: u8)
     requires order { start ≤ end }
     requires inside { end ≤ length (T.contents storage.old) }
-    ensures held { T.contents storage.new ≡ put_at (T.contents storage.old) start (replicate (end - start) value) }
+    ensures held { T.contents storage.new
+        ≡ put_at (T.contents storage.old) start (replicate (end - start) value) }
 {
     let part = storage.part_mut(start, end);
     part.fill(value);
@@ -43,8 +45,10 @@ impl<T: StorageMut> View<T> {
     /// Writes one byte.
     fn set(&mut self, at: usize, value: u8)
         requires { at < length (T.contents self.old.storage) }
-        ensures held { T.contents self.new.storage ≡ slice_set (T.contents self.old.storage) at value }
-        ensures same { self.new.storage ≡ T.with_contents self.old.storage (slice_set (T.contents self.old.storage) at value) }
+        ensures held { T.contents self.new.storage
+            ≡ slice_set (T.contents self.old.storage) at value }
+        ensures same { self.new.storage
+            ≡ T.with_contents self.old.storage (slice_set (T.contents self.old.storage) at value) }
     {
         set_at(&mut self.storage, at, value);
     }

@@ -35,7 +35,8 @@ impl Emitable for Word {
 impl<'a> ParseableParametrized<&'a [u8], bool> for Word {
     ghost can_parse = { λ buf high_first. ⊤ };
 
-    ghost reads = { λ buf high_first word. (length buf.now ≡ 2) × (word.0 ≡ (if high_first then number_be buf.now else number_le buf.now)) };
+    ghost reads = { λ buf high_first word. (length buf.now ≡ 2)
+        × (word.0 ≡ (if high_first then number_be buf.now else number_le buf.now)) };
 
     ghost refusal = { λ buf high_first e. (length buf.now ≢ 2) × (e ≡ InvalidNumber 2 (length buf.now)) };
 

@@ -56,7 +56,9 @@ returns c =
       err = answer_err _ _ answer;
       writes = answer_writes _ _ answer;
       fault = λ all fault walk. absurd (no_fault _ _ _ _ known.1 walk);
-      empty = λ none. absurd (let yes = c.is_canonical_nlas.ensures.canonical.1 (empty_canonical _ none) in let no = c.if-is_canonical_nlas.false in cc);
+      empty =
+          λ none. absurd (let yes = c.is_canonical_nlas.ensures.canonical.1 (empty_canonical _ none) in
+          let no = c.if-is_canonical_nlas.false in cc);
       fixed = answer_fixed _ _ answer;
       canonical = answer_canonical _ _ answer;
       unchanged = answer_unchanged _ _ answer;

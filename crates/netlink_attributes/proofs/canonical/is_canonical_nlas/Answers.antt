@@ -8,7 +8,13 @@ returns-then-not-is_zero_padded c =
     let zeros = same_zeros _ _ _ _ step.0 (ap (λ (x : Bor (List ℕ)). x.now) c.into_inner.ensures.keeps) c.length-size.ensures.number in
     let told = c.is_zero_padded.ensures in
     let tested = c.if-not-is_zero_padded.true in
-    record { canonical = (λ yes. cc, λ canonical. let yes = told.1 (zeros.1 (canonical_rest _ _ _ step.2 (c.loop-item.invariant.0 canonical)).1) in cc) }
+    record {
+      canonical = (
+        λ yes. cc,
+        λ canonical.
+            let yes = told.1 (zeros.1 (canonical_rest _ _ _ step.2 (c.loop-item.invariant.0 canonical)).1) in cc,
+      );
+    }
 
 pub loop-item-preserved : goal.loop-item-preserved
 loop-item-preserved c =

@@ -7,5 +7,8 @@ pub returns-else-end-bytes : goal.returns-else-end-bytes
 returns-else-end-bytes c =
     let inside = c.requires.inside in
     let multiple = c.nla_align-end.ensures in
-    let short : length c.args.bytes.now - c.args.size < padding c.args.size = omega (arith, c.if-end-bytes.false) in
-    (λ yes. absurd (let past = c.if-end-bytes.false in grind arith), λ zeros. absurd (short_padding c.args.bytes.now c.args.size short zeros))
+    let short : length c.args.bytes.now - c.args.size < padding c.args.size = omega (arith, c.if-end-bytes.false) in (
+      λ yes. absurd (let past = c.if-end-bytes.false in grind arith),
+      λ zeros.
+          absurd (short_padding c.args.bytes.now c.args.size short zeros),
+    )

@@ -45,4 +45,5 @@ returns-in-Err-clause-none c = λ all fault walk.
 pub returns-clause-none : goal.returns-clause-none
 returns-clause-none c = λ all fault walk.
     let passed = c.loop-item.invariant.passed in
-    none_found (kind_by c.args.whole) _ passed.0 _ c.args.kind (passes_ends _ _ _ passed.1 c.in-None.ensures.steps.0) passed.2 all fault walk
+    none_found (kind_by c.args.whole) _ passed.0 _ c.args.kind (passes_ends _ _ _ passed.1 c.in-None.ensures.steps.0) passed.2 all fault
+    walk

@@ -9,5 +9,6 @@ use Rattle.netlink_attributes.proofs.find.find.Given as goal
 abbrev pub invariant-loop-item : goal.invariant-loop-item
 invariant-loop-item l = record {
   count : l.index * 4 + length (unread l.item-iterator) ≤ length l.block;
-  passed : (done : List Attribute) × Passes l.block done (unread l.item-iterator) × HasNone (kind_by l.whole) done l.kind × (length done ≡ l.index);
+  passed : (done : List Attribute) × Passes l.block done (unread l.item-iterator) × HasNone (kind_by l.whole) done l.kind
+      × (length done ≡ l.index);
 }

@@ -10,11 +10,13 @@ returns-then-end-bytes-clause-starts c =
     let bytes : List ℕ = c.args.bytes.now in
     let end : ℕ = c.nla_align-end.result in
     subst (Starts bytes (attribute_of bytes)) (sym (take_rest bytes end))
-    (starts_held bytes end (λ i. omega (arith, c.type_inv.bytes i)) c.requires.whole (omega (arith, c.requires.size)) (omega (arith, c.requires.size)) (omega arith))
+    (starts_held bytes end (λ i. omega (arith, c.type_inv.bytes i)) c.requires.whole (omega (arith, c.requires.size))
+    (omega (arith, c.requires.size)) (omega arith))
 
 pub returns-else-end-bytes-clause-starts : goal.returns-else-end-bytes-clause-starts
 returns-else-end-bytes-clause-starts c =
     let bytes : List ℕ = c.args.bytes.now in
     let end : ℕ = c.nla_align-end.result in
     subst (Starts bytes (attribute_of bytes)) (drop_all end bytes (omega arith))
-    (starts_held bytes end (λ i. omega (arith, c.type_inv.bytes i)) c.requires.whole (omega (arith, c.requires.size)) (omega (arith, c.requires.size)) (omega arith))
+    (starts_held bytes end (λ i. omega (arith, c.type_inv.bytes i)) c.requires.whole (omega (arith, c.requires.size))
+    (omega (arith, c.requires.size)) (omega arith))

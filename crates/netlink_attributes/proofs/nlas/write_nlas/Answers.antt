@@ -15,11 +15,13 @@ loop-nla-preserved g c =
     let room : List ℕ = c.deref_mut.result.now in
     let start : ℕ = c.len-start.result in
     let put : put_mid start (length room - start) room c.emit_nla.new.buffer ≡ old ++ text =
-    put_last old room text c.emit_nla.new.buffer start c.nla_buffer_len.result _ c.len-start.ensures c.loop-nla.block.ok.0 c.nla_buffer_len.ensures.size
+    put_last old room text c.emit_nla.new.buffer start c.nla_buffer_len.result _ c.len-start.ensures c.loop-nla.block.ok.0
+    c.nla_buffer_len.ensures.size
     (c.deref_mut.ensures.value ∙ c.in_ok-resize.ensures.items) c.emit_nla.ensures.written in
     let size : length (put_mid start (length room - start) room c.emit_nla.new.buffer) ≡ c.resize.new.self.len =
     ap length put ∙ length-append old text
     ∙ omega (arith, c.len-start.ensures, c.loop-nla.block.ok.0, c.nla_buffer_len.ensures.size, c.in_ok-resize.ensures.len) in
-    ap (λ (x : List ℕ). x ++ canonical_block (attributes_of g.T.Nla.kind_of g.T.Nla.value_of (drop (c.loop-nla.nla-index + 1) c.args.nlas.now)))
+    ap (λ (x : List ℕ). x
+    ++ canonical_block (attributes_of g.T.Nla.kind_of g.T.Nla.value_of (drop (c.loop-nla.nla-index + 1) c.args.nlas.now)))
     (with_items_is c.resize.new.self (put_mid start (length room - start) room c.emit_nla.new.buffer) size ∙ put)
     ∙ moved_on old text _ _ _ c.loop-nla.invariant (block-cons g.T.Nla.kind_of g.T.Nla.value_of _ _ nla c.loop-nla-test.true c.nla-item.is)

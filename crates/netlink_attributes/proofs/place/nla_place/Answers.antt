@@ -10,7 +10,8 @@ pub returns-then-left-eq0-clause-place : goal.returns-then-left-eq0-clause-place
 returns-then-left-eq0-clause-place c = λ all fault walk.
     let step = rw c.in-Ok.is at c.in-Some.ensures.steps in
     let known = c.loop-item.invariant.same all fault walk in
-    same_place _ _ _ _ _ (ap (λ (x : Bor (List ℕ)). x.now) c.into_inner.ensures.keeps ∙ step.0) (c.length-size.ensures.number ∙ ap length_field step.0)
+    same_place _ _ _ _ _ (ap (λ (x : Bor (List ℕ)). x.now) c.into_inner.ensures.keeps ∙ step.0)
+    (c.length-size.ensures.number ∙ ap length_field step.0)
     ∙ sym (ap (option_map value_part) (known.2 ∙ place_here _ _ _ _ known.0 fault _ step.2 known.1 c.if-left-eq0.true))
 
 pub loop-item-preserved : goal.loop-item-preserved
@@ -33,4 +34,5 @@ returns-in-Err-clause-place c = λ all fault walk.
 pub returns-clause-place : goal.returns-clause-place
 returns-clause-place c = λ all fault walk.
     let known = c.loop-item.invariant.same all fault walk in
-    sym (ap (option_map value_part) (known.2 ∙ none_left _ known.0 fault _ _ known.1 (λ a r s. nothing_starts _ a r c.in-None.ensures.steps.0 s)))
+    sym (ap (option_map value_part)
+    (known.2 ∙ none_left _ known.0 fault _ _ known.1 (λ a r s. nothing_starts _ a r c.in-None.ensures.steps.0 s)))

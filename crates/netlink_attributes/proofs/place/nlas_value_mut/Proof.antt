@@ -68,16 +68,22 @@ abbrev triple : List Val → List Val → List Val → List Val
 triple us vs ws = vstruct (of_list (us ++ (vs ++ (ws ++ [])))) ∷ []
 
 -- a goal P ∗ (⌜φ⌝ ∗ ⌜ψ⌝): both facts are shown, and P is left
-says_both : {M : Type 1} {𝓤 : Ura M} {𝓛 : Logic 𝓤} {K : Type 0} {Γ : List (Item 𝓤)} → K → {φ ψ : Type 0} {P : SProp 𝓤} → φ → ψ → Step K 𝓛 Γ (prop P) Γ (prop (sep 𝓤 P (sep 𝓤 (fact 𝓤 φ) (fact 𝓤 ψ))))
-says_both {𝓤 = 𝓤} t {φ} {ψ} {P} x y = step (λ s. record { prf = via 𝓤 (sep 𝓤 (sep 𝓤 P (fact 𝓤 φ)) (fact 𝓤 ψ)) (says t y $ says t x $ s).prf (assoc∗ 𝓤 P (fact 𝓤 φ) (fact 𝓤 ψ)) })
+says_both : {M : Type 1} {𝓤 : Ura M} {𝓛 : Logic 𝓤} {K : Type 0} {Γ : List (Item 𝓤)} → K → {φ ψ : Type 0} {P : SProp 𝓤} → φ → ψ
+    → Step K 𝓛 Γ (prop P) Γ (prop (sep 𝓤 P (sep 𝓤 (fact 𝓤 φ) (fact 𝓤 ψ))))
+says_both {𝓤 = 𝓤} t {φ} {ψ} {P} x y =
+    step (λ s. record {
+      prf = via 𝓤 (sep 𝓤 (sep 𝓤 P (fact 𝓤 φ)) (fact 𝓤 ψ)) (says t y $ says t x $ s).prf (assoc∗ 𝓤 P (fact 𝓤 φ) (fact 𝓤 ψ));
+    })
 
 pub nlas_value_mut_spec : {M : Type 1} → statement M
 unfolding follows_by such_by
 nlas_value_mut_spec 𝓤 𝓛 𝓜 𝓡 wired =
     let c = f.clauses 𝓛 𝓜.mem 𝓡.returns in let W = walk_of 𝓛 f.ended stayed c in let 𝓣 = tables 𝓤 𝓛.H 𝓜 𝓡 𝓡.env in
-    proved 𝓛 f.ended stayed c 𝓜 𝓡 (Goes-spent_slice 𝓛 1 (0 ∷ []) tt (plain (λ κs. u8)), (Goes-dropped 𝓛 1 (plain (λ _. usize)) yes (λ κs x f. refl), tt))
+    proved 𝓛 f.ended stayed c 𝓜 𝓡
+    (Goes-spent_slice 𝓛 1 (0 ∷ []) tt (plain (λ κs. u8)), (Goes-dropped 𝓛 1 (plain (λ _. usize)) yes (λ κs x f. refl), tt))
     f.Key.name code.function (code.unfolded 𝓤 𝓛.H 𝓜 𝓡 wired)
-    (λ κs. (mut_slice_vals, (uint_vals w64, tt))) (λ κs. (mut_slice_Tells (named 0) κs.0 u8, (uint_Tells w64, tt))) (λ κs qs bounds a g₀ are.
+    (λ κs. (mut_slice_vals, (uint_vals w64, tt))) (λ κs. (mut_slice_Tells (named 0) κs.0 u8, (uint_Tells w64, tt)))
+    (λ κs qs bounds a g₀ are.
     let κ = κs.0 in let q = qs.0 in
     let x = a.0 in let γ = x.ghost_name in let index : ℕ = a.1.0 in
     let Sl = MutSlice (named 0) κ u8 in
@@ -86,25 +92,36 @@ nlas_value_mut_spec 𝓤 𝓛 𝓜 𝓡 wired =
     let z : G.Ghost = ((κs, qs, bounds, a, (mut_slice_vals x, (uint_vals w64 index, tt))), tt) in
     let Y : W.Ghost = ((κs, qs, bounds, a, (mut_slice_vals x, (uint_vals w64 index, tt))), g₀) in
     qed 𝓛 (raw (G.pre z) ∷ []) ∵
-    enter ! _ _ _ _ _ $ alloc_all ! (λ l. pass_all ! refl ((tt, (tt, (record { fits = are.0.0.1.0 }, tt))), ((tt, record { fits = are.1.0.1 }), tt)) $
+    enter ! _ _ _ _ _ $ alloc_all !
+    (λ l. pass_all ! refl ((tt, (tt, (record { fits = are.0.0.1.0 }, tt))), ((tt, record { fits = are.1.0.1 }), tt)) $
     -- the slice is passed on, and comes back with its range
     sets ! (addr ! (from ! (fld ! refl (hop ! (look_in_at ! 1 (sub ! 0 refl (whole !))) (stop !))))) refl (tt, tt) $
-    sets ! (agg ! (and_then ! (get ! refl) (and_then ! (get_in ! (fld ! refl (stop !)) (sub ! 1 refl (whole !))) (no_more !)))) refl (tt, (tt, (record { fits = are.0.0.1.0 }, tt))) $
+    sets ! (agg ! (and_then ! (get ! refl) (and_then ! (get_in ! (fld ! refl (stop !)) (sub ! 1 refl (whole !))) (no_more !)))) refl
+    (tt, (tt, (record { fits = are.0.0.1.0 }, tt))) $
     calls_at ! (framed 𝓤 𝓛.H 𝓜 𝓣) G (met 𝓤 𝓛 𝓜 𝓡 (code.calls-netlink_attributes::place::ranged 𝓡.env wired)) z
     (and_then ! (get ! refl) (and_then ! (get ! refl) (no_more !))) (λ v.
     use1 𝓛 (later (some (λ (r : ℕ × ℕ × MutBor (List ℕ)). ((‵ (flft κ q) ⊛ ‵ ftrue) ⊛ ‵ ((Tuple Fs).own_val r (v ∷ []))) ⊛
-    some (λ (ws : Unit {0} × (Unit {0} × Unit {0})). ‵ (lasts g.ended κs a ws) ⊛ raw (fact 𝓤 (r.2.ghost_name ≡ γ)) ⊛ raw (fact 𝓤 (r.2.now ≡ x.now)) ⊛ raw (fact 𝓤 (IsRange x.now index r.0 r.1)) ⊛ raw (fact 𝓤 (r.1 ≤ length x.now)))))) (id⊢ 𝓤 _) $
+    some (λ (ws : Unit {0} × (Unit {0} × Unit {0})).
+    ‵ (lasts g.ended κs a ws) ⊛ raw (fact 𝓤 (r.2.ghost_name ≡ γ)) ⊛ raw (fact 𝓤 (r.2.now ≡ x.now)) ⊛ raw
+    (fact 𝓤 (IsRange x.now index r.0 r.1)) ⊛ raw (fact 𝓤 (r.1 ≤ length x.now)))))) (id⊢ 𝓤 _) $
     await ! tt $ pick ! (λ r. split ! $ split ! $ move ! (2 ∷ []) $ pick ! (λ ws. split ! $ drop ! $
     split ! $ heard ! _ (λ name. split ! $ heard ! _ (λ same. split ! $ heard ! _ (λ range. heard ! _ (λ inside.
     let start = r.0 in let end = r.1 in let b = r.2.ref_ptr.0 in let o = r.2.ref_ptr.1 in
     split ! $ move ! (2 ∷ []) $
-    use1 𝓛 (‵ (fex (Valss Fs) (within (shape (tuple_type Fs)) (r.0, (r.1, (r.2, tt))) (v ∷ [])))) (id⊢ 𝓤 _) $ fpick ! (λ vss. fsplit ! $ feq_l ! (λ ev.
-    fsplit ! $ facts ! usize _ (shows 𝓛 usize) start vss.0 (λ is₀. fsplit ! $ facts ! usize _ (shows 𝓛 usize) end vss.1.0 (λ is₁. fsplit ! $ peeks ! Sl _ (shows 𝓛 Sl) r.2 vss.1.1.0 (λ is₂.
+    use1 𝓛 (‵ (fex (Valss Fs) (within (shape (tuple_type Fs)) (r.0, (r.1, (r.2, tt))) (v ∷ [])))) (id⊢ 𝓤 _) $ fpick !
+    (λ vss. fsplit ! $ feq_l ! (λ ev.
+    fsplit ! $ facts ! usize _ (shows 𝓛 usize) start vss.0
+    (λ is₀. fsplit ! $ facts ! usize _ (shows 𝓛 usize) end vss.1.0 (λ is₁. fsplit ! $ peeks ! Sl _ (shows 𝓛 Sl) r.2 vss.1.1.0 (λ is₂.
     rewrite ! 0 (λ (us : List Val). ‵ (Sl.own_val r.2 us)) is₂.0.0 refl $
-    rewrite ! 0 (λ (γ' : GName). ‵ (Sl.own_val (record { ref_ptr = r.2.ref_ptr; ghost_name = γ'; now = r.2.now }) (mut_slice_vals r.2))) name refl $
-    rewrite ! 0 (λ (ys : List ℕ). ‵ (Sl.own_val (record { ref_ptr = r.2.ref_ptr; ghost_name = γ; now = ys }) (mut_slice_vals r.2))) same refl $
+    rewrite ! 0 (λ (γ' : GName). ‵ (Sl.own_val (record { ref_ptr = r.2.ref_ptr; ghost_name = γ'; now = r.2.now }) (mut_slice_vals r.2)))
+    name refl $
+    rewrite ! 0 (λ (ys : List ℕ). ‵ (Sl.own_val (record { ref_ptr = r.2.ref_ptr; ghost_name = γ; now = ys }) (mut_slice_vals r.2))) same
+    refl $
     -- [what the slice owns; nothing; the token; nothing; the locals]
-    lands_as ! (ap only (ev ∙ (ap (λ us. triple us vss.1.0 vss.1.1.0) is₀.0 ∙ (ap (λ us. triple (vint w64 start ∷ []) us vss.1.1.0) is₁.0 ∙ ap (λ us. triple (vint w64 start ∷ []) (vint w64 end ∷ []) us) is₂.0.0)))) refl
+    lands_as ! (ap only (ev
+    ∙ (ap (λ us. triple us vss.1.0 vss.1.1.0) is₀.0
+    ∙ (ap (λ us. triple (vint w64 start ∷ []) us vss.1.1.0) is₁.0
+    ∙ ap (λ us. triple (vint w64 start ∷ []) (vint w64 end ∷ []) us) is₂.0.0)))) refl
     (tt, (record { fits = is₀.1 }, (record { fits = is₁.1 }, ((tt, (record { fits = is₂.0.1.0 }, tt)), tt)))) $
     sets ! (of_opd ! (get_in ! (fld ! refl (stop !)) (sub ! 0 refl (whole !)))) refl (tt, record { fits = is₀.1 }) $
     sets ! (of_opd ! (get_in ! (fld ! refl (stop !)) (sub ! 1 refl (whole !)))) refl (tt, record { fits = is₁.1 }) $
@@ -116,16 +133,20 @@ nlas_value_mut_spec 𝓤 𝓛 𝓜 𝓡 wired =
     fsplit3 ! $ drop ! $ rewrite ! 0 (λ (ys : List ℕ). ‵ (fobs γ ((coded_list u8.coded).code ys))) (heres_id u8 x.now) refl $
     use1 𝓛 (‵ (fres γ ((Array u8 0).coded.code x.now))) (𝓛.names.obs-res γ ((Array u8 0).coded.code x.now)) $
     returns_within ! (W.post Y) refl (look_at ! 0 refl) $ free_all ! refl $ keep ! (0 ∷ 3 ∷ 4 ∷ []) $
-    fpack ! (Such x.now index None) (λ s. follows_by (List ℕ) (List ℕ) (Array u8 0).coded.code (Array u8 0).coded.code γ maybe.none s.0.0 s.0.1) (((λ w. w), x.now), (λ w. tt), refl) $
+    fpack ! (Such x.now index None)
+    (λ s. follows_by (List ℕ) (List ℕ) (Array u8 0).coded.code (Array u8 0).coded.code γ maybe.none s.0.0 s.0.1)
+    (((λ w. w), x.now), (λ w. tt), refl) $
     use0 𝓛 (‵ ((OP.the_row Sl).own_val None (live 0 (of_list []) ∷ []))) (none_of 𝓛 Sl) $
     suffices ! _ (ends_at 𝓛 f.ended stayed c Y (live 0 (of_list [])) None (tt, (tt, tt)) (tt, (tt, tt))) $
-    nothing ! $ nothing ! $ fjoin ! $ nothing ! $ fjoin ! $ join ! $ move ! (2 ∷ 3 ∷ []) $ join ! $ join ! $ frame ! $ says_both ! (no_value x.now index start end range falls) tt $ done !)
+    nothing ! $ nothing ! $ fjoin ! $ nothing ! $ fjoin ! $ join ! $ move ! (2 ∷ 3 ∷ []) $ join ! $ join ! $ frame ! $ says_both !
+    (no_value x.now index start end range falls) tt $ done !)
     (λ t. skips ! $ exec ! 𝓣.C 𝓣.Λ (env code.Mir.locals l) (after 8 (code.function).body) (at_ret _ (W.post Y)) $
     let order : start ≤ end = nltb→le end start t in
     let far : end < 2 ^ 64 = is₁.1 in
     let small : end - start < 2 ^ 64 = omega arith in
     let p : ℕ = start + o in
-    let on : at o (mem u8).size (length (take start x.now)) ≡ p = starts_at start o x.now (let k : start ≤ length x.now = omega arith in k) in
+    let on : at o (mem u8).size (length (take start x.now)) ≡ p =
+    starts_at start o x.now (let k : start ≤ length x.now = omega arith in k) in
     let part : List ℕ = mid 𝓛 (named 0) κ q b o γ u8 x.now start (end - start) p on in
     let long : length part ≡ end - start = length_part start end x.now order inside in
     let lent : GName → MutBor (List ℕ) = λ δ. record { ref_ptr = (b, p); ghost_name = δ; now = part } in
@@ -134,14 +155,23 @@ nlas_value_mut_spec 𝓤 𝓛 𝓜 𝓡 wired =
     sets ! (bin ! (get ! refl) (get ! refl) order) refl (tt, record { fits = small }) $
     sets ! (addr ! (through ! refl (stop !))) refl (tt, tt) $
     sets ! (agg ! (and_then ! (get ! refl) (and_then ! (get ! refl) (no_more !)))) refl (tt, (tt, (record { fits = small }, tt))) $
-    sets ! (agg ! (and_then ! (lit ! tt) (and_then ! (get ! refl) (no_more !)))) refl (tt, (record { fits = lit< tt }, ((tt, (record { fits = small }, tt)), tt))) $
+    sets ! (agg ! (and_then ! (lit ! tt) (and_then ! (get ! refl) (no_more !)))) refl
+    (tt, (record { fits = lit< tt }, ((tt, (record { fits = small }, tt)), tt))) $
     move ! (0 ∷ 2 ∷ []) $
-    use2 𝓛 (later (some (λ (δ : GName). ‵ (Sl.own_val (lent δ) (slice_val (b, p) (length part) ∷ [])) ⊛ ‵ (flft κ q) ⊛ ‵ (follows (Array u8 0) (Array u8 0) γ δ (put_at x.now start)))))
-    (lends_part 𝓛 (named 0) κ q b o γ u8 x.now start (end - start) p on (omega arith, omega arith) (mut_slice_vals r.2)) $ await ! tt $ pick ! (λ δ. split3 ! $
+    use2 𝓛 (later (some (λ (δ : GName).
+    ‵ (Sl.own_val (lent δ) (slice_val (b, p) (length part) ∷ [])) ⊛ ‵ (flft κ q) ⊛ ‵
+    (follows (Array u8 0) (Array u8 0) γ δ (put_at x.now start)))))
+    (lends_part 𝓛 (named 0) κ q b o γ u8 x.now start (end - start) p on (omega arith, omega arith) (mut_slice_vals r.2)) $ await ! tt $ pick
+    ! (λ δ. split3 ! $
     rewrite ! 0 (λ (j : ℕ). ‵ (Sl.own_val (lent δ) (slice_val (b, p) j ∷ []))) long refl $
-    use1 𝓛 (‵ ((OP.the_row Sl).own_val (Some (lent δ)) (live 1 (of_list (slice_val (b, p) (end - start) ∷ [])) ∷ []))) (Some-of 𝓛 Sl (lent δ) (slice_val (b, p) (end - start))) $
+    use1 𝓛 (‵ ((OP.the_row Sl).own_val (Some (lent δ)) (live 1 (of_list (slice_val (b, p) (end - start) ∷ [])) ∷ [])))
+    (Some-of 𝓛 Sl (lent δ) (slice_val (b, p) (end - start))) $
     returns ! (look_at ! 0 refl) $ free_all ! refl $ keep ! (2 ∷ 0 ∷ 1 ∷ 4 ∷ []) $
-    fpack ! (Such x.now index (Some (lent δ))) (λ s. follows_by (List ℕ) (List ℕ) (Array u8 0).coded.code (Array u8 0).coded.code γ (maybe.some δ) s.0.0 s.0.1) ((put_at x.now start, x.now), value_written x.now index start end range order, refl) $
+    fpack ! (Such x.now index (Some (lent δ)))
+    (λ s. follows_by (List ℕ) (List ℕ) (Array u8 0).coded.code (Array u8 0).coded.code γ (maybe.some δ) s.0.0 s.0.1)
+    ((put_at x.now start, x.now), value_written x.now index start end range order, refl) $
     move ! (1 ∷ 2 ∷ 0 ∷ []) $
-    suffices ! _ (ends_at 𝓛 f.ended stayed c Y (live 1 (of_list (slice_val (b, p) (end - start) ∷ []))) (Some (lent δ)) (tt, (tt, tt)) (tt, (tt, tt))) $
-    nothing ! $ nothing ! $ fjoin ! $ nothing ! $ fjoin ! $ join ! $ move ! (1 ∷ 3 ∷ []) $ join ! $ join ! $ frame ! $ says_both ! (some_value x.now index start end (lent δ) range order) (value_held x.now index start end range order) $ done !))))))))))))))))
+    suffices ! _ (ends_at 𝓛 f.ended stayed c Y (live 1 (of_list (slice_val (b, p) (end - start) ∷ []))) (Some (lent δ)) (tt, (tt, tt))
+    (tt, (tt, tt))) $
+    nothing ! $ nothing ! $ fjoin ! $ nothing ! $ fjoin ! $ join ! $ move ! (1 ∷ 3 ∷ []) $ join ! $ join ! $ frame ! $ says_both !
+    (some_value x.now index start end (lent δ) range order) (value_held x.now index start end range order) $ done !))))))))))))))))

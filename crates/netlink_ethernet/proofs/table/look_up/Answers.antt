@@ -10,7 +10,9 @@ loop-low-preserved-in-Less c =
     let size = c.loop-low.high - c.loop-low.low in
     let middle = c.middle_of-middle.result in
     let less = ranked c.args.sought (slice_index numbers middle) Less (sym c.in-Less.is ∙ c.compare.ensures.order) in
-    let more = one_more c.args.comparisons.now c.loop-low.comparisons c.compare.new.self size (middle - c.loop-low.low) c.compare.ensures.counted i.counted (omega arith) i.left (omega arith) in
+    let more =
+    one_more c.args.comparisons.now c.loop-low.comparisons c.compare.new.self size (middle - c.loop-low.low) c.compare.ensures.counted
+    i.counted (omega arith) i.left (omega arith) in
     record {
       bounds = omega arith;
       rows = omega arith;
@@ -27,7 +29,9 @@ loop-low-preserved c =
     let size = c.loop-low.high - c.loop-low.low in
     let middle = c.middle_of-middle.result in
     let greater = ranked c.args.sought (slice_index numbers middle) Greater (sym c.in-Greater.is ∙ c.compare.ensures.order) in
-    let more = one_more c.args.comparisons.now c.loop-low.comparisons c.compare.new.self size (c.loop-low.high - (middle + 1)) c.compare.ensures.counted i.counted (omega arith) i.left (omega arith) in
+    let more =
+    one_more c.args.comparisons.now c.loop-low.comparisons c.compare.new.self size (c.loop-low.high - (middle + 1))
+    c.compare.ensures.counted i.counted (omega arith) i.left (omega arith) in
     record {
       bounds = omega arith;
       rows = omega arith;

@@ -10,12 +10,17 @@ use Rattle.netlink_example.specs.Generic.{generic_decoding, generic_encoding}
 use Rattle.netlink_example.proofs.answer.answered.Goals as goal
 
 -- why the request that was read has no answer
-of_request : (datagram : List ℕ) (command : ℕ) (read answer : Message) → answer ≡ answer_to command read → Frame generic_decoding datagram read → (e : DecodeError)
+of_request : (datagram : List ℕ) (command : ℕ) (read answer : Message) → answer ≡ answer_to command read
+    → Frame generic_decoding datagram read → (e : DecodeError)
     → ((e ≡ TooLong) × IsTooLong generic_encoding answer) ⊎ ((e ≡ OutOfMemory) × Fits generic_encoding answer)
-    → ((e ≡ TooLong) × ((request : Message) × Frame generic_decoding datagram request × IsTooLong generic_encoding (answer_to command request)))
-    ⊎ ((e ≡ OutOfMemory) × ((request : Message) × Frame generic_decoding datagram request × Fits generic_encoding (answer_to command request)))
-of_request datagram command read answer changed frame e (inl (is, long)) = inl (is, (read, frame, subst (IsTooLong generic_encoding) changed long))
-of_request datagram command read answer changed frame e (inr (is, fits)) = inr (is, (read, frame, subst (Fits generic_encoding) changed fits))
+    → ((e ≡ TooLong) × ((request : Message) × Frame generic_decoding datagram request
+    × IsTooLong generic_encoding (answer_to command request)))
+    ⊎ ((e ≡ OutOfMemory)
+    × ((request : Message) × Frame generic_decoding datagram request × Fits generic_encoding (answer_to command request)))
+of_request datagram command read answer changed frame e (inl (is, long)) =
+    inl (is, (read, frame, subst (IsTooLong generic_encoding) changed long))
+of_request datagram command read answer changed frame e (inr (is, fits)) =
+    inr (is, (read, frame, subst (Fits generic_encoding) changed fits))
 
 pub returns-in_err-request-clause-writes : goal.returns-in_err-request-clause-writes
 returns-in_err-request-clause-writes c request frame fits =

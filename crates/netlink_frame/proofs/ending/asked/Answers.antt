@@ -25,16 +25,19 @@ nothing_left [] none = refl
 nothing_left (x ∷ rest) none = absurd (omega arith)
 
 -- of two arguments the second is the word
-second_word : (name word : String Global) (command : Command) → Asks (Some (name ∷ (word ∷ []))) command → string_bytes word ≡ word_of command
+second_word : (name word : String Global) (command : Command) → Asks (Some (name ∷ (word ∷ []))) command
+    → string_bytes word ≡ word_of command
 second_word name word command (first, second, same, names) = let is : word ≡ second = cc in ap string_bytes is ∙ names
 
 -- a name and a word alone ask for the command of the word
-two_ask : (given : Option (List (String Global))) (items after rest : List (String Global)) (name word : String Global) (found : Option Command)
+two_ask : (given : Option (List (String Global))) (items after rest : List (String Global)) (name word : String Global)
+    (found : Option Command)
     → given ≡ Some items → items ≡ name ∷ after → after ≡ word ∷ rest → length rest ≡ 0 → NamesIt found (string_bytes word)
     → (command : Command) → (found ≡ Some command) ↔ Asks given command
 two_ask given items after rest name word found had first second none names command =
     let alone : given ≡ Some (name ∷ (word ∷ [])) =
-    had ∙ ap Some (first ∙ ap (λ (l : List (String Global)). name ∷ l) (second ∙ ap (λ (l : List (String Global)). word ∷ l) (nothing_left rest none))) in
+    had ∙ ap Some (first
+    ∙ ap (λ (l : List (String Global)). name ∷ l) (second ∙ ap (λ (l : List (String Global)). word ∷ l) (nothing_left rest none))) in
     subst (λ (o : Option (List (String Global))). (found ≡ Some command) ↔ Asks o command) (sym alone) (
       λ is. (name, word, refl, (names command).0 is),
       λ asks. (names command).1 (second_word name word command asks),
@@ -42,8 +45,11 @@ two_ask given items after rest name word found had first second none names comma
 
 pub returns-in-None : goal.returns-in-None
 returns-in-None c = record {
-  asks = two_ask _ _ _ _ _ _ c.from_text.result (ap (option_map into_iter_items) c.in_ok-args.was) c.in_ok-_name.ensures.cases.0 c.in_ok-word.ensures.cases.0
+  asks =
+      two_ask _ _ _ _ _ _ c.from_text.result (ap (option_map into_iter_items) c.in_ok-args.was) c.in_ok-_name.ensures.cases.0
+      c.in_ok-word.ensures.cases.0
       (sym c.next-2.new.self.rest.ok.0 ∙ c.in-None.ensures.cases.0)
       (subst (NamesIt c.from_text.result) c.as_str.ensures.value
-      (by_word _ _ c.from_text.ensures.normalize c.from_text.ensures.show c.from_text.ensures.nlas c.from_text.ensures.canon c.from_text.ensures.frames));
+      (by_word _ _ c.from_text.ensures.normalize c.from_text.ensures.show c.from_text.ensures.nlas c.from_text.ensures.canon
+      c.from_text.ensures.frames));
 }

@@ -5,7 +5,8 @@ use Rattle.netlink_frame.proofs.Datagrams.{frame_lines_push}
 use Rattle.netlink_frame.proofs.frames.shown_frames.Goals as goal
 
 pub loop-item-init : goal.loop-item-init
-loop-item-init c = ([], passes_frames_none c.args.datagram.now (unread_frames c.into_iter-item-iterator.result) (search rules), search rules)
+loop-item-init c =
+    ([], passes_frames_none c.args.datagram.now (unread_frames c.into_iter-item-iterator.result) (search rules), search rules)
 
 pub loop-item-preserved : goal.loop-item-preserved
 loop-item-preserved c =

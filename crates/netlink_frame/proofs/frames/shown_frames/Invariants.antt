@@ -6,4 +6,5 @@ use Rattle.netlink_frame.proofs.frames.shown_frames.Given as goal
 
 -- some frames are passed, and they are shown
 abbrev pub invariant-loop-item : goal.invariant-loop-item
-invariant-loop-item l = (done : List (List ℕ)) × PassesFrames l.datagram done (unread_frames l.item-iterator) × (string_bytes l.text ≡ frame_lines done)
+invariant-loop-item l =
+    (done : List (List ℕ)) × PassesFrames l.datagram done (unread_frames l.item-iterator) × (string_bytes l.text ≡ frame_lines done)

@@ -4,5 +4,21 @@ use Rattle.netlink_frame.proofs.laws.makes_once.Goals as goal
 
 pub returns : goal.returns
 returns c =
-    let unique : Uniqueness = record { same = c.frame_unique.ensures.same; fits = c.frame_unique.ensures.fits; written = c.frame_unique.ensures.written; refusal = c.refusal_unique.ensures.unique; frame = c.refusal_unique.ensures.frame } in
-    record { once = elim [ Normalize ↦ normalizes_once unique | Show ↦ shows_once unique | Nlas ↦ nlas_once c.walk_unique.ensures.unique | Canon ↦ canon_once c.walk_unique.ensures.unique | Frames ↦ frames_once c.frames_unique.ensures.unique ] }
+    let unique : Uniqueness =
+    record {
+      same = c.frame_unique.ensures.same;
+      fits = c.frame_unique.ensures.fits;
+      written = c.frame_unique.ensures.written;
+      refusal = c.refusal_unique.ensures.unique;
+      frame = c.refusal_unique.ensures.frame;
+    } in
+    record {
+      once = elim [
+        | Normalize ↦ normalizes_once unique
+        | Show ↦ shows_once unique
+        | Nlas ↦ nlas_once c.walk_unique.ensures.unique
+        | Canon ↦ canon_once
+            c.walk_unique.ensures.unique
+        | Frames ↦ frames_once c.frames_unique.ensures.unique
+      ];
+    }

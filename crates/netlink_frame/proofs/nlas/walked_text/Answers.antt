@@ -20,7 +20,8 @@ loop-item-preserved c =
       (let shows : attribute_of (shown c.in-Ok.nla) ≡ a = ap attribute_of step.0 in
           let push = lines_push done a in
           let so_far = c.loop-item.invariant.2 in
-          c.in_ok-push_line-in-Ok.ensures ∙ ap (λ (t : List ℕ). t ++ nla_line (attribute_of (shown c.in-Ok.nla))) so_far ∙ ap (λ (b : Attribute). nla_lines done ++ nla_line b) shows ∙ sym push),
+          c.in_ok-push_line-in-Ok.ensures ∙ ap (λ (t : List ℕ). t ++ nla_line (attribute_of (shown c.in-Ok.nla))) so_far
+          ∙ ap (λ (b : Attribute). nla_lines done ++ nla_line b) shows ∙ sym push),
     )
 
 pub returns-in-Err : goal.returns-in-Err

@@ -7,7 +7,8 @@ use Rattle.netlink_packet_core.specs.Walk.{IsFault, Walk}
 use Rattle.netlink_frame.proofs.run.walked.Goals as goal
 
 -- a walk does not end with want of memory
-no_memory : (bytes : List ℕ) (all : List Attribute) (fault : Option DecodeError) → Walk bytes all fault → IfSome fault (λ e. e ≢ OutOfMemory)
+no_memory : (bytes : List ℕ) (all : List Attribute) (fault : Option DecodeError) → Walk bytes all fault
+    → IfSome fault (λ e. e ≢ OutOfMemory)
 no_memory bytes [] None walk = tt
 no_memory bytes [] (Some e) (some, is) = λ same. subst (λ (x : DecodeError). IsFault bytes x) same is
 no_memory bytes (a ∷ more) fault (rest, starts, walk) = no_memory rest more fault walk

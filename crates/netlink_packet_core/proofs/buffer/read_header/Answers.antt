@@ -5,7 +5,8 @@ use Rattle.netlink_packet_core.proofs.Headers.{header_bytes-header_of, header_in
 use Rattle.netlink_packet_core.proofs.buffer.read_header.Goals as goal
 
 header_in_front : (bytes : List ℕ) → IsBytes bytes → 16 ≤ length bytes → IsHeader bytes (header_of bytes)
-header_in_front bytes each long = record { rest = drop 16 bytes; whole = header_bytes-header_of bytes each long; in_range = header_in_range bytes each long }
+header_in_front bytes each long =
+    record { rest = drop 16 bytes; whole = header_bytes-header_of bytes each long; in_range = header_in_range bytes each long }
 
 pub returns-clause-is : goal.returns-clause-is
 returns-clause-is c =

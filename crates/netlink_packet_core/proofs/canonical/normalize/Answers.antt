@@ -14,24 +14,32 @@ use Rattle.netlink_packet_core.proofs.canonical.normalize.Given
 use Rattle.netlink_packet_core.proofs.canonical.normalize.Goals as goal
 
 laws : (g : Given.Over) → Laws g.I.PartialEq.eq g.I.NetlinkSerializable.encoding g.I.NetlinkDeserializable.decoding
-laws g = let met = g.met.I.NetlinkProtocol in record { own_pair = met.own_pair; equal_pairs = met.equal_pairs; value_is_lawful = met.value_is_lawful }
+laws g = let met = g.met.I.NetlinkProtocol in
+    record { own_pair = met.own_pair; equal_pairs = met.equal_pairs; value_is_lawful = met.value_is_lawful }
 
 -- why the message that was read has no canonical frame
-of_message : {I : Type 0} (encoding : Encoding I) (decoding : Decoding I) (bytes : List ℕ) (m : NetlinkMessage I) → Frame decoding bytes m → (e : DecodeError)
+of_message : {I : Type 0} (encoding : Encoding I) (decoding : Decoding I) (bytes : List ℕ) (m : NetlinkMessage I) → Frame decoding bytes m
+    → (e : DecodeError)
     → ((e ≡ TooLong) × IsTooLong encoding m) ⊎ ((e ≡ OutOfMemory) × Fits encoding m)
-    → ((e ≡ TooLong) × ((n : NetlinkMessage I) × Frame decoding bytes n × IsTooLong encoding n)) ⊎ ((e ≡ OutOfMemory) × ((n : NetlinkMessage I) × Frame decoding bytes n × Fits encoding n))
+    → ((e ≡ TooLong) × ((n : NetlinkMessage I) × Frame decoding bytes n × IsTooLong encoding n))
+    ⊎ ((e ≡ OutOfMemory) × ((n : NetlinkMessage I) × Frame decoding bytes n × Fits encoding n))
 of_message encoding decoding bytes m frame e (inl (is, long)) = inl (is, (m, frame, long))
 of_message encoding decoding bytes m frame e (inr (is, fits)) = inr (is, (m, frame, fits))
 
 pub returns-in_err-message-clause-writes : goal.returns-in_err-message-clause-writes
 returns-in_err-message-clause-writes g c m f fits =
     let p = err_from_is_err_and c.from_residual.result c.from_residual.ensures.1 in
-    rw (p.1, p.2) (frame_refused g.I.NetlinkDeserializable.decoding g.I.NetlinkDeserializable.wants_memory c.args.bytes.now m _ f c.in_err-message.ensures.refuses)
+    rw (p.1, p.2) (frame_refused g.I.NetlinkDeserializable.decoding g.I.NetlinkDeserializable.wants_memory c.args.bytes.now m _ f
+    c.in_err-message.ensures.refuses)
 
 pub returns-in_err-message-clause-too_long : goal.returns-in_err-message-clause-too_long
 returns-in_err-message-clause-too_long g c m f long =
     let p = err_from_is_err_and c.from_residual.result c.from_residual.ensures.1 in
-    rw (p.1, p.2) (inr (frame_refused g.I.NetlinkDeserializable.decoding g.I.NetlinkDeserializable.wants_memory c.args.bytes.now m _ f c.in_err-message.ensures.refuses, c.in_err-message.ensures.refuses))
+    rw (p.1, p.2) (inr (
+      frame_refused g.I.NetlinkDeserializable.decoding g.I.NetlinkDeserializable.wants_memory c.args.bytes.now m _ f
+          c.in_err-message.ensures.refuses,
+      c.in_err-message.ensures.refuses,
+    ))
 
 pub returns-in_err-message-clause-refuses : goal.returns-in_err-message-clause-refuses
 returns-in_err-message-clause-refuses g c =
@@ -40,11 +48,13 @@ returns-in_err-message-clause-refuses g c =
 pub returns-in_err-message-clause-fixed : goal.returns-in_err-message-clause-fixed
 returns-in_err-message-clause-fixed g c canonical =
     let p = err_from_is_err_and c.from_residual.result c.from_residual.ensures.1 in
-    rw (p.1, p.2) (canonical_refused g.I.NetlinkDeserializable.decoding g.I.NetlinkDeserializable.wants_memory c.args.bytes.now _ canonical c.in_err-message.ensures.refuses)
+    rw (p.1, p.2) (canonical_refused g.I.NetlinkDeserializable.decoding g.I.NetlinkDeserializable.wants_memory c.args.bytes.now _ canonical
+    c.in_err-message.ensures.refuses)
 
 pub returns-clause-accepts : goal.returns-clause-accepts
 returns-clause-accepts g c =
-    IfOk-weaker c.into_frame.result _ _ (λ v frame. (c.in_ok-message.message, c.in_ok-message.ensures.accepts, frame.0, frame.1)) c.into_frame.ensures.writes
+    IfOk-weaker c.into_frame.result _ _ (λ v frame. (c.in_ok-message.message, c.in_ok-message.ensures.accepts, frame.0, frame.1))
+    c.into_frame.ensures.writes
 
 pub returns-clause-writes : goal.returns-clause-writes
 returns-clause-writes g c m f fits =
@@ -67,7 +77,8 @@ returns-clause-refuses g c =
 pub returns-clause-again : goal.returns-clause-again
 returns-clause-again g c =
     IfOk-weaker c.into_frame.result _ _
-    (λ v frame n k. written_again (laws g) c.args.bytes.now v.items c.in_ok-message.message n c.in_ok-message.ensures.accepts frame.0 frame.1 k)
+    (λ v frame n k. written_again (laws g) c.args.bytes.now v.items c.in_ok-message.message n c.in_ok-message.ensures.accepts frame.0
+    frame.1 k)
     c.into_frame.ensures.writes
 
 pub returns-clause-fixed : goal.returns-clause-fixed

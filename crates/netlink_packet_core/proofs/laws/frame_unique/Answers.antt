@@ -5,7 +5,8 @@ use Rattle.netlink_packet_core.proofs.laws.frame_unique.Given
 use Rattle.netlink_packet_core.proofs.laws.frame_unique.Goals as goal
 
 laws : (g : Given.Over) → Laws g.I.PartialEq.eq g.I.NetlinkSerializable.encoding g.I.NetlinkDeserializable.decoding
-laws g = let met = g.met.I.NetlinkProtocol in record { own_pair = met.own_pair; equal_pairs = met.equal_pairs; value_is_lawful = met.value_is_lawful }
+laws g = let met = g.met.I.NetlinkProtocol in
+    record { own_pair = met.own_pair; equal_pairs = met.equal_pairs; value_is_lawful = met.value_is_lawful }
 
 pub returns-clause-unique : goal.returns-clause-unique
 returns-clause-unique g c bytes m n f k =

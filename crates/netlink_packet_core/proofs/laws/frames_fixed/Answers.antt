@@ -7,7 +7,8 @@ use Rattle.netlink_packet_core.proofs.laws.frames_fixed.Given
 use Rattle.netlink_packet_core.proofs.laws.frames_fixed.Goals as goal
 
 laws : (g : Given.Over) → Laws g.I.PartialEq.eq g.I.NetlinkSerializable.encoding g.I.NetlinkDeserializable.decoding
-laws g = let met = g.met.I.NetlinkProtocol in record { own_pair = met.own_pair; equal_pairs = met.equal_pairs; value_is_lawful = met.value_is_lawful }
+laws g = let met = g.met.I.NetlinkProtocol in
+    record { own_pair = met.own_pair; equal_pairs = met.equal_pairs; value_is_lawful = met.value_is_lawful }
 
 pub returns-clause-fixed : goal.returns-clause-fixed
 returns-clause-fixed g c m frame fits = (

@@ -9,7 +9,9 @@ use Rattle.netlink_packet_core.proofs.Once.{headers_and, and_headers}
 use Rattle.netlink_packet_core.proofs.laws.messages_equal.Given
 use Rattle.netlink_packet_core.proofs.laws.messages_equal.Goals as goal
 
-same : (g : Given.Over) (x y : NetlinkPayload g.row.I.Denot) → InnerInRange g.I.NetlinkDeserializable.decoding x → InnerInRange g.I.NetlinkDeserializable.decoding y → IsTrue ((TheImpl.ghosts g.row.I g.I.PartialEq g.I.PartialEq-dict).eq x y) ↔ SamePayload g.I.NetlinkDeserializable.decoding x y
+same : (g : Given.Over) (x y : NetlinkPayload g.row.I.Denot) → InnerInRange g.I.NetlinkDeserializable.decoding x
+    → InnerInRange g.I.NetlinkDeserializable.decoding y
+    → IsTrue ((TheImpl.ghosts g.row.I g.I.PartialEq g.I.PartialEq-dict).eq x y) ↔ SamePayload g.I.NetlinkDeserializable.decoding x y
 same g (Done a) (Done b) i j = (λ t. search (rules, common_steps), λ e. search (rules, common_steps))
 same g (Error a) (Error b) i j = (λ t. search (rules, common_steps), λ e. search (rules, common_steps))
 same g Noop Noop i j = (λ t. tt, λ e. search (rules, common_steps))

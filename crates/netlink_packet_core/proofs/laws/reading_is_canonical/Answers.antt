@@ -7,4 +7,5 @@ returns-clause-own_type g c h payload pair reads =
 
 pub returns-clause-canonical : goal.returns-clause-canonical
 returns-clause-canonical g c h payload pair reads front in_range kind size =
-    lawful_is_canonical g.I.NetlinkDeserializable.decoding pair (g.met.I.NetlinkProtocol.reading_is_lawful h payload pair reads) front in_range kind size
+    lawful_is_canonical g.I.NetlinkDeserializable.decoding pair (g.met.I.NetlinkProtocol.reading_is_lawful h payload pair reads) front
+    in_range kind size

@@ -9,13 +9,15 @@ use Rattle.netlink_packet_core.proofs.laws.reads_back.Given
 use Rattle.netlink_packet_core.proofs.laws.reads_back.Goals as goal
 
 laws : (g : Given.Over) → Laws g.I.PartialEq.eq g.I.NetlinkSerializable.encoding g.I.NetlinkDeserializable.decoding
-laws g = let met = g.met.I.NetlinkProtocol in record { own_pair = met.own_pair; equal_pairs = met.equal_pairs; value_is_lawful = met.value_is_lawful }
+laws g = let met = g.met.I.NetlinkProtocol in
+    record { own_pair = met.own_pair; equal_pairs = met.equal_pairs; value_is_lawful = met.value_is_lawful }
 
 pub returns-clause-canonical : goal.returns-clause-canonical
 returns-clause-canonical g c = written_is_canonical (laws g) c.args.m.now c.requires.first c.known.ensures
 
 pub returns-clause-only : goal.returns-clause-only
-returns-clause-only g c b canonical frame = sym (canonical_is_written (laws g) b (finalized g.I.NetlinkSerializable.encoding c.args.m.now) canonical frame)
+returns-clause-only g c b canonical frame =
+    sym (canonical_is_written (laws g) b (finalized g.I.NetlinkSerializable.encoding c.args.m.now) canonical frame)
 
 pub returns-clause-before : goal.returns-clause-before
 returns-clause-before g c = reads_before (laws g) c.args.m.now c.requires.first c.known.ensures c.args.c.now
@@ -23,7 +25,8 @@ returns-clause-before g c = reads_before (laws g) c.args.m.now c.requires.first 
 pub returns-clause-cut : goal.returns-clause-cut
 returns-clause-cut g c k proper x (payload, begins, body) =
     let canonical = written_is_canonical (laws g) c.args.m.now c.requires.first c.known.ensures in
-    cut_holds_none (canonical_frame g.I.NetlinkSerializable.encoding c.args.m.now) k canonical.whole proper (begins-holds _ x.header payload begins)
+    cut_holds_none (canonical_frame g.I.NetlinkSerializable.encoding c.args.m.now) k canonical.whole proper
+    (begins-holds _ x.header payload begins)
 
 pub returns-clause-cut_short : goal.returns-clause-cut_short
 returns-clause-cut_short g c k few =

@@ -3,7 +3,8 @@ use Rattle.std.specs.Fmt.{decimal}
 use Rattle.std.specs.Prelude.{codes}
 use Rattle.netlink_packet_core.proofs.payload.refusal.Goals as goal
 
-joined : (text front line number rest : List ℕ) → front ≡ line ++ (number ++ (58 ∷ 32 ∷ [])) → text ≡ front ++ rest → text ≡ line ++ (number ++ (58 ∷ 32 ∷ rest))
+joined : (text front line number rest : List ℕ) → front ≡ line ++ (number ++ (58 ∷ 32 ∷ [])) → text ≡ front ++ rest
+    → text ≡ line ++ (number ++ (58 ∷ 32 ∷ rest))
 joined text front line number rest written pushed =
     pushed ∙ ap (λ (s : List ℕ). s ++ rest) written ∙ append_assoc line (number ++ (58 ∷ 32 ∷ [])) rest
     ∙ ap (λ (s : List ℕ). line ++ s) (append_assoc number (58 ∷ 32 ∷ []) rest)

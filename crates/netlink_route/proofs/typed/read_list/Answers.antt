@@ -21,7 +21,8 @@ loop-item-preserved g c =
       done.0 ++ (a ∷ []),
       passes_push _ done.0 _ _ _ done.1 step.2,
       rw c.in_ok-push-in-Ok.ensures.items
-          (read_push g.T.RouteNla.reading g.T.Nla.kind_of g.T.Nla.value_of done.0 c.loop-item.list.items a c.in_ok-attribute-in-Ok.attribute done.2 (c.in_ok-attribute-in-Ok.ensures.kind ∙ kind) read),
+          (read_push g.T.RouteNla.reading g.T.Nla.kind_of g.T.Nla.value_of done.0 c.loop-item.list.items a c.in_ok-attribute-in-Ok.attribute
+          done.2 (c.in_ok-attribute-in-Ok.ensures.kind ∙ kind) read),
     )
 
 pub returns-in_err-attribute-in-Ok-clause-refuses : goal.returns-in_err-attribute-in-Ok-clause-refuses
@@ -42,4 +43,6 @@ returns-in-Err-clause-refuses g c =
     λ never. read_faults g.T.RouteNla.reading c.args.bytes.now c.loop-item.invariant.0 _ _ c.loop-item.invariant.1 step.0 step.1
 
 pub returns-clause-reads : goal.returns-clause-reads
-returns-clause-reads g c = read_ends g.T.RouteNla.reading c.args.bytes.now c.loop-item.invariant.0 _ _ c.loop-item.invariant.1 c.in-None.ensures.steps.0 c.loop-item.invariant.2
+returns-clause-reads g c =
+    read_ends g.T.RouteNla.reading c.args.bytes.now c.loop-item.invariant.0 _ _ c.loop-item.invariant.1 c.in-None.ensures.steps.0
+    c.loop-item.invariant.2

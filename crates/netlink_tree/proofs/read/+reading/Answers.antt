@@ -27,10 +27,14 @@ read_block-returns-in_err-tree-clause-trees t c =
     let done = c.loop-item.invariant in
     let bytes : List ℕ = unread c.loop-item.item-iterator in
     let e : TreeFault = c.in_err-tree.field-0.0 in
-    let later = c.walk_total.ensures.exists (unread c.next.new.self) (starts_bytes _ _ _ step.2 (passes_bytes _ done.0 _ done.1 (λ i. omega (arith, c.type_inv.bytes i)))) in
+    let later =
+    c.walk_total.ensures.exists (unread c.next.new.self)
+    (starts_bytes _ _ _ step.2 (passes_bytes _ done.0 _ done.1 (λ i. omega (arith, c.type_inv.bytes i)))) in
     let inside : (e ≡ Decode OutOfMemory) ⊎ IsRead (Trees (c.args.levels - 1)) (attribute_of bytes) (Err e) =
-    subst (λ (b : List ℕ). (e ≡ Decode OutOfMemory) ⊎ IsRead (Trees (c.args.levels - 1)) (attribute_of b) (Err e)) step.0 c.in_err-tree.ensures in
-    rw (fault.1, fault.2) (trees_inside c.args.levels c.args.bytes.now done.0 _ _ _ _ e c.if-levels-eq0.false done.1 step.2 later inside done.2)
+    subst (λ (b : List ℕ). (e ≡ Decode OutOfMemory) ⊎ IsRead (Trees (c.args.levels - 1)) (attribute_of b) (Err e)) step.0
+    c.in_err-tree.ensures in
+    rw (fault.1, fault.2)
+    (trees_inside c.args.levels c.args.bytes.now done.0 _ _ _ _ e c.if-levels-eq0.false done.1 step.2 later inside done.2)
 
 pub read_block-loop-item-preserved : goal.read_block-loop-item-preserved
 read_block-loop-item-preserved t c =
@@ -41,6 +45,7 @@ read_block-loop-item-preserved t c =
     subst (λ (b : List ℕ). IsRead (Trees (c.args.levels - 1)) (attribute_of b) (Ok (view c.in_ok-tree.tree))) step.0 c.in_ok-tree.ensures in (
       done.0 ++ (attribute_of bytes ∷ []),
       passes_push _ done.0 _ _ _ done.1 step.2,
-      subst (λ (ts : Forest). AreRead (Trees (c.args.levels - 1)) (done.0 ++ (attribute_of bytes ∷ [])) ts) (sym (ap views c.in_ok-push.ensures.items ∙ views_push c.loop-item.trees.items _))
+      subst (λ (ts : Forest). AreRead (Trees (c.args.levels - 1)) (done.0 ++ (attribute_of bytes ∷ [])) ts)
+          (sym (ap views c.in_ok-push.ensures.items ∙ views_push c.loop-item.trees.items _))
           (read_push (Trees (c.args.levels - 1)) done.0 (views c.loop-item.trees.items) (attribute_of bytes) _ done.2 first),
     )

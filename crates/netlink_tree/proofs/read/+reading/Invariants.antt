@@ -15,4 +15,5 @@ decreases-read_block l = 2 * l.levels
 
 -- the attributes so far came to the trees so far
 abbrev pub invariant-read_block-loop-item : goal.invariant-read_block-loop-item
-invariant-read_block-loop-item l = (done : List Attribute) × Passes l.bytes done (unread l.item-iterator) × AreRead (Trees (l.levels - 1)) done (views l.trees.items)
+invariant-read_block-loop-item l =
+    (done : List Attribute) × Passes l.bytes done (unread l.item-iterator) × AreRead (Trees (l.levels - 1)) done (views l.trees.items)

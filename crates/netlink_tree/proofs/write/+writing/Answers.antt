@@ -6,13 +6,17 @@ use Rattle.netlink_tree.proofs.write.+writing.Goals as goal
 pub append_nest-count_from-requires-clause-inside : goal.append_nest-count_from-requires-clause-inside
 append_nest-count_from-requires-clause-inside t c =
     let start = c.len-start.ensures ∙ c.args.block.now.ok.0 in
-    let size = nest_length c.args.block.now.items _ _ _ (views c.args.children.now) c.in_ok-append_nla.ensures.ok c.in_ok-append_trees.ensures.ok in
+    let size =
+    nest_length c.args.block.now.items _ _ _ (views c.args.children.now) c.in_ok-append_nla.ensures.ok c.in_ok-append_trees.ensures.ok
+    in
     omega arith
 
 pub append_nest-count_from-requires-clause-fits : goal.append_nest-count_from-requires-clause-fits
 append_nest-count_from-requires-clause-fits t c =
     let start = c.len-start.ensures ∙ c.args.block.now.ok.0 in
-    let size = nest_length c.args.block.now.items _ _ _ (views c.args.children.now) c.in_ok-append_nla.ensures.ok c.in_ok-append_trees.ensures.ok in
+    let size =
+    nest_length c.args.block.now.items _ _ _ (views c.args.children.now) c.in_ok-append_nla.ensures.ok c.in_ok-append_trees.ensures.ok
+    in
     let fits = c.requires.fits in
     omega arith
 

@@ -8,5 +8,6 @@ use Rattle.netlink_tree.proofs.write.whole_size.Given as goal
 abbrev pub invariant-loop-tree : goal.invariant-loop-tree
 invariant-loop-tree l =
     (are_too_long (views l.trees) ≡ are_too_long (views (drop l.tree-index l.trees)))
-    × (min (l.size + length (tree_bytes (views (drop l.tree-index l.trees)))) (2 ^ 64 - 1) ≡ min (length (tree_bytes (views l.trees))) (2 ^ 64 - 1))
+    × (min (l.size + length (tree_bytes (views (drop l.tree-index l.trees)))) (2 ^ 64 - 1)
+    ≡ min (length (tree_bytes (views l.trees))) (2 ^ 64 - 1))
     × (l.size ≤ 2 ^ 64 - 1)

@@ -10,4 +10,5 @@ returns-in-Some-clause-reads_back c =
 
 pub returns-in-Some-clause-canonical : goal.returns-in-Some-clause-canonical
 returns-in-Some-clause-canonical c =
-    text_is_deep (views c.args.trees.now) c.bytes_of.result c.requires.formed c.in-Some.ensures.0 c.bytes_of.ensures.in_range c.bytes_of.ensures.text
+    text_is_deep (views c.args.trees.now) c.bytes_of.result c.requires.formed c.in-Some.ensures.0 c.bytes_of.ensures.in_range
+    c.bytes_of.ensures.text

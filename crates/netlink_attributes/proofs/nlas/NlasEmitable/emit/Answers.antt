@@ -12,16 +12,21 @@ loop-nla-preserved g c =
     let front : List ℕ = c.loop-nla.invariant.written.0 in
     let size = c.nla_buffer_len-at.ensures.size in
     record {
-      kinds = AllWithin-more (λ nla. g.T.Nla.kind_of nla < 2 ^ 16) _ 0 _ c.loop-nla.invariant.kinds (at_read _ (λ nla. g.T.Nla.kind_of nla < 2 ^ 16) _ nla c.loop-nla-test.true c.nla-item.is c.emit_nla.ensures.kind);
+      kinds =
+          AllWithin-more (λ nla. g.T.Nla.kind_of nla < 2 ^ 16) _ 0 _ c.loop-nla.invariant.kinds
+          (at_read _ (λ nla. g.T.Nla.kind_of nla < 2 ^ 16) _ nla c.loop-nla-test.true c.nla-item.is c.emit_nla.ensures.kind);
       written = (
         front ++ text,
         omega (arith, c.loop-nla.invariant.written.1, size, length-append front text),
         put_behind c.loop-nla.at c.nla_buffer_len-at.result front c.args.buffer.now c.loop-nla.buffer text c.emit_nla.new.buffer
             c.loop-nla.invariant.written.1 c.loop-nla.invariant.written.2
             size c.emit_nla.ensures.written,
-        moved_on front text _ _ _ c.loop-nla.invariant.written.3 (block-cons g.T.Nla.kind_of g.T.Nla.value_of _ _ nla c.loop-nla-test.true c.nla-item.is),
+        moved_on front text _ _ _ c.loop-nla.invariant.written.3
+            (block-cons g.T.Nla.kind_of g.T.Nla.value_of _ _ nla c.loop-nla-test.true c.nla-item.is),
       );
     }
 
 pub returns-clause-walks : goal.returns-clause-walks
-returns-clause-walks g c = list_walks g.T.Nla.kind_of g.T.Nla.value_of c.args.self.now.0.now (λ k d inside. c.loop-nla.invariant.kinds k d (omega arith) (omega arith)) c.requires.can
+returns-clause-walks g c =
+    list_walks g.T.Nla.kind_of g.T.Nla.value_of c.args.self.now.0.now
+    (λ k d inside. c.loop-nla.invariant.kinds k d (omega arith) (omega arith)) c.requires.can

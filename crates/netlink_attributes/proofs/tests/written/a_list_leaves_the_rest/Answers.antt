@@ -10,7 +10,8 @@ two_fit value_of a b p q zero d inside = omega (arith, p)
 two_fit value_of a b p q (suc zero) d inside = omega (arith, q)
 two_fit value_of a b p q (suc (suc k)) d inside = absurd (omega arith)
 
-two_sizes : (k m : ℕ) (v w : List ℕ) → length v ≡ 1 → length w ≡ 0 → length (canonical_block (attribute_with k v ∷ attribute_with m w ∷ [])) ≡ 12
+two_sizes : (k m : ℕ) (v w : List ℕ) → length v ≡ 1 → length w ≡ 0
+    → length (canonical_block (attribute_with k v ∷ attribute_with m w ∷ [])) ≡ 12
 two_sizes k m v w p q =
     let whole = length-canonical_block (attribute_with k v) (attribute_with m w ∷ []) in
     let second = length-canonical_block (attribute_with m w) [] in
@@ -18,7 +19,9 @@ two_sizes k m v w p q =
 
 pub buffer_len-requires : goal.buffer_len-requires
 buffer_len-requires g c =
-    let size = two_sizes c.new.result.kind c.new-3.result.kind c.new.result.value.items c.new-3.result.value.items (ap length (c.new.ensures.value ∙ c.in_ok-vec.ensures.items)) (ap length (c.new-3.ensures.value ∙ c.new-2.ensures.items)) in
+    let size =
+    two_sizes c.new.result.kind c.new-3.result.kind c.new.result.value.items c.new-3.result.value.items
+    (ap length (c.new.ensures.value ∙ c.in_ok-vec.ensures.items)) (ap length (c.new-3.ensures.value ∙ c.new-2.ensures.items)) in
     record { in_size = omega (arith, size) }
 
 pub emit-requires : goal.emit-requires
@@ -26,4 +29,8 @@ emit-requires g c =
     let first = ap length (c.new.ensures.value ∙ c.in_ok-vec.ensures.items) in
     let second = ap length (c.new-3.ensures.value ∙ c.new-2.ensures.items) in
     let size = two_sizes c.new.result.kind c.new-3.result.kind c.new.result.value.items c.new-3.result.value.items first second in
-    record { can = two_fit (λ (nla : DefaultNla). (kept_attribute nla).value) c.new.result c.new-3.result first second; room = omega (arith, size) }
+    record {
+      can = two_fit (λ (nla : DefaultNla). (kept_attribute nla).value) c.new.result c.new-3.result first second;
+      room = omega
+          (arith, size);
+    }

@@ -43,23 +43,32 @@ bytes_mut_spec 𝓤 𝓛 𝓜 𝓡 wired =
     let Sl = MutSlice (named 1) κ' u8 in
     let τ = ty_ref erased mut (ty_int w8) in
     let Y : W.Ghost = ((κs, qs, bounds, a, (mut_vals x, tt)), g) in
-    qed 𝓛 (((‵ (flft κ q) ⊛ ‵ (flft κ' qs.1.0) ⊛ ‵ ftrue) ⊛ ‵ (owns (MutRef (named 0) κ Sl ∷ []) (x, tt) (mut_vals x, tt))) ∷ raw (emp 𝓤) ∷ []) ∵ split ! $
+    qed 𝓛 (((‵ (flft κ q) ⊛ ‵ (flft κ' qs.1.0) ⊛ ‵ ftrue) ⊛ ‵ (owns (MutRef (named 0) κ Sl ∷ []) (x, tt) (mut_vals x, tt))) ∷ raw (emp 𝓤)
+    ∷ []) ∵ split ! $
     enter ! _ _ _ _ _ $ alloc_all ! (λ l. pass_all ! refl ((tt, tt), tt) $
     split ! $ move ! (2 ∷ []) $ fsplit ! $ move ! (0 ∷ 2 ∷ []) $
     fsplit3 ! $ drop ! $
     open_ref ! tt (mem Sl) {b = b} {o = o} $
-    use1 𝓛 (some (λ (v : Val). ‵ (fat full_share (slice_ty τ) b o v) ⊛ ‵ (Sl.own_val y (v ∷ [])))) (part_out_at 𝓛 Sl refl full_share y b o (slice_ty τ) refl) $ pick ! (λ v. split ! $ move ! (1 ∷ []) $ fsplit3 ! $ fsplit3 ! $ feq_l ! (λ ev. flt_l ! (λ fits. flt_l ! (λ small.
+    use1 𝓛 (some (λ (v : Val). ‵ (fat full_share (slice_ty τ) b o v) ⊛ ‵ (Sl.own_val y (v ∷ []))))
+    (part_out_at 𝓛 Sl refl full_share y b o (slice_ty τ) refl) $ pick !
+    (λ v. split ! $ move ! (1 ∷ []) $ fsplit3 ! $ fsplit3 ! $ feq_l ! (λ ev. flt_l ! (λ fits. flt_l ! (λ small.
     rewrite ! 2 (λ (cv : Val). ‵ (fat full_share (slice_ty τ) b o cv)) (ap only ev) refl $
     -- [the inner reference's name and borrow; its cell; the outer borrow, open; its two halves; the
     -- tokens; the locals]
-    sets ! (of_opd ! (load ! (through ! refl (fld ! refl (stop !))) (look_in ! 2 (sub ! 1 refl (whole !))))) refl (tt, record { fits = fits }) $
+    sets ! (of_opd ! (load ! (through ! refl (fld ! refl (stop !))) (look_in ! 2 (sub ! 1 refl (whole !))))) refl
+    (tt, record { fits = fits }) $
     sets ! (addr ! (through ! refl (fld ! refl (hop ! (look_in ! 2 (sub ! 0 refl (whole !))) (stop !))))) refl (tt, tt) $
     sets ! (agg ! (and_then ! (get ! refl) (and_then ! (get ! refl) (no_more !)))) refl (tt, (tt, (record { fits = fits }, tt))) $
-    flt_i ! (n * (mem u8).size) (2 ^ 63) small $ flt_i ! n (2 ^ 64) fits $ feq_i ! (List Val) (mut_slice_vals y) (mut_slice_vals y) refl $ fjoin3 ! $ fjoin3 ! $
-    move ! (1 ∷ 0 ∷ []) $ use2 𝓛 (‵ (part_at Sl full_share y b o)) (part_in_at 𝓛 Sl refl full_share y b o (slice_ty τ) refl (slice_val y.ref_ptr n)) $
+    flt_i ! (n * (mem u8).size) (2 ^ 63) small $ flt_i ! n (2 ^ 64) fits $ feq_i ! (List Val) (mut_slice_vals y) (mut_slice_vals y) refl $
+    fjoin3 ! $ fjoin3 ! $
+    move ! (1 ∷ 0 ∷ []) $ use2 𝓛 (‵ (part_at Sl full_share y b o))
+    (part_in_at 𝓛 Sl refl full_share y b o (slice_ty τ) refl (slice_val y.ref_ptr n)) $
     close_ref ! tt (mem Sl) y {b = b} {o = o} $
-    use3 𝓛 (later (some (λ (γ' : GName). ‵ ((MutSlice (named 0) κ u8).own_val (renamed y γ') (mut_slice_vals y)) ⊛ ‵ (flft κ q) ⊛ ‵ (follows Sl (Array u8 0) x.ghost_name γ' (at_last y)))))
+    use3 𝓛 (later (some (λ (γ' : GName).
+    ‵ ((MutSlice (named 0) κ u8).own_val (renamed y γ') (mut_slice_vals y)) ⊛ ‵ (flft κ q) ⊛ ‵
+    (follows Sl (Array u8 0) x.ghost_name γ' (at_last y)))))
     (lends_inner_slice 𝓛 u8 (named 0) (named 1) κ κ' x bounds.0 (fits, small) q) $ await ! tt $ pick ! (λ γ'.
     returns ! (look_at ! 0 refl) $ free_all ! refl $ keep ! (0 ∷ 2 ∷ []) $ split3 ! $
-    suffices ! _ (ends_at 𝓛 f.ended stayed c Y (slice_val y.ref_ptr n) (record { ref_ptr = y.ref_ptr; ghost_name = γ'; now = y.now }) (tt, tt) (tt, tt)) $
+    suffices ! _ (ends_at 𝓛 f.ended stayed c Y (slice_val y.ref_ptr n) (record { ref_ptr = y.ref_ptr; ghost_name = γ'; now = y.now })
+    (tt, tt) (tt, tt)) $
     nothing ! $ nothing ! $ fjoin ! $ join ! $ move ! (1 ∷ 3 ∷ []) $ join ! $ join ! $ frame ! $ says ! refl $ done !)))))))

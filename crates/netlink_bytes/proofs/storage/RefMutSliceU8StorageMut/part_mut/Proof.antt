@@ -33,14 +33,21 @@ use Rattle.netlink_bytes.proofs.storage.RefMutSliceU8StorageMut.part_mut.Stateme
 use Rattle.netlink_bytes.proofs.storage.RefMutSliceU8StorageMut.part_mut.Code as code
 
 abbrev stayed : Stays f.ended.signature.params f.ended.kept
-stayed = (stay_dropped (RefMutOf (0 ∷ []) tt (SliceRefMutOf (1 ∷ []) tt (plain (λ κs. u8)) (λ κs. tt)) (λ κs. tt)) no, (stay_dropped (plain (λ _. usize)) yes, (stay_dropped (plain (λ _. usize)) yes, tt)))
+stayed = (
+  stay_dropped (RefMutOf (0 ∷ []) tt (SliceRefMutOf (1 ∷ []) tt (plain (λ κs. u8)) (λ κs. tt)) (λ κs. tt)) no,
+  (stay_dropped (plain (λ _. usize)) yes, (stay_dropped (plain (λ _. usize)) yes, tt)),
+)
 
 pub part_mut_spec : {M : Type 1} → statement M
 part_mut_spec 𝓤 𝓛 𝓜 𝓡 wired =
     let c = f.clauses 𝓛 𝓜.mem 𝓡.returns in let W = walk_of 𝓛 f.ended stayed c in let 𝓣 = tables 𝓤 𝓛.H 𝓜 𝓡 𝓡.env in
-    proved 𝓛 f.ended stayed c 𝓜 𝓡 (Goes-spent_ref 𝓛 2 (0 ∷ []) tt (SliceRefMutOf (1 ∷ []) tt (plain (λ κs. u8)) (λ κs. tt)), (Goes-dropped 𝓛 2 (plain (λ _. usize)) yes (λ κs x f. refl), (Goes-dropped 𝓛 2 (plain (λ _. usize)) yes (λ κs x f. refl), tt)))
+    proved 𝓛 f.ended stayed c 𝓜 𝓡 (
+      Goes-spent_ref 𝓛 2 (0 ∷ []) tt (SliceRefMutOf (1 ∷ []) tt (plain (λ κs. u8)) (λ κs. tt)),
+      (Goes-dropped 𝓛 2 (plain (λ _. usize)) yes (λ κs x f. refl), (Goes-dropped 𝓛 2 (plain (λ _. usize)) yes (λ κs x f. refl), tt)),
+    )
     f.Key.name code.function (code.unfolded 𝓤 𝓛.H 𝓜 𝓡 wired)
-    (λ κs. (mut_vals, (uint_vals w64, (uint_vals w64, tt)))) (λ κs. (mut_Tells (named 0) κs.0 (MutSlice (named 1) κs.1.0 u8), (uint_Tells w64, (uint_Tells w64, tt)))) (λ κs qs bounds a g are.
+    (λ κs. (mut_vals, (uint_vals w64, (uint_vals w64, tt))))
+    (λ κs. (mut_Tells (named 0) κs.0 (MutSlice (named 1) κs.1.0 u8), (uint_Tells w64, (uint_Tells w64, tt)))) (λ κs qs bounds a g are.
     let κ = κs.0 in let κ' = κs.1.0 in let q = qs.0 in
     let x = a.0 in let y = x.now in let b = x.ref_ptr.0 in let o = x.ref_ptr.1 in let n = length y.now in
     let start : ℕ = a.1.0 in let end : ℕ = a.1.1.0 in
@@ -49,34 +56,56 @@ part_mut_spec 𝓤 𝓛 𝓜 𝓡 wired =
     let Y : W.Ghost = ((κs, qs, bounds, a, (mut_vals x, (uint_vals w64 start, (uint_vals w64 end, tt)))), g) in
     let far : start < 2 ^ 64 = are.1.0.1 in
     let far' : end < 2 ^ 64 = are.1.1.0.1 in
-    qed 𝓛 (((‵ (flft κ q) ⊛ ‵ (flft κ' qs.1.0) ⊛ ‵ ftrue) ⊛ ‵ (owns (MutRef (named 0) κ Sl ∷ usize ∷ usize ∷ []) (x, (start, (end, tt))) (mut_vals x, (uint_vals w64 start, (uint_vals w64 end, tt))))) ∷ (raw (fact 𝓤 (start ≤ end)) ⊛ raw (fact 𝓤 (end ≤ length y.now))) ∷ []) ∵
+    qed 𝓛 (((‵ (flft κ q) ⊛ ‵ (flft κ' qs.1.0) ⊛ ‵ ftrue) ⊛ ‵
+    (owns (MutRef (named 0) κ Sl ∷ usize ∷ usize ∷ []) (x, (start, (end, tt)))
+    (mut_vals x, (uint_vals w64 start, (uint_vals w64 end, tt))))) ∷ (raw (fact 𝓤 (start ≤ end)) ⊛ raw (fact 𝓤 (end ≤ length y.now)))
+    ∷ []) ∵
     move ! (1 ∷ []) $ split ! $ heard ! _ (λ order. heard ! _ (λ inside. split ! $
     enter ! _ _ _ _ _ $ alloc_all ! (λ l. pass_all ! refl ((tt, tt), ((tt, record { fits = far }), ((tt, record { fits = far' }), tt))) $
     split ! $ move ! (2 ∷ []) $ fsplit ! $ move ! (0 ∷ 2 ∷ []) $
     fsplit3 ! $ drop ! $
     open_ref ! tt (mem Sl) {b = b} {o = o} $
-    use1 𝓛 (some (λ (v : Val). ‵ (fat full_share (slice_ty τ) b o v) ⊛ ‵ (Sl.own_val y (v ∷ [])))) (part_out_at 𝓛 Sl refl full_share y b o (slice_ty τ) refl) $ pick ! (λ v. split ! $ move ! (1 ∷ []) $ fsplit3 ! $ fsplit3 ! $ feq_l ! (λ ev. flt_l ! (λ fits. flt_l ! (λ small.
+    use1 𝓛 (some (λ (v : Val). ‵ (fat full_share (slice_ty τ) b o v) ⊛ ‵ (Sl.own_val y (v ∷ []))))
+    (part_out_at 𝓛 Sl refl full_share y b o (slice_ty τ) refl) $ pick !
+    (λ v. split ! $ move ! (1 ∷ []) $ fsplit3 ! $ fsplit3 ! $ feq_l ! (λ ev. flt_l ! (λ fits. flt_l ! (λ small.
     rewrite ! 2 (λ (cv : Val). ‵ (fat full_share (slice_ty τ) b o cv)) (ap only ev) refl $
-    sets ! (of_opd ! (load ! (through ! refl (fld ! refl (stop !))) (look_in ! 2 (sub ! 1 refl (whole !))))) refl (tt, record { fits = fits }) $
+    sets ! (of_opd ! (load ! (through ! refl (fld ! refl (stop !))) (look_in ! 2 (sub ! 1 refl (whole !))))) refl
+    (tt, record { fits = fits }) $
     sets ! (addr ! (through ! refl (fld ! refl (hop ! (look_in ! 2 (sub ! 0 refl (whole !))) (stop !))))) refl (tt, tt) $
     sets ! (agg ! (and_then ! (get ! refl) (and_then ! (get ! refl) (no_more !)))) refl (tt, (tt, (record { fits = fits }, tt))) $
     sets ! (bin ! (get_in ! (fld ! refl (stop !)) (sub ! 0 refl (whole !))) (get ! refl) tt) refl (tt, tt) $
     sets ! (bin ! (get ! refl) (get ! refl) order) refl (tt, record { fits = (let k : end - start < 2 ^ 64 = omega arith in k) }) $
     sets ! (addr ! (through ! refl (stop !))) refl (tt, tt) $
-    sets ! (agg ! (and_then ! (get ! refl) (and_then ! (get ! refl) (no_more !)))) refl (tt, (tt, (record { fits = (let k : end - start < 2 ^ 64 = omega arith in k) }, tt))) $
-    flt_i ! (n * (mem u8).size) (2 ^ 63) small $ flt_i ! n (2 ^ 64) fits $ feq_i ! (List Val) (mut_slice_vals y) (mut_slice_vals y) refl $ fjoin3 ! $ fjoin3 ! $
-    move ! (1 ∷ 0 ∷ []) $ use2 𝓛 (‵ (part_at Sl full_share y b o)) (part_in_at 𝓛 Sl refl full_share y b o (slice_ty τ) refl (slice_val y.ref_ptr n)) $
+    sets ! (agg ! (and_then ! (get ! refl) (and_then ! (get ! refl) (no_more !)))) refl
+    (tt, (tt, (record { fits = (let k : end - start < 2 ^ 64 = omega arith in k) }, tt))) $
+    flt_i ! (n * (mem u8).size) (2 ^ 63) small $ flt_i ! n (2 ^ 64) fits $ feq_i ! (List Val) (mut_slice_vals y) (mut_slice_vals y) refl $
+    fjoin3 ! $ fjoin3 ! $
+    move ! (1 ∷ 0 ∷ []) $ use2 𝓛 (‵ (part_at Sl full_share y b o))
+    (part_in_at 𝓛 Sl refl full_share y b o (slice_ty τ) refl (slice_val y.ref_ptr n)) $
     close_ref ! tt (mem Sl) y {b = b} {o = o} $
-    use3 𝓛 (later (some (λ (γ' : GName). ‵ ((MutSlice (named 0) κ u8).own_val (renamed y γ') (mut_slice_vals y)) ⊛ ‵ (flft κ q) ⊛ ‵ (follows Sl (Array u8 0) x.ghost_name γ' (at_last y)))))
+    use3 𝓛 (later (some (λ (γ' : GName).
+    ‵ ((MutSlice (named 0) κ u8).own_val (renamed y γ') (mut_slice_vals y)) ⊛ ‵ (flft κ q) ⊛ ‵
+    (follows Sl (Array u8 0) x.ghost_name γ' (at_last y)))))
     (lends_inner_slice 𝓛 u8 (named 0) (named 1) κ κ' x bounds.0 (fits, small) q) $ await ! tt $ pick ! (λ γ'. split3 ! $
     let p : ℕ = start + y.ref_ptr.1 in
-    let part : List ℕ = mid 𝓛 (named 0) κ q y.ref_ptr.0 y.ref_ptr.1 γ' u8 y.now start (end - start) p (starts_at start y.ref_ptr.1 y.now (let k : start ≤ length y.now = omega arith in k)) in
+    let part : List ℕ =
+    mid 𝓛 (named 0) κ q y.ref_ptr.0 y.ref_ptr.1 γ' u8 y.now start (end - start) p
+    (starts_at start y.ref_ptr.1 y.now (let k : start ≤ length y.now = omega arith in k)) in
     let long : length part ≡ end - start = length_part start end y.now order inside in
-    use2 𝓛 (later (some (λ (δ : GName). ‵ ((MutSlice (named 0) κ u8).own_val (record { ref_ptr = (y.ref_ptr.0, p); ghost_name = δ; now = part }) (slice_val (y.ref_ptr.0, p) (length part) ∷ [])) ⊛ ‵ (flft κ q) ⊛ ‵ (follows (Array u8 0) (Array u8 0) γ' δ (put_at y.now start)))))
-    (lends_part 𝓛 (named 0) κ q y.ref_ptr.0 y.ref_ptr.1 γ' u8 y.now start (end - start) p (starts_at start y.ref_ptr.1 y.now (let k : start ≤ length y.now = omega arith in k)) (omega arith, omega arith) (mut_slice_vals y)) $ await ! tt $ pick ! (λ δ. split3 ! $
-    move ! (3 ∷ 2 ∷ []) $ use2 𝓛 (‵ (follows Sl (Array u8 0) x.ghost_name δ (λ w. at_last y (put_at y.now start w)))) (follows_then 𝓛 Sl (Array u8 0) (Array u8 0) (at_last y) (put_at y.now start) x.ghost_name γ' δ) $
-    rewrite ! 1 (λ (j : ℕ). ‵ ((MutSlice (named 0) κ u8).own_val (record { ref_ptr = (y.ref_ptr.0, p); ghost_name = δ; now = part }) (slice_val (y.ref_ptr.0, p) j ∷ []))) long refl $
+    use2 𝓛 (later (some (λ (δ : GName).
+    ‵ ((MutSlice (named 0) κ u8).own_val (record { ref_ptr = (y.ref_ptr.0, p); ghost_name = δ; now = part })
+    (slice_val (y.ref_ptr.0, p) (length part) ∷ [])) ⊛ ‵ (flft κ q) ⊛ ‵ (follows (Array u8 0) (Array u8 0) γ' δ (put_at y.now start)))))
+    (lends_part 𝓛 (named 0) κ q y.ref_ptr.0 y.ref_ptr.1 γ' u8 y.now start (end - start) p
+    (starts_at start y.ref_ptr.1 y.now (let k : start ≤ length y.now = omega arith in k)) (omega arith, omega arith) (mut_slice_vals y))
+    $ await ! tt $ pick ! (λ δ. split3 ! $
+    move ! (3 ∷ 2 ∷ []) $ use2 𝓛 (‵ (follows Sl (Array u8 0) x.ghost_name δ (λ w. at_last y (put_at y.now start w))))
+    (follows_then 𝓛 Sl (Array u8 0) (Array u8 0) (at_last y) (put_at y.now start) x.ghost_name γ' δ) $
+    rewrite ! 1 (λ (j : ℕ).
+    ‵ ((MutSlice (named 0) κ u8).own_val (record { ref_ptr = (y.ref_ptr.0, p); ghost_name = δ; now = part })
+    (slice_val (y.ref_ptr.0, p) j ∷ []))) long refl $
     move ! (1 ∷ 2 ∷ 0 ∷ []) $
     returns ! (look_at ! 0 refl) $ free_all ! refl $ keep ! (0 ∷ 1 ∷ 2 ∷ 4 ∷ []) $
-    suffices ! _ (ends_at 𝓛 f.ended stayed c Y (slice_val (y.ref_ptr.0, p) (end - start)) (record { ref_ptr = (y.ref_ptr.0, p); ghost_name = δ; now = part }) (tt, (tt, (tt, tt))) (tt, (tt, (tt, tt)))) $
-    nothing ! $ nothing ! $ fjoin ! $ nothing ! $ fjoin ! $ nothing ! $ fjoin ! $ join ! $ move ! (1 ∷ 3 ∷ []) $ join ! $ join ! $ frame ! $ says ! refl $ done !))))))))))
+    suffices ! _ (ends_at 𝓛 f.ended stayed c Y (slice_val (y.ref_ptr.0, p) (end - start))
+    (record { ref_ptr = (y.ref_ptr.0, p); ghost_name = δ; now = part }) (tt, (tt, (tt, tt))) (tt, (tt, (tt, tt)))) $
+    nothing ! $ nothing ! $ fjoin ! $ nothing ! $ fjoin ! $ nothing ! $ fjoin ! $ join ! $ move ! (1 ∷ 3 ∷ []) $ join ! $ join ! $ frame ! $
+    says ! refl $ done !))))))))))

@@ -5,8 +5,10 @@ use Rattle.netlink_packet_core.proofs.message.NetlinkMessageEmitable.buffer_len.
 
 pub buffer_len-requires : goal.buffer_len-requires
 buffer_len-requires g c =
-    let size = length-header_and c.args.self.now.header (payload_bytes g.I.NetlinkSerializable.encoding c.args.self.now.payload) in omega arith
+    let size = length-header_and c.args.self.now.header (payload_bytes g.I.NetlinkSerializable.encoding c.args.self.now.payload) in
+    omega arith
 
 pub returns : goal.returns
 returns g c =
-    let size = length-header_and c.args.self.now.header (payload_bytes g.I.NetlinkSerializable.encoding c.args.self.now.payload) in omega arith
+    let size = length-header_and c.args.self.now.header (payload_bytes g.I.NetlinkSerializable.encoding c.args.self.now.payload) in
+    omega arith

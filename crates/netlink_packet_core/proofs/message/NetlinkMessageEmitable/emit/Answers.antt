@@ -5,4 +5,5 @@ use Rattle.netlink_packet_core.proofs.message.NetlinkMessageEmitable.emit.Goals 
 
 pub serialize-requires-clause-room : goal.serialize-requires-clause-room
 serialize-requires-clause-room g c =
-    let size = length-header_and c.args.self.now.header (payload_bytes g.I.NetlinkSerializable.encoding c.args.self.now.payload) in omega arith
+    let size = length-header_and c.args.self.now.header (payload_bytes g.I.NetlinkSerializable.encoding c.args.self.now.payload) in
+    omega arith

@@ -35,7 +35,8 @@ returns-in_err-message-clause-refuses c =
     let t : ℕ = c.args.header.now.message_type in
     let not = no_link c.of_type.result t c.in_default.is c.of_type.ensures.link in
     let is = c.in-Some-of_type.ensures.address.0 refl in
-    rw (fault.1, fault.2) (λ never. address_reads t not is c.args.header.now c.args.payload.now refl ∙ c.in_err-message.ensures.refuses never t)
+    rw (fault.1, fault.2)
+    (λ never. address_reads t not is c.args.header.now c.args.payload.now refl ∙ c.in_err-message.ensures.refuses never t)
 
 pub returns-in-Some-of_type-clause-reads : goal.returns-in-Some-of_type-clause-reads
 returns-in-Some-of_type-clause-reads c =
