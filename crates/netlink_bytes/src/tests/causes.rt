@@ -120,10 +120,15 @@ fn causes(rt: HostRuntime) -> Result<(), Fail> {
     let alloc = rt.alloc();
     let owned = String::from_str(alloc, "a text")?;
     let causes = causes_by_constructor(alloc, owned);
-    for (cause, (number, text)) in causes.iter().zip(NUMBERS_AND_TEXTS) {
-        assert_eq!(rt; cause.number(), number, "{text}");
-        assert_eq!(rt; cause.is_out_of_memory(), number == 16, "{text}");
-        assert_eq!(rt; cause.to_string(alloc)?.as_str(), text);
+    for (at, cause) in causes.iter().enumerate() {
+        match NUMBERS_AND_TEXTS.get(at) {
+            Some((number, text)) => {
+                assert_eq!(rt; cause.number(), *number, "{text}");
+                assert_eq!(rt; cause.is_out_of_memory(), *number == 16, "{text}");
+                assert_eq!(rt; cause.to_string(alloc)?.as_str(), *text);
+            }
+            None => assert!(rt; false),
+        }
     }
     let refused = not_utf8(&rt)?;
     assert_eq!(rt; refused.number(), 14);
