@@ -1,8 +1,14 @@
 //! A run of the program over a reader and a writer.
 
-ghost use Rattle.std.specs.Prelude.{◌≡◌, ◌≢◌, [], Some, IfOk, IfErr, IfSome};
+ghost use Rattle.std.specs.Prelude.{◌≡◌, ◌≢◌, [], None, Some, IfOk, IfErr, IfSome, IsOkAnd};
+ghost use Rattle.std.specs.String.{string_bytes};
 ghost use Rattle.std.specs.Io.KnownBytes.{Keeps};
-ghost use Rattle.netlink_frame.specs.declared.command.Command.TheVariants.{Normalize, Show, Nlas, Canon, Frames};
+ghost use Rattle.netlink_packet_core.specs.Frame.{Frame};
+ghost use Rattle.netlink_packet_core.specs.Refusal.{IsRefusal};
+ghost use Rattle.netlink_packet_core.specs.declared.message.NetlinkMessage.{NetlinkMessage};
+ghost use Rattle.netlink_frame.specs.Lines.{message_lines};
+ghost use Rattle.netlink_frame.specs.PingPong.{ping_pong_decoding, wants_memory};
+ghost use Rattle.netlink_frame.specs.declared.ping_pong.PingPongMessage.{PingPongMessage};
 ghost use Rattle.netlink_frame.specs.Run.{Answers, IsEarly, Makes, fault_text};
 
 use crate::command::Command;
@@ -68,7 +74,7 @@ pub fn run<R: Read, W: Write>(
         Answers command input (W.contents writer.old) (W.contents writer.new) result) }
 {
     let input = read_all(alloc, reader)?;
-    let Answer { output, fault } = match answer_to(alloc, command, input.as_slice()) {
+    let Answer { output, fault } = match answer_to(alloc, command, input) {
         Ok(answer) => answer,
         Err(_) => return Err(Fault::Decode(DecodeError::OutOfMemory)),
     };
@@ -107,109 +113,71 @@ fn read_all<R: Read>(alloc: Global, reader: &mut R) -> Result<Vec<u8>, Fault>
 }
 
 /// The output of the command and its fault, or want of memory.
-fn answer_to(alloc: Global, command: Command, input: &[u8]) -> Result<Answer, AllocError>
-    ensures makes { IfOk result (λ answer. Makes command input.now answer.output.items answer.fault) }
+#[tactic(auto, unfolding(crate::specs::Run::Makes), using(crate::proofs::Ends::attributes_end, crate::proofs::Ends::frames_end))]
+fn answer_to(alloc: Global, command: Command, input: Vec<u8>) -> Result<Answer, AllocError>
+    ensures makes { IfOk result
+        (λ answer. Makes command input.items answer.output.items answer.fault) }
     ensures fault { IfOk result (λ answer. IfSome answer.fault (λ e. e ≢ DecodeError.OutOfMemory)) }
 {
     match command {
-        Command::Normalize => normalized(alloc, input),
-        Command::Show => shown(alloc, input),
-        Command::Nlas => walked(alloc, input),
-        Command::Canon => rewritten(alloc, input),
-        Command::Frames => framed(alloc, input),
+        Command::Normalize => whole(alloc, normalize::<PingPongMessage>(alloc, &input)),
+        Command::Show => whole(alloc, shown(alloc, input)),
+        Command::Nlas => lines(nlas_text(alloc, &input), nlas_fault(&input)),
+        Command::Canon => whole(alloc, normalize_nlas(alloc, &input)),
+        Command::Frames => lines(frames_text(alloc, &input), frames_fault(&input)),
     }
 }
 
-/// The canonical frame of a message, or the refusal.
-#[tactic(auto, unfolding(crate::specs::Run::Makes))]
-fn normalized(alloc: Global, input: &[u8]) -> Result<Answer, AllocError>
-    ensures makes { IfOk result
-        (λ answer. Makes Normalize input.now answer.output.items answer.fault) }
-    ensures fault { IfOk result (λ answer. IfSome answer.fault (λ e. e ≢ DecodeError.OutOfMemory)) }
+/// The lines of a message, or the refusal. The input is let go before there are lines.
+fn shown(alloc: Global, input: Vec<u8>) -> Result<Vec<u8>, DecodeError>
+    ensures shows { IfOk result (λ v. (m : NetlinkMessage PingPongMessage)
+        × Frame ping_pong_decoding input.items m × (v.items ≡ message_lines m)) }
+    ensures refuses { IfErr result (λ e. e ≢ DecodeError.OutOfMemory
+        → IsRefusal ping_pong_decoding wants_memory input.items e) }
 {
-    match normalize::<PingPongMessage>(alloc, input) {
+    match NetlinkMessage::<PingPongMessage>::deserialize(alloc, &input) {
+        Ok(message) => {
+            drop(input);
+            Ok(show_text(alloc, &message)?.into_bytes())
+        }
+        Err(cause) => Err(cause),
+    }
+}
+
+/// The output of a command that writes all or nothing; want of memory is no fault of the input.
+fn whole(alloc: Global, made: Result<Vec<u8>, DecodeError>) -> Result<Answer, AllocError>
+    ensures output { IfOk made (λ output. IsOkAnd result
+        (λ answer. (answer.output ≡ output) × (answer.fault ≡ None))) }
+    ensures fault { IfErr made (λ e. IfOk result
+        (λ answer. (answer.output.items ≡ []) × (answer.fault ≡ Some e)
+        × (e ≢ DecodeError.OutOfMemory))) }
+{
+    match made {
         Ok(output) => Ok(Answer {
             output,
             fault: None,
         }),
-        Err(cause) => refused(alloc, cause),
+        Err(DecodeError::OutOfMemory) => Err(AllocError),
+        Err(cause) => Ok(Answer {
+            output: Vec::new(alloc),
+            fault: Some(cause),
+        }),
     }
 }
 
-/// The lines of a message, or the refusal.
-#[tactic(auto, unfolding(crate::specs::Run::Makes))]
-fn shown(alloc: Global, input: &[u8]) -> Result<Answer, AllocError>
-    ensures makes { IfOk result (λ answer. Makes Show input.now answer.output.items answer.fault) }
-    ensures fault { IfOk result (λ answer. IfSome answer.fault (λ e. e ≢ DecodeError.OutOfMemory)) }
+/// The output of a command that writes lines up to a fault.
+fn lines(
+    made: Result<String, DecodeError>,
+    fault: Option<DecodeError>,
+) -> Result<Answer, AllocError>
+    ensures answer { IfOk result (λ answer. IsOkAnd made
+        (λ text. answer.output.items ≡ string_bytes text) × (answer.fault ≡ fault)) }
 {
-    match NetlinkMessage::<PingPongMessage>::deserialize(alloc, input) {
-        Ok(message) => match show_text(alloc, &message) {
-            Ok(text) => Ok(Answer {
-                output: text.into_bytes(),
-                fault: None,
-            }),
-            Err(_) => Err(AllocError),
-        },
-        Err(cause) => refused(alloc, cause),
-    }
-}
-
-/// The lines of attributes, and the fault that they end with.
-#[tactic(auto, unfolding(crate::specs::Run::Makes))]
-fn walked(alloc: Global, input: &[u8]) -> Result<Answer, AllocError>
-    ensures makes { IfOk result (λ answer. Makes Nlas input.now answer.output.items answer.fault) }
-    ensures fault { IfOk result (λ answer. IfSome answer.fault (λ e. e ≢ DecodeError.OutOfMemory)) }
-{
-    match nlas_text(alloc, input) {
+    match made {
         Ok(text) => Ok(Answer {
             output: text.into_bytes(),
-            fault: nlas_fault(input),
+            fault,
         }),
         Err(_) => Err(AllocError),
     }
-}
-
-/// The canonical block of attributes, or the fault.
-#[tactic(auto, unfolding(crate::specs::Run::Makes))]
-fn rewritten(alloc: Global, input: &[u8]) -> Result<Answer, AllocError>
-    ensures makes { IfOk result (λ answer. Makes Canon input.now answer.output.items answer.fault) }
-    ensures fault { IfOk result (λ answer. IfSome answer.fault (λ e. e ≢ DecodeError.OutOfMemory)) }
-{
-    match normalize_nlas(alloc, input) {
-        Ok(output) => Ok(Answer {
-            output,
-            fault: None,
-        }),
-        Err(cause) => refused(alloc, cause),
-    }
-}
-
-/// The lines of frames, and the fault that they end with.
-#[tactic(auto, unfolding(crate::specs::Run::Makes))]
-fn framed(alloc: Global, input: &[u8]) -> Result<Answer, AllocError>
-    ensures makes { IfOk result (λ answer. Makes Frames input.now answer.output.items answer.fault) }
-    ensures fault { IfOk result (λ answer. IfSome answer.fault (λ e. e ≢ DecodeError.OutOfMemory)) }
-{
-    match frames_text(alloc, input) {
-        Ok(text) => Ok(Answer {
-            output: text.into_bytes(),
-            fault: frames_fault(input),
-        }),
-        Err(_) => Err(AllocError),
-    }
-}
-
-/// No output and the fault; want of memory is no fault of the input.
-fn refused(alloc: Global, cause: DecodeError) -> Result<Answer, AllocError>
-    ensures ok { IfOk result
-        (λ answer. (answer.output.items ≡ []) × (answer.fault ≡ Some cause)
-        × (cause ≢ DecodeError.OutOfMemory)) }
-{
-    if cause.is_out_of_memory() {
-        return Err(AllocError);
-    }
-    Ok(Answer {
-        output: Vec::new(alloc),
-        fault: Some(cause),
-    })
 }
