@@ -1,21 +1,18 @@
-"""What the scripts of this folder share: the toolchain's folder, and how C is compiled and linked."""
+"""What the scripts of this folder share: how C is compiled and linked."""
 
 import os
 import shutil
 import subprocess
+import sys
 
 HERE = os.path.dirname(os.path.abspath(__file__))
-TOP = os.path.dirname(HERE)
 OUT = os.path.join(HERE, "out")
+sys.path.append(os.path.join(os.path.dirname(HERE), "tests"))
+
+from libraries import TOP, kit  # noqa: E402 (it stands in that folder)
 
 # The headers of C that heap.c, the tests and the examples include. The toolchain's clang has none.
 HEADERS = "inttypes stdbool stddef stdint stdio stdlib string".split()
-
-
-def kit():
-    """The toolchain's folder, where the page stands that `rt doc` names."""
-    page = subprocess.run(["rt", "doc"], stdout=subprocess.PIPE, text=True, check=True).stdout
-    return os.path.dirname(page.strip())
 
 
 def compiler():

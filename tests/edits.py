@@ -1,0 +1,339 @@
+#!/usr/bin/env python3
+"""Tries the must-fail edits of all crates, or of those named: the prover has to refuse each.
+
+`rt must-fail` tries them one at a time, and each check loads the standard library and the crate anew. Here edits
+of the bodies of different functions are tried in one check. A function is proved against the contracts of what it
+calls, not against their bodies, so one wrong body has no part in what the check says of another function's goals. An
+edit passes there only if the check names a goal of its own function, and no goal of anything that was not edited; that
+a function calls another that is not proved says nothing of it.
+What that does not show is tried alone, as `rt must-fail` does it: edits of a constant, a type, a member of an impl or
+a definition, and those of which a first and a second try together showed nothing.
+
+    tests/edits.py [--over FOLDER] [--lanes N] [CRATE..]
+
+It takes the libraries from the folders out/ of FOLDER, a copy of this repository (else from its own), where `rt ci`
+or `rt check` left them, and first proves each crate as it stands: from nothing behind `rt ci`, which keeps no work.
+N checks run side by side, as many as there are processors where nothing is said.
+"""
+
+import argparse
+import os
+import re
+import shutil
+import subprocess
+import sys
+import tempfile
+from concurrent.futures import ThreadPoolExecutor
+
+from libraries import TOP, dependencies, folder_of, words_over_rlibs
+
+# How many edits one check tries at most.
+BATCH = 12
+PARTS = ("src", "specs", "proofs")
+
+FUNCTION = re.compile(r'(?m)^( *)((?:(?:pub(?:\([^)]*\))?|const|unsafe|extern|"C") )*)fn (\w+)(.*)$')
+REFUSED = re.compile(r"(?m)^(\w+) (\w+(?:::\w+)*): (?:not proved; |no proof: )(.*)$")
+# A reason that may lie in another item alone, or in a proof by hand, whose own error then shows it.
+WAITS = re.compile(r"(?:is|are) not proved|waits for the proof|`ensures\*`")
+# The answers of functions that call one another in a cycle, which are proved, or not, together.
+CYCLE = re.compile(r"expected answers in (\S*/\+\S+)")
+AT = re.compile(r"(?m)^(?:note: )?(?:\./)?(src|specs|proofs)/\S+:\d+:\d+: .*$")
+UNREAD = re.compile(r"is not in scope|has no field|is no name|operand is missing|expected the end|cannot continue")
+ERROR = re.compile(r"^(?:\./)?(\S+?):\d+:\d+: error: (?:(`[^`]*`): )?(.*)$", re.M)
+# What a proof file says where the edit took a name away, which says little of the contract.
+NAME_GONE = re.compile(r"^(?:\./)?proofs/.*(?:has no field|is not in scope|has no `|was not admitted)")
+
+
+class BadEdit(Exception):
+    """An edit that cannot be applied."""
+
+
+class Edit:
+    """One file of a folder must-fail: pairs of texts, old and new, each in a file of the crate."""
+
+    def __init__(self, crate, path):
+        self.crate, self.name = crate, os.path.basename(path)
+        self.pairs, file, old = [], "", None
+        with open(path, encoding="utf-8") as lines:
+            for line in lines.read().split("\n"):
+                word, _, text = line.partition(":")
+                text = text.removeprefix(" ")
+                if word == "file":
+                    file = text.strip()
+                elif word == "old":
+                    old = text
+                elif word == "new" and old is not None:
+                    self.pairs.append((file, old, text))
+                    old = None
+
+    def applied(self, texts):
+        """These texts, by file, with the edit's pairs applied in turn; each old text stands there once."""
+        made = dict(texts)
+        if not self.pairs:
+            raise BadEdit("it has no pair of texts")
+        for file, old, new in self.pairs:
+            if made.get(file, "").count(old) != 1:
+                raise BadEdit(f"an old text is in {file} {made.get(file, '').count(old)} times, and not once")
+            made[file] = made[file].replace(old, new)
+        return made
+
+    def function(self, texts):
+        """The module and the name of the function whose body holds all of the edit, or none."""
+        found = {function_at(file, texts.get(file, ""), old) for file, old, _ in self.pairs}
+        return found.pop() if len(found) == 1 else None
+
+
+def function_at(file, text, old):
+    """The module and the name of the function in whose body the text stands, or none.
+
+    The files are laid out by `rt fmt`: a function ends at the first line that closes a brace at its own indent. A
+    `const fn` may be computed in another function's proof, so it is none.
+    """
+    at = text.find(old)
+    if at < 0 or not file.startswith("src/"):
+        return None
+    starts = [it for it in FUNCTION.finditer(text) if it.start() <= at]
+    if not starts or "const" in starts[-1][2]:
+        return None
+    start = starts[-1]
+    ends = text.find(f"\n{start[1]}}}\n", start.start())
+    opens = text.find(f"\n{start[1]}{{\n", start.start(), ends)
+    if opens < 0 and start[4].endswith("{"):
+        opens = start.end() - 1
+    if not 0 <= opens < at or at + len(old) > ends + 1:
+        return None
+    module = file.removeprefix("src/").removesuffix(".rt").replace("/", "::")
+    return "" if module in ("lib", "main") else module, start[3]
+
+
+def texts_of(crate):
+    """The texts of the crate's files, by their paths in its folder."""
+    texts, folder = {}, folder_of(crate)
+    for part in PARTS:
+        for at, _, names in os.walk(os.path.join(folder, part)):
+            for name in names:
+                path = os.path.join(at, name)
+                with open(path, encoding="utf-8") as file:
+                    texts[os.path.relpath(path, folder)] = file.read()
+    return texts
+
+
+class Checked:
+    """What a check of the crate with these texts says, over a copy of the kept work of another check."""
+
+    def __init__(self, words, texts, kept, keep=False):
+        with tempfile.TemporaryDirectory(prefix="edits-") as room:
+            for path, text in texts.items():
+                os.makedirs(os.path.dirname(os.path.join(room, "crate", path)), exist_ok=True)
+                with open(os.path.join(room, "crate", path), "w", encoding="utf-8") as file:
+                    file.write(text)
+            own = kept if keep else os.path.join(room, "kept")
+            if kept and not keep:
+                shutil.copytree(kept, own)
+            words = [*words, "--jobs", "1", *(["--incremental", own] if kept else [])]
+            how = {"cwd": os.path.join(room, "crate"), "stdin": subprocess.DEVNULL, "stdout": subprocess.PIPE}
+            ran = subprocess.run(words, **how, stderr=subprocess.STDOUT, text=True, errors="replace")
+        self.status, self.said = ran.returncode, ran.stdout.rstrip("\n")
+
+    def last(self):
+        return self.said.rpartition("\n")[2]
+
+    def is_refused(self):
+        return self.status == 1 and self.last().startswith("logic=not-proved")
+
+    def is_proved(self):
+        return self.status == 0 and self.last().startswith("logic=proved ")
+
+    def is_unread(self, files):
+        """Whether the prover could not read an edited text, so that no contract was tried."""
+        for file, name, said in ERROR.findall(self.said):
+            ours = file in files or file.startswith(("src/", "specs/"))
+            if ours and (not name or UNREAD.search(re.sub(r"`[^`]*`", "", said))):
+                return True
+        return False
+
+    def refused(self):
+        """What has a goal of its own that is not proved: the kind of each item, its path, without the crate, and
+        the answers that it shares with a cycle of calls, or else this path."""
+        wrong = [it[1] for it in ERROR.finditer(self.said) if not NAME_GONE.match(it[0])]
+        found = []
+        for kind, path, reasons in REFUSED.findall(self.said):
+            own, cycle = path.partition("::")[2], CYCLE.search(reasons)
+            proof = f"proofs/{own.replace('::', '/')}/"
+            is_wrong = kind == "fn" and any(it.startswith(proof) for it in wrong)
+            if is_wrong or not all(map(WAITS.search, reasons.split("; "))):
+                found.append((kind, own, cycle[1] if cycle else own))
+        return found
+
+    def why(self):
+        """The first line that says where it was refused, but for one on a name that the edit took away."""
+        told = [it[0] for it in AT.finditer(self.said) if ": error" in it[0] or it[0].startswith("note: ")]
+        return next((it for it in told if not NAME_GONE.match(it)), None)
+
+
+def is_of(function, path):
+    """Whether the path of a function, without its crate, is in this module and has this name."""
+    module, name = function
+    return path.startswith(f"{module}::" if module else "") and path.rpartition("::")[2] == name
+
+
+def refused_of(functions, checked):
+    """Which of these functions the check refuses; none of them where it refuses anything else.
+
+    A cycle of calls is refused whole, so of two of these functions in one cycle nothing is said.
+    """
+    owners, others = {}, []
+    for kind, path, cycle in checked.refused():
+        found = [it for it in functions if kind == "fn" and is_of(it, path)]
+        owners.setdefault(cycle, set()).update(found)
+        others += [cycle] * (not found)
+    if not all(owners.get(cycle) for cycle in others):
+        return []
+    return [next(iter(found)) for found in owners.values() if len(found) == 1]
+
+
+class Batch:
+    """Edits of functions of different names, and the crate's texts as all of them make them."""
+
+    def __init__(self, texts):
+        self.texts, self.edits, self.functions = texts, [], []
+
+    def takes(self, edit, function):
+        """Whether the edit can stand beside those of the batch; then it does."""
+        if len(self.edits) == BATCH or any(function[1] == it[1] for it in self.functions):
+            return False
+        try:
+            self.texts = edit.applied(self.texts)
+        except BadEdit:
+            return False
+        self.edits.append(edit)
+        self.functions.append(function)
+        return True
+
+
+def batches(edits, texts):
+    """The edits in batches, and those that are to be tried alone.
+
+    They are dealt out in turn, so that neighbours, which often call one another, are tried apart.
+    """
+    whole = [(it, it.function(texts)) for it in edits]
+    wide = sum(function is not None for _, function in whole)
+    made = [Batch(texts) for _ in range(-(-wide // BATCH))]
+    alone = []
+    for at, (edit, function) in enumerate(whole):
+        turn = [*made[at % max(len(made), 1):], *made[: at % max(len(made), 1)]]
+        if function is None or not any(it.takes(edit, function) for it in turn):
+            alone.append(edit)
+    return made, alone
+
+
+def tried_together(words, batch, kept):
+    """Which edits of the batch are refused, with what to say, and those of which the check shows nothing."""
+    checked = Checked(words, batch.texts, kept)
+    files = {file for edit in batch.edits for file, _, _ in edit.pairs}
+    refused = []
+    if checked.is_refused() and not checked.is_unread(files):
+        refused = refused_of(batch.functions, checked)
+    shown, rest = [], []
+    for edit, function in zip(batch.edits, batch.functions):
+        if function in refused:
+            said = f"refused, beside {len(batch.edits) - 1} others: {'::'.join(filter(None, function))}"
+            shown.append((edit, True, said))
+        else:
+            rest.append(edit)
+    return shown, rest
+
+
+def tried_alone(words, edit, texts, kept):
+    """The edit with whether the prover refuses it, and what to say."""
+    try:
+        edited = edit.applied(texts)
+    except BadEdit as why:
+        return edit, False, f"BAD EDIT: {why}"
+    for over in (kept, None):
+        checked = Checked(words, edited, over)
+        if checked.is_refused() and not checked.is_unread({file for file, _, _ in edit.pairs}):
+            why = checked.why()
+            gone = "only because a proof names what the edit took away, which says little of the contract"
+            return edit, True, f"refused, alone: {why[:160] if why else gone}"
+    if checked.is_proved():
+        return edit, False, "NOT REFUSED: the crate is proved with this edit"
+    return edit, False, f"BAD EDIT: it did not reach the prover: {checked.said[:300]}"
+
+
+class Crate:
+    """A crate's edits, what they are tried over, and what was found."""
+
+    def __init__(self, name, top, folder):
+        self.name, self.words, self.texts = name, words_over_rlibs(name, "check", top), texts_of(name)
+        self.kept, self.earlier = os.path.join(folder, name), os.path.join(folder_of(name, top), "out", "incremental")
+        self.edits = edits_of(name)
+
+    def is_proved(self):
+        """Proves the crate as it stands, over what an earlier check kept if one did, and keeps that work."""
+        if os.path.isdir(self.earlier):
+            shutil.copytree(self.earlier, self.kept)
+        os.makedirs(self.kept, exist_ok=True)
+        return Checked(self.words, self.texts, self.kept, keep=True).is_proved()
+
+    def tries(self):
+        """What is to be tried: functions that give the edits with what is said of each."""
+        together, alone = batches(self.edits, self.texts)
+        return [lambda it=it: self.batch(it) for it in together] + [lambda it=it: [self.alone(it)] for it in alone]
+
+    def batch(self, batch):
+        """Tries a batch, then once more those of its edits of which it shows nothing, and the rest of these alone."""
+        shown, rest = tried_together(self.words, batch, self.kept)
+        again, alone = batches(rest, self.texts) if 1 < len(rest) < len(batch.edits) else ([], rest)
+        for it in again:
+            more, left = tried_together(self.words, it, self.kept)
+            shown, alone = shown + more, alone + left
+        return shown + [self.alone(it) for it in alone]
+
+    def alone(self, edit):
+        return tried_alone(self.words, edit, self.texts, self.kept)
+
+
+def edits_of(crate):
+    folder = os.path.join(folder_of(crate), "must-fail")
+    names = sorted(os.listdir(folder)) if os.path.isdir(folder) else []
+    return [Edit(crate, os.path.join(folder, it)) for it in names if it.endswith(".edit")]
+
+
+def shown(tries):
+    """Prints what a try found of each of its edits, and gives how many passed and failed."""
+    found = tries()
+    for edit, well, said in found:
+        print(f"{edit.crate}/{edit.name}: {said}", flush=True)
+    passed = sum(well for _, well, _ in found)
+    return passed, len(found) - passed
+
+
+def asked(words):
+    """What the command line asks for."""
+    parser = argparse.ArgumentParser(description="Tries the must-fail edits: the prover has to refuse each.")
+    parser.add_argument("--over", default=TOP, help="the copy of the repository whose libraries are taken")
+    parser.add_argument("--lanes", type=int, default=len(os.sched_getaffinity(0)), help="how many checks run at once")
+    parser.add_argument("crates", nargs="*", help="the crates, else all")
+    return parser.parse_args(words)
+
+
+def main(words):
+    how = asked(words)
+    names, top = how.crates or dependencies(), os.path.abspath(how.over)
+    with tempfile.TemporaryDirectory(prefix="edits-kept-") as folder, ThreadPoolExecutor(how.lanes) as pool:
+        crates = [it for it in (Crate(name, top, folder) for name in names) if it.edits]
+        proved = list(pool.map(Crate.is_proved, crates))
+        for crate, well in zip(crates, proved):
+            if not well:
+                print(f"FAILED: {crate.name} is not proved as it stands, so none of its edits was tried")
+        tries = [it for crate, well in zip(crates, proved) if well for it in crate.tries()]
+        counts = list(pool.map(shown, tries))
+    passed = sum(it[0] for it in counts)
+    failed = sum(it[1] for it in counts) + proved.count(False)
+    print(f"edits: {passed} passed, {failed} failed", flush=True)
+    return 1 if failed else 0
+
+
+if __name__ == "__main__":
+    sys.exit(main(sys.argv[1:]))

@@ -1,0 +1,55 @@
+"""What the scripts share that call the prover: the crates, their libraries, and the toolchain's folder."""
+
+import os
+import subprocess
+
+TOP = os.path.dirname(os.path.dirname(os.path.abspath(__file__)))
+
+
+def kit():
+    """The toolchain's folder, where the page stands that `rt doc` names."""
+    page = subprocess.run(["rt", "doc"], stdout=subprocess.PIPE, text=True, check=True).stdout
+    return os.path.dirname(page.strip())
+
+
+def folder_of(crate, top=TOP):
+    return os.path.join(top, "crates", crate)
+
+
+def rlib_of(crate, top=TOP):
+    return os.path.join(folder_of(crate, top), "out", "rlib", f"{crate}.rlib")
+
+
+def heads():
+    """The lines of crates.txt, each a crate's words and the names of the crates that it stands on."""
+    with open(os.path.join(TOP, "crates.txt")) as file:
+        parts = [line.partition(":") for line in file]
+    return [(head.split(), names.split()) for head, colon, names in parts if colon]
+
+
+def dependencies():
+    """The crates that each crate names, by crates.txt."""
+    return {words[0]: names for words, names in heads()}
+
+
+def below(crate, names):
+    """All crates below a crate, each behind those that it stands on."""
+    found = []
+    for name in names[crate]:
+        found += [it for it in [*below(name, names), name] if it not in found]
+    return found
+
+
+def words_over_rlibs(crate, verb, top=TOP):
+    """A call of the prover for the crate, from its own folder, over the libraries that lie in the folders out/."""
+    own, names = kit(), dependencies()
+    root = "src/main.rt" if os.path.isfile(os.path.join(folder_of(crate), "src", "main.rt")) else "src/lib.rt"
+    words = [f"{own}/bin/rattle", verb, "--crate-name", crate, root, "--links", f"{crate}="]
+    words += ["--extern", f"std={own}/rlibs/std.rlib", "-L", f"dependency={own}/rlibs"]
+    for name in names[crate]:
+        words += ["--extern", f"{name}={rlib_of(name, top)}"]
+    for name in below(crate, names):
+        words += ["-L", f"dependency={os.path.dirname(rlib_of(name, top))}"]
+    if [crate, "staticlib"] in [words for words, _ in heads()]:
+        words += ["--crate-type", "staticlib"]
+    return [*words, "--antt-project", f"{own}/rattle/logic/antt-project.json", "--logic-built", f"{own}/logic_built"]
