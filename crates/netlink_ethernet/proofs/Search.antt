@@ -1,10 +1,12 @@
 -- The search in the numbers, and how many comparisons it takes.
-use Rattle.std.proofs.Common.{◌≡◌, ℕ, zero, suc, ◌+◌, ◌-◌, ◌*◌, ◌^◌, ◌<◌, ◌≤◌, List, length, slice_index, slice_get, Some, get_or, sym, ap, ◌∙◌, arith, inl, inr}
+use Rattle.std.proofs.Common.{◌≡◌, ℕ, zero, suc, ◌+◌, ◌-◌, ◌*◌, ◌^◌, ◌<◌, ◌≤◌, List, length, slice_index, slice_get, Some, get_or, sym, ap, ◌∙◌, arith, inl, inr, true, false, Ordering, Less, Equal, Greater}
 use Rattle.std.proofs.Math.Nat.{pow-succ'}
 use Rattle.std.proofs.lemmas.Bool.{cases_lt}
+use Rattle.std.proofs.lemmas.Cmp.{ranked}
 use Rattle.std.proofs.lemmas.List.{get_or-map, get_or_default}
 use Rattle.std.proofs.lemmas.Option.{get_or_from_slice_get}
 use Rattle.std.specs.List.Sorted.{IsStrictlyIncreasing}
+use Rattle.std.specs.Ordering.{is_eq, is_lt, nat_cmp}
 use Rattle.netlink_ethernet.specs.declared.protocol.EthernetProtocol.{EthernetProtocol}
 use Rattle.netlink_ethernet.specs.declared.protocol.EthernetProtocol.TheVariants.{Other}
 use Rattle.netlink_ethernet.specs.Table.{named, numbers, protocol_of}
@@ -73,6 +75,22 @@ protocol_of-found sought middle p row same found =
     ∙ ap protocol_of (sym same)
 
 -- ---- the comparisons
+
+-- what the tests of an answer of `cmp` say of two numbers
+pub less_from_is_lt : (x y : ℕ) (o : Ordering) → o ≡ nat_cmp x y → is_lt o ≡ true → x < y
+less_from_is_lt x y Less e t = ranked x y Less e
+less_from_is_lt x y Equal e t = grind arith
+less_from_is_lt x y Greater e t = grind arith
+
+pub equal_from_is_eq : (x y : ℕ) (o : Ordering) → o ≡ nat_cmp x y → is_eq o ≡ true → x ≡ y
+equal_from_is_eq x y Less e t = grind arith
+equal_from_is_eq x y Equal e t = ranked x y Equal e
+equal_from_is_eq x y Greater e t = grind arith
+
+pub greater_from_neither : (x y : ℕ) (o : Ordering) → o ≡ nat_cmp x y → is_eq o ≡ false → is_lt o ≡ false → y < x
+greater_from_neither x y Less e n l = grind arith
+greater_from_neither x y Equal e n l = grind arith
+greater_from_neither x y Greater e n l = ranked x y Greater e
 
 halved : (used size next : ℕ) → 0 < size → size < 2 ^ (7 - used) → 2 * next ≤ size → (used < 7) × (next < 2 ^ (7 - (used + 1)))
 halved used size next some within half = elim (cases_lt used 7) [

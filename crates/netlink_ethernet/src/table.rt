@@ -5,7 +5,6 @@ ghost use Rattle.netlink_ethernet.specs.Table.{named, protocol_of};
 
 use crate::comparisons::{Comparisons, ROWS};
 use crate::protocol::EthernetProtocol;
-use std::cmp::Ordering;
 
 const PROTOCOLS: [EthernetProtocol; ROWS] = [
     EthernetProtocol::E802_3,
@@ -148,10 +147,14 @@ pub fn look_up(sought: u16, comparisons: &mut Comparisons) -> EthernetProtocol
     let mut high = ROWS;
     while low < high {
         let middle = middle_of(low, high);
-        match comparisons.compare(sought, middle) {
-            Ordering::Less => high = middle,
-            Ordering::Equal => return protocol_at(middle),
-            Ordering::Greater => low = middle + 1,
+        let order = comparisons.compare(sought, middle);
+        if order.is_eq() {
+            return protocol_at(middle);
+        }
+        if order.is_lt() {
+            high = middle;
+        } else {
+            low = middle + 1;
         }
     }
     EthernetProtocol::Other(sought)
