@@ -71,9 +71,7 @@ fn part<const N: usize>(bytes: &[u8], at: usize) -> [u8; N]
     requires { at + N ≤ length bytes.now }
     ensures { result ≡ slice_range bytes.now at (at + N) }
 {
-    let mut part = [0; N];
-    part.copy_from_slice(&bytes[at..at + N]);
-    part
+    *bytes[at..at + N].first_chunk().unwrap()
 }
 
 /// Writes the text over the bytes from a place on.
