@@ -93,19 +93,16 @@ fn append_padded(block: &mut Vec<u8>, text: &[u8]) -> Result<(), AllocError>
     append_zeros(block, nla_align(text.len()) - text.len())
 }
 
-/// Adds fewer than 4 zeros, each number of them by a copy of a fixed size.
+/// Adds so many zeros.
 #[inline(always)]
 fn append_zeros(block: &mut Vec<u8>, count: usize) -> Result<(), AllocError>
-    requires { count < 4 }
     ensures ok { OnOk result (block.new.items ≡ block.old.items ++ replicate count 0) }
     ensures room { vec_len block.old + count ≤ vec_capacity block.old → IsOk result }
 {
-    match count {
-        0 => Ok(()),
-        1 => block.extend_from_slice(&[0]),
-        2 => block.extend_from_slice(&[0, 0]),
-        _ => block.extend_from_slice(&[0, 0, 0]),
+    for _ in 0..count {
+        block.push(0)?;
     }
+    Ok(())
 }
 
 /// Adds an attribute to a block, its kind as it is, with its padding of zeros.
@@ -113,6 +110,7 @@ fn append_zeros(block: &mut Vec<u8>, count: usize) -> Result<(), AllocError>
 /// The value has at most 65531 bytes. Where the block has room for the attribute with its padding
 /// the answer is Ok; otherwise its own allocator is asked, and where that refuses the answer is
 /// `OutOfMemory`, and the block is as it was.
+#[inline]
 #[tactic(auto, using(crate::specs::Sizes::written_sizes))]
 pub fn append_nla(
     _alloc: Global,
