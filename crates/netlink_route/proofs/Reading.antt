@@ -125,7 +125,7 @@ values_fit kind_of value_of (a ∷ list) fit =
     and_from _ _ (le-leb _ _ (All-head (λ nla. length (value_of nla) ≤ 65531) a list fit))
     (values_fit kind_of value_of list (All-tail (λ nla. length (value_of nla) ≤ 65531) a list fit))
 
-all_fit : {T : Type 0} (kind_of : T → ℕ) (value_of : T → List ℕ) (list : List T)
+pub all_fit : {T : Type 0} (kind_of : T → ℕ) (value_of : T → List ℕ) (list : List T)
     → list_all value_fits (attributes_of kind_of value_of list) ≡ true → AllFit value_of list
 all_fit kind_of value_of [] fit = All-nil (λ nla. length (value_of nla) ≤ 65531)
 all_fit kind_of value_of (a ∷ list) fit =

@@ -1,5 +1,5 @@
 -- The values that attributes hold: what each is written as, and why a value is none of its shape.
-use Rattle.std.specs.Prelude.{ℕ, ◌≡◌, ◌⊎◌, List, [], ◌∷◌, ◌++◌, length, string_bytes}
+use Rattle.std.specs.Prelude.{ℕ, ◌≡◌, List, [], ◌∷◌, ◌++◌, length, string_bytes}
 use Rattle.netlink_packet_core.specs.Numbers.{bytes_le}
 use Rattle.netlink_route.specs.Value.{Shape, four_bytes, one_byte, zero_text, ip_bytes, any_bytes, info_block}
 use Rattle.netlink_route.specs.declared.error.RouteError.{RouteError}
@@ -22,12 +22,11 @@ value_shape (held.Text text) = zero_text
 value_shape (held.Ip ip) = ip_bytes
 value_shape (held.Bytes bytes) = any_bytes
 
--- why a value is none of its shape, or could not be copied
+-- why a value is none of its shape; of bytes each is one, and what a nest holds is read elsewhere
 abbrev pub IsValueFault : Shape → ℕ → List ℕ → RouteError → Type 0
 IsValueFault four_bytes kind value e = e ≡ error.Size kind 4 (length value)
 IsValueFault one_byte kind value e = e ≡ error.Size kind 1 (length value)
-IsValueFault zero_text kind value e = (e ≡ error.Text kind) ⊎ (e ≡ error.OutOfMemory)
-IsValueFault ip_bytes kind value e =
-    (e ≡ error.Address kind (length value)) ⊎ (e ≡ error.OutOfMemory)
-IsValueFault any_bytes kind value e = e ≡ error.OutOfMemory
+IsValueFault zero_text kind value e = e ≡ error.Text kind
+IsValueFault ip_bytes kind value e = e ≡ error.Address kind (length value)
+IsValueFault any_bytes kind value e = ⊥
 IsValueFault info_block kind value e = ⊥

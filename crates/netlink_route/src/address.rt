@@ -6,6 +6,7 @@ ghost use Rattle.netlink_packet_core.specs.Nla.{attribute_with};
 ghost use Rattle.netlink_route.specs.Held.{value_shape, value_bytes};
 ghost use Rattle.netlink_route.specs.Address.{address_attribute, address_kind, address_value};
 ghost use Rattle.netlink_route.specs.AddressTable.{address_row, address_values};
+ghost use Rattle.netlink_route.specs.KindFaults.{address_faults};
 ghost use Rattle.netlink_route.specs.Typed.{attribute_eq};
 ghost use Rattle.netlink_route.specs.TypedLaws.{attribute_equiv};
 ghost use Rattle.netlink_route.specs.Value.{is_none, shape_or};
@@ -103,6 +104,8 @@ impl Nla for AddressAttribute {
 
 impl RouteNla for AddressAttribute {
     ghost reading = { address_values };
+
+    ghost faults = { address_faults };
 
     fn read(alloc: Global, kind: u16, value: &[u8]) -> Result<Self, RouteError> {
         match kind {

@@ -4,6 +4,8 @@ ghost use Rattle.std.specs.Prelude.{◌≡◌, ◌↔◌, false, length, ℕ, If
 ghost use Rattle.netlink_route.specs.AddressHeader.{address_header_fits, address_verb_type, is_address_type};
 ghost use Rattle.netlink_route.specs.Error.{wants_memory};
 ghost use Rattle.netlink_route.specs.Family.{family_reading};
+ghost use Rattle.netlink_route.specs.Faults.{IsFamilyFault};
+ghost use Rattle.netlink_route.specs.KindFaults.{address_faults};
 ghost use Rattle.netlink_route.specs.Message.{address_bytes, addresses};
 
 use crate::address_header::{
@@ -68,6 +70,9 @@ impl AddressMessage {
             (λ m. (t : ℕ) → family_reading addresses t payload.now ≡ Some (t, address_bytes m)) }
         ensures refuses { IfErr result
             (λ e. wants_memory e ≡ false → (t : ℕ) → family_reading addresses t payload.now ≡ None) }
+        ensures fault { IfErr result
+            (λ e. wants_memory e ≡ false
+            → IsFamilyFault addresses address_faults payload.now e) }
     {
         if payload.len() < ADDRESS_HEADER_LEN {
             return Err(RouteError::HeaderShort {

@@ -5,6 +5,7 @@ ghost use Rattle.std.specs.Prelude.{◌≡◌, ◌↔◌, IfSome, IsSome, IsTrue
 ghost use Rattle.netlink_packet_core.specs.Nla.{attribute_with};
 ghost use Rattle.netlink_route.specs.Held.{value_shape, value_bytes};
 ghost use Rattle.netlink_route.specs.Info.{info_attribute, info_kind, info_value};
+ghost use Rattle.netlink_route.specs.KindFaults.{info_faults};
 ghost use Rattle.netlink_route.specs.InfoTable.{info_row, info_values};
 ghost use Rattle.netlink_route.specs.Typed.{attribute_eq};
 ghost use Rattle.netlink_route.specs.TypedLaws.{attribute_equiv};
@@ -93,6 +94,8 @@ impl Nla for InfoAttribute {
 
 impl RouteNla for InfoAttribute {
     ghost reading = { info_values };
+
+    ghost faults = { info_faults };
 
     fn read(alloc: Global, kind: u16, value: &[u8]) -> Result<Self, RouteError> {
         match kind {

@@ -3,6 +3,7 @@
 ghost use Rattle.std.specs.Cmp.{on_equiv, on_per, partial_equiv_from_equiv};
 ghost use Rattle.std.specs.Prelude.{◌≡◌, ◌↔◌, IfSome, IsSome, IsTrue};
 ghost use Rattle.netlink_packet_core.specs.Nla.{attribute_with};
+ghost use Rattle.netlink_route.specs.KindFaults.{link_faults};
 ghost use Rattle.netlink_route.specs.LinkHeld.{held_shape, held_text};
 ghost use Rattle.netlink_route.specs.Link.{kind_of, link_attribute, link_values, value_of};
 ghost use Rattle.netlink_route.specs.LinkTable.{link_row};
@@ -183,6 +184,8 @@ impl Nla for LinkAttribute {
 
 impl RouteNla for LinkAttribute {
     ghost reading = { link_values };
+
+    ghost faults = { link_faults };
 
     fn read(alloc: Global, kind: u16, value: &[u8]) -> Result<Self, RouteError> {
         match kind {

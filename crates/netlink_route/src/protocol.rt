@@ -3,7 +3,10 @@
 ghost use Rattle.std.specs.Prelude.{◌≡◌, ◌↔◌, false, length, ℕ, IfErr, IfOk, IfSome, IsSome, IsTrue, None, Some, refl};
 ghost use Rattle.netlink_route.specs.Error.{wants_memory};
 ghost use Rattle.netlink_route.specs.Family.{family_reading};
+ghost use Rattle.netlink_route.specs.Faults.{IsFamilyFault};
+ghost use Rattle.netlink_route.specs.KindFaults.{link_faults};
 ghost use Rattle.netlink_route.specs.LinkHeader.{header_fits, is_link_type, verb_type};
+ghost use Rattle.netlink_route.specs.MessageFaults.{IsRouteFault};
 ghost use Rattle.netlink_route.specs.MessageLaws.{equal_pairs, reading_is_lawful, value_is_lawful};
 ghost use Rattle.netlink_route.specs.Message.{link_bytes, links, route_decoding, route_encoding};
 
@@ -74,6 +77,8 @@ impl LinkMessage {
             (λ m. (t : ℕ) → family_reading links t payload.now ≡ Some (t, link_bytes m)) }
         ensures refuses { IfErr result
             (λ e. wants_memory e ≡ false → (t : ℕ) → family_reading links t payload.now ≡ None) }
+        ensures fault { IfErr result
+            (λ e. wants_memory e ≡ false → IsFamilyFault links link_faults payload.now e) }
     {
         if payload.len() < LINK_HEADER_LEN {
             return Err(RouteError::HeaderShort {
@@ -125,11 +130,26 @@ impl NetlinkDeserializable for RouteMessage {
 
     ghost wants_memory = { wants_memory };
 
+    /// Refuses a message type of neither family as `UnknownType`; a payload shorter than the
+    /// family's header as `HeaderShort`; a link's header whose second byte is not zero as
+    /// `PaddingNotZero`; and what stands behind the header by its first fault, as `read_block`
+    /// does.
     fn deserialize(
         alloc: Global,
         header: &NetlinkHeader,
         payload: &[u8],
-    ) -> Result<Self, RouteError> {
+    ) -> Result<Self, RouteError>
+        ensures in_range { IfOk result (λ m. IsTrue (route_decoding.in_range m)) }
+        ensures reads { IfOk result
+            (λ m. route_decoding.reading header.now payload.now
+            ≡ Some (route_decoding.stands_for m)) }
+        ensures refuses { IfErr result
+            (λ e. wants_memory e ≡ false → route_decoding.reading header.now payload.now ≡ None) }
+        // Each error has its reason.
+        ensures fault { IfErr result
+            (λ e. wants_memory e ≡ false
+            → IsRouteFault header.now.message_type payload.now e) }
+    {
         if let Some(verb) = LinkVerb::of_type(header.message_type) {
             return Ok(RouteMessage::Link(verb, LinkMessage::read(alloc, payload)?));
         }

@@ -3,6 +3,7 @@
 ghost use Rattle.std.specs.Prelude.{◌≡◌, ◌≤◌, false, length, None, Some, IfErr, IfOk};
 ghost use Rattle.netlink_packet_core.specs.Nla.{attributes_of};
 ghost use Rattle.netlink_route.specs.Error.{wants_memory};
+ghost use Rattle.netlink_route.specs.Faults.{IsBlockFault, IsListFault, ValueFault};
 ghost use Rattle.netlink_route.specs.Typed.{block_reading, spelled_in, ValueReading};
 
 use crate::error::RouteError;
@@ -15,13 +16,17 @@ pub trait RouteNla: Nla + Sized + Drop {
     /// What a kind and a value are written as where they are read.
     ghost reading: { ValueReading };
 
+    /// Which error a value is refused with that is none of its kind.
+    ghost faults: { ValueFault };
+
     /// The attribute of this kind, its flag bits among it, and this value, which has at most 65531
     /// bytes. A value that is none of its kind is refused.
     fn read(alloc: Global, kind: u16, value: &[u8]) -> Result<Self, RouteError>
         requires fits { length value.now ≤ 65531 }
         ensures kind { IfOk result (λ a. Self.kind_of a ≡ kind) }
         ensures value { IfOk result (λ a. reading kind value.now ≡ Some (Self.value_of a)) }
-        ensures refuses { IfErr result (λ e. wants_memory e ≡ false → reading kind value.now ≡ None) };
+        ensures refuses { IfErr result (λ e. wants_memory e ≡ false → reading kind value.now ≡ None) }
+        ensures fault { IfErr result (λ e. wants_memory e ≡ false → faults kind value.now e) };
 }
 
 /// The attributes of a block, as they fit a message.
@@ -35,6 +40,9 @@ pub fn read_block<T: RouteNla>(alloc: Global, bytes: &[u8]) -> Result<NlaBlock<T
         ≡ Some (attributes_of T.kind_of T.value_of block.list.items)) }
     ensures refuses { IfErr result
         (λ e. wants_memory e ≡ false → block_reading T.reading bytes.now ≡ None) }
+    // Each error has its reason, the first in the block's order.
+    ensures fault { IfErr result
+        (λ e. wants_memory e ≡ false → IsBlockFault T.reading T.faults bytes.now e) }
 {
     let list = read_list(alloc, bytes)?;
     match NlaBlock::new(list) {
@@ -50,6 +58,8 @@ fn read_list<T: RouteNla>(alloc: Global, bytes: &[u8]) -> Result<Vec<T>, RouteEr
         ≡ Some (attributes_of T.kind_of T.value_of list.items)) }
     ensures refuses { IfErr result
         (λ e. wants_memory e ≡ false → spelled_in T.reading bytes.now ≡ None) }
+    ensures fault { IfErr result
+        (λ e. wants_memory e ≡ false → IsListFault T.reading T.faults bytes.now e) }
 {
     walk_total();
     let mut list = Vec::new(alloc);

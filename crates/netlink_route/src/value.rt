@@ -133,7 +133,8 @@ pub(crate) fn read_text(alloc: Global, kind: u16, value: &[u8]) -> Result<Text, 
     ensures ok { IfOk result
         (λ text. read_as zero_text value.now ≡ Some (string_bytes text.text ++ (0 ∷ []))) }
     ensures err { IfErr result (λ e. wants_memory e ≡ false → read_as zero_text value.now ≡ None) }
-    ensures fault { IfErr result (IsValueFault zero_text kind value.now) }
+    ensures fault { IfErr result
+        (λ e. wants_memory e ≡ false → IsValueFault zero_text kind value.now e) }
 {
     if !is_zero_ended(value) {
         return Err(RouteError::Text { kind });
@@ -153,7 +154,8 @@ pub(crate) fn read_text(alloc: Global, kind: u16, value: &[u8]) -> Result<Text, 
 pub(crate) fn read_ip(alloc: Global, kind: u16, value: &[u8]) -> Result<IpBytes, RouteError>
     ensures ok { IfOk result (λ ip. read_as ip_bytes value.now ≡ Some ip.bytes.items) }
     ensures err { IfErr result (λ e. wants_memory e ≡ false → read_as ip_bytes value.now ≡ None) }
-    ensures fault { IfErr result (IsValueFault ip_bytes kind value.now) }
+    ensures fault { IfErr result
+        (λ e. wants_memory e ≡ false → IsValueFault ip_bytes kind value.now e) }
 {
     if value.len() != 4 && value.len() != 16 {
         return Err(RouteError::Address {

@@ -5,6 +5,7 @@ use Rattle.netlink_packet_core.specs.Progress.{passes_push}
 use Rattle.netlink_packet_core.specs.Steps.{unread}
 use Rattle.netlink_packet_core.specs.Views.{attribute_of}
 use Rattle.netlink_route.proofs.Reading.{none_read, read_at, read_ends, read_faults, read_push, read_refuses}
+use Rattle.netlink_route.proofs.Refusing.{stops_at_value, stops_damaged}
 use Rattle.netlink_route.proofs.typed.read_list.Goals as goal
 
 pub loop-item-init : goal.loop-item-init
@@ -46,3 +47,21 @@ pub returns-clause-reads : goal.returns-clause-reads
 returns-clause-reads g c =
     read_ends g.T.RouteNla.reading c.args.bytes.now c.loop-item.invariant.0 _ _ c.loop-item.invariant.1 c.in-None.ensures.steps.0
     c.loop-item.invariant.2
+
+pub returns-in_err-attribute-in-Ok-clause-fault : goal.returns-in_err-attribute-in-Ok-clause-fault
+returns-in_err-attribute-in-Ok-clause-fault g c =
+    let fault = err_from_is_err_and c.from_residual.result c.from_residual.ensures.1 in
+    let step = rw c.in-Ok.is at c.in-Some.ensures.steps in
+    let done = c.loop-item.invariant in
+    let a : Attribute = attribute_of (unread c.loop-item.item-iterator) in
+    let kind : c.raw_kind.result ≡ a.kind = c.raw_kind.ensures.number ∙ ap (λ (b : List ℕ). (attribute_of b).kind) step.0 in
+    let value : c.value.result.now ≡ a.value = c.value.ensures.bytes ∙ ap (λ (b : List ℕ). (attribute_of b).value) step.0 in
+    rw (fault.1, fault.2) (λ never. stops_at_value g.T.RouteNla.reading g.T.RouteNla.faults c.args.bytes.now done.0 _ _ a _ c.raw_kind.result
+    c.value.result.now _ done.1 done.2 step.2 kind value (c.in_err-attribute-in-Ok.ensures.refuses never)
+    (c.in_err-attribute-in-Ok.ensures.fault never))
+
+pub returns-in-Err-clause-fault : goal.returns-in-Err-clause-fault
+returns-in-Err-clause-fault g c =
+    let step = rw c.in-Err.is at c.in-Some.ensures.steps in
+    let done = c.loop-item.invariant in
+    λ _. stops_damaged g.T.RouteNla.reading g.T.RouteNla.faults c.args.bytes.now done.0 _ _ _ done.1 done.2 step.0 step.1
