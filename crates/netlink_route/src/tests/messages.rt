@@ -68,7 +68,7 @@ fn a_link_is_read_and_written(rt: HostRuntime) -> Result<(), Fail> {
 
 /// The address 192.0.2.1/24 of link 4 as the kernel sends it: `IFA_ADDRESS`, `IFA_LABEL`,
 /// `IFA_FLAGS` and `IFA_CACHEINFO`.
-const ADDRESS: [u8; 72] = [
+pub const ADDRESS: [u8; 72] = [
     72, 0, 0, 0, 20, 0, 2, 0, 1, 0, 0, 0, 0, 0, 0, 0, // length 72, RTM_NEWADDR
     2, 24, 0x80, 0, 4, 0, 0, 0, // AF_INET, prefix 24, IFA_F_PERMANENT, scope 0, index 4
     8, 0, 1, 0, 192, 0, 2, 1, // IFA_ADDRESS
