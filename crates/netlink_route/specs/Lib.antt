@@ -4,6 +4,7 @@ pub mod AddressLaws
 pub mod AddressTable
 pub mod Error
 pub mod Family
+pub mod FaultLaws
 pub mod Faults
 pub mod Held
 pub mod Info

@@ -8,6 +8,7 @@ mod error;
 mod held;
 mod info;
 mod ip;
+pub mod laws;
 mod link;
 mod link_header;
 mod message;
