@@ -24,7 +24,7 @@ use Rattle.netlink_route.specs.LinkTable.{link_row}
 use Rattle.netlink_route.specs.Message.{addresses, links, route_reading}
 use Rattle.netlink_route.specs.MessageFaults.{IsRouteFault}
 use Rattle.netlink_route.specs.Typed.{ValueReading, all_spelled, block_reading, keep_fit, spell, spelled, spelled_in, with_first}
-use Rattle.netlink_route.specs.Value.{Shape, four_bytes, one_byte, zero_text, ip_bytes, any_bytes, info_block, shape_or}
+use Rattle.netlink_route.specs.Value.{Shape, four_bytes, one_byte, zero_text, ip_bytes, four_numbers, any_bytes, info_block, shape_or}
 use Rattle.netlink_route.specs.AddressTable.{address_row}
 use Rattle.netlink_route.specs.declared.error.RouteError.{RouteError}
 use Rattle.netlink_route.specs.declared.error.RouteError.TheVariants.{Attributes}
@@ -65,8 +65,8 @@ list_refused reading faults bytes e each fault = elim fault.first [
       ap (spell reading) (attributes_in-fault bytes fault.done damaged.0
       (passes_faults bytes fault.done fault.rest damaged.0 fault.passed damaged.1 damaged.2))
   | inr wrong ↦
-      at_value reading bytes fault.done fault.rest wrong.0 wrong.1 (has_walk bytes each) fault.passed
-      wrong.2 wrong.3
+      at_value reading bytes fault.done fault.rest wrong.0 wrong.1 (has_walk bytes each)
+      fault.passed wrong.2 wrong.3
 ]
 
 pub block_refused : (reading : ValueReading) (faults : ValueFault) (bytes : List ℕ)
@@ -202,6 +202,7 @@ by_shape four_bytes kind value e f p q = p ∙ sym q
 by_shape one_byte kind value e f p q = p ∙ sym q
 by_shape zero_text kind value e f p q = p ∙ sym q
 by_shape ip_bytes kind value e f p q = p ∙ sym q
+by_shape four_numbers kind value e f p q = p ∙ sym q
 by_shape any_bytes kind value e f p q = absurd p
 by_shape info_block kind value e f p q = absurd p
 
@@ -219,6 +220,7 @@ by_nest four_bytes kind value e f each p q = by_shape four_bytes kind value e f 
 by_nest one_byte kind value e f each p q = by_shape one_byte kind value e f p q
 by_nest zero_text kind value e f each p q = by_shape zero_text kind value e f p q
 by_nest ip_bytes kind value e f each p q = by_shape ip_bytes kind value e f p q
+by_nest four_numbers kind value e f each p q = by_shape four_numbers kind value e f p q
 by_nest any_bytes kind value e f each p q = by_shape any_bytes kind value e f p q
 
 link_once : AreOnce link_faults

@@ -38,8 +38,8 @@ IsBlockFault reading faults bytes e =
     ⊎ ((all : List Attribute) × (spelled_in reading bytes ≡ Some all) × (block_fits all ≡ false)
     × (e ≡ TooLong))
 
--- the payload is shorter than the header of its family, or the header is none, or what stands behind
--- it is no block
+-- the payload is shorter than the header of its family, or the header is none, or what stands
+-- behind it is no block
 abbrev pub IsFamilyFault : Family → ValueFault → List ℕ → RouteError → Type 0
 IsFamilyFault family faults payload e =
     MatchBool (nat_le family.size (length payload))

@@ -5,7 +5,7 @@ use Rattle.netlink_route.specs.Faults.{IsBlockFault, ValueFault}
 use Rattle.netlink_route.specs.Held.{IsValueFault}
 use Rattle.netlink_route.specs.InfoTable.{info_row, info_values}
 use Rattle.netlink_route.specs.LinkTable.{link_row}
-use Rattle.netlink_route.specs.Value.{Shape, four_bytes, one_byte, zero_text, ip_bytes, any_bytes, info_block, shape_or}
+use Rattle.netlink_route.specs.Value.{Shape, four_bytes, one_byte, zero_text, ip_bytes, four_numbers, any_bytes, info_block, shape_or}
 use Rattle.netlink_route.specs.declared.error.RouteError.{RouteError}
 
 abbrev pub faults_by : (ℕ → Option Shape) → ValueFault
@@ -24,6 +24,7 @@ IsNestFault four_bytes kind value e = IsValueFault four_bytes kind value e
 IsNestFault one_byte kind value e = IsValueFault one_byte kind value e
 IsNestFault zero_text kind value e = IsValueFault zero_text kind value e
 IsNestFault ip_bytes kind value e = IsValueFault ip_bytes kind value e
+IsNestFault four_numbers kind value e = IsValueFault four_numbers kind value e
 IsNestFault any_bytes kind value e = IsValueFault any_bytes kind value e
 
 abbrev pub link_faults : ValueFault

@@ -2,6 +2,7 @@ pub mod Address
 pub mod AddressHeader
 pub mod AddressLaws
 pub mod AddressTable
+pub mod CacheInfo
 pub mod Error
 pub mod Family
 pub mod FaultLaws

@@ -7,7 +7,7 @@ use Rattle.netlink_packet_core.specs.Block.{canonical_block}
 use Rattle.netlink_route.specs.InfoTable.{info_row, info_values}
 use Rattle.netlink_route.specs.Typed.{KeepsValues, ValueReading, block_reading}
 use Rattle.netlink_route.specs.TypedLaws.{block_again, reading_spelled}
-use Rattle.netlink_route.specs.Value.{Shape, four_bytes, one_byte, zero_text, ip_bytes, any_bytes, info_block, keeps_by, read_again, read_as, shape_or}
+use Rattle.netlink_route.specs.Value.{Shape, four_bytes, one_byte, zero_text, ip_bytes, four_numbers, any_bytes, info_block, keeps_by, read_again, read_as, shape_or}
 
 -- the block of such attributes as it is written
 abbrev pub info_text : List ℕ → Option (List ℕ)
@@ -20,6 +20,7 @@ read_in four_bytes value = read_as four_bytes value
 read_in one_byte value = read_as one_byte value
 read_in zero_text value = read_as zero_text value
 read_in ip_bytes value = read_as ip_bytes value
+read_in four_numbers value = read_as four_numbers value
 read_in any_bytes value = read_as any_bytes value
 
 abbrev pub nested_by : (ℕ → Option Shape) → ValueReading
@@ -47,6 +48,7 @@ nested_again four_bytes value text gives = read_again four_bytes value text give
 nested_again one_byte value text gives = read_again one_byte value text gives
 nested_again zero_text value text gives = read_again zero_text value text gives
 nested_again ip_bytes value text gives = read_again ip_bytes value text gives
+nested_again four_numbers value text gives = read_again four_numbers value text gives
 nested_again any_bytes value text gives = read_again any_bytes value text gives
 
 pub keeps_nested : (row : ℕ → Option Shape) → KeepsValues (nested_by row)

@@ -10,13 +10,14 @@ use Rattle.netlink_packet_core.specs.NumberLaws.{length-bytes_le}
 use Rattle.netlink_packet_core.specs.Text.{without_last_zero}
 use Rattle.netlink_route.specs.Typed.{KeepsValues, ValueReading}
 
--- a number of 4 bytes, one byte, a text with a zero behind it, an IP address, any bytes, the
--- attributes of a nest
+-- a number of 4 bytes, one byte, a text with a zero behind it, an IP address, four numbers of 4
+-- bytes, any bytes, the attributes of a nest
 pub data Shape : Type 0 where
   four_bytes : Shape
   one_byte : Shape
   zero_text : Shape
   ip_bytes : Shape
+  four_numbers : Shape
   any_bytes : Shape
   info_block : Shape
 
@@ -44,6 +45,7 @@ read_as four_bytes value = keep (length value == 4) value
 read_as one_byte value = keep (length value == 1) value
 read_as zero_text value = keep (is_text value) value
 read_as ip_bytes value = keep (is_ip value) value
+read_as four_numbers value = keep (length value == 16) value
 read_as any_bytes value = Some value
 read_as info_block value = None
 
@@ -75,6 +77,7 @@ read_again four_bytes value text gives = kept_again (λ v. length v == 4) value 
 read_again one_byte value text gives = kept_again (λ v. length v == 1) value text gives
 read_again zero_text value text gives = kept_again is_text value text gives
 read_again ip_bytes value text gives = kept_again is_ip value text gives
+read_again four_numbers value text gives = kept_again (λ v. length v == 16) value text gives
 read_again any_bytes value text gives = refl
 read_again info_block value text gives = gives
 

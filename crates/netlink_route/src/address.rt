@@ -11,12 +11,13 @@ ghost use Rattle.netlink_route.specs.Typed.{attribute_eq};
 ghost use Rattle.netlink_route.specs.TypedLaws.{attribute_equiv};
 ghost use Rattle.netlink_route.specs.Value.{is_none, shape_or};
 
+use crate::cache_info::CacheInfo;
 use crate::error::RouteError;
 use crate::ip::IpBytes;
 use crate::other_address::OtherAddress;
 use crate::text::Text;
 use crate::typed::RouteNla;
-use crate::value::{Value, read_bytes, read_ip, read_number, read_text};
+use crate::value::{Value, read_bytes, read_cache_info, read_ip, read_number, read_text};
 use netlink_packet_core::Nla;
 use std::alloc::Global;
 
@@ -27,6 +28,8 @@ const IFA_LOCAL: u16 = 2;
 const IFA_LABEL: u16 = 3;
 
 const IFA_BROADCAST: u16 = 4;
+
+const IFA_CACHEINFO: u16 = 6;
 
 const IFA_FLAGS: u16 = 8;
 
@@ -42,6 +45,8 @@ pub enum AddressAttribute {
     Label(Text),
     /// The address for all (`IFA_BROADCAST`).
     Broadcast(IpBytes),
+    /// How long it lasts (`IFA_CACHEINFO`).
+    CacheInfo(CacheInfo),
     /// All the `IFA_F_*` bits (`IFA_FLAGS`).
     Flags(u32),
     /// Any other kind, and its value.
@@ -56,7 +61,7 @@ impl AddressAttribute {
             (λ a. address_attribute a ≡ attribute_with kind value.items) }
     {
         match kind {
-            IFA_ADDRESS | IFA_LOCAL | IFA_LABEL | IFA_BROADCAST | IFA_FLAGS => None,
+            IFA_ADDRESS | IFA_LOCAL | IFA_LABEL | IFA_BROADCAST | IFA_CACHEINFO | IFA_FLAGS => None,
             _ => Some(AddressAttribute::Other(OtherAddress { kind, value })),
         }
     }
@@ -71,6 +76,7 @@ impl AddressAttribute {
             | AddressAttribute::Local(ip)
             | AddressAttribute::Broadcast(ip) => Value::Ip(ip),
             AddressAttribute::Label(text) => Value::Text(text),
+            AddressAttribute::CacheInfo(info) => Value::Cache(info),
             AddressAttribute::Flags(number) => Value::Number(*number),
             AddressAttribute::Other(other) => Value::Bytes(&other.value),
         }
@@ -92,6 +98,7 @@ impl Nla for AddressAttribute {
             AddressAttribute::Local(_) => IFA_LOCAL,
             AddressAttribute::Label(_) => IFA_LABEL,
             AddressAttribute::Broadcast(_) => IFA_BROADCAST,
+            AddressAttribute::CacheInfo(_) => IFA_CACHEINFO,
             AddressAttribute::Flags(_) => IFA_FLAGS,
             AddressAttribute::Other(other) => other.kind,
         }
@@ -113,6 +120,7 @@ impl RouteNla for AddressAttribute {
             IFA_LOCAL => Ok(AddressAttribute::Local(read_ip(alloc, kind, value)?)),
             IFA_LABEL => Ok(AddressAttribute::Label(read_text(alloc, kind, value)?)),
             IFA_BROADCAST => Ok(AddressAttribute::Broadcast(read_ip(alloc, kind, value)?)),
+            IFA_CACHEINFO => Ok(AddressAttribute::CacheInfo(read_cache_info(kind, value)?)),
             IFA_FLAGS => Ok(AddressAttribute::Flags(read_number(kind, value)?)),
             _ => Ok(AddressAttribute::Other(OtherAddress {
                 kind,

@@ -4,6 +4,7 @@
 mod address;
 mod address_header;
 mod addresses;
+mod cache_info;
 mod error;
 mod held;
 mod info;
@@ -24,6 +25,7 @@ mod value;
 
 pub use crate::address::AddressAttribute;
 pub use crate::address_header::{AddressHeader, AddressVerb};
+pub use crate::cache_info::CacheInfo;
 pub use crate::error::RouteError;
 pub use crate::info::InfoAttribute;
 pub use crate::ip::IpBytes;

@@ -3,9 +3,13 @@
 ghost use Rattle.std.specs.Prelude.{◌≡◌, ◌+◌, ◌∷◌, ◌++◌, [], bytes_eq, false, None, Some, IfErr, IfOk, length, string_bytes};
 ghost use Rattle.netlink_packet_core.specs.Numbers.{bytes_le};
 ghost use Rattle.netlink_route.specs.Error.{wants_memory};
-ghost use Rattle.netlink_route.specs.Value.{any_bytes, four_bytes, ip_bytes, one_byte, read_as, zero_text};
+ghost use Rattle.netlink_route.specs.CacheInfo.{cache_bytes};
+ghost use Rattle.netlink_route.specs.Value.{any_bytes, four_bytes, four_numbers, ip_bytes, one_byte, read_as, zero_text};
 ghost use Rattle.netlink_route.specs.Held.{value_shape, value_bytes, IsValueFault};
 
+use crate::cache_info::{
+    CACHE_INFO_LEN, CacheInfo, cache_info_in, same_cache_info, write_cache_info,
+};
 use crate::error::RouteError;
 use crate::ip::IpBytes;
 use crate::text::{Text, is_zero_ended};
@@ -23,6 +27,8 @@ pub(crate) enum Value<'a> {
     Text(&'a Text),
     /// An IP address.
     Ip(&'a IpBytes),
+    /// How long an address lasts.
+    Cache(&'a CacheInfo),
     /// Bytes.
     Bytes(&'a [u8]),
 }
@@ -38,6 +44,7 @@ impl<'a> Value<'a> {
             Value::Byte(_) => 1,
             Value::Text(text) => text.text.len() + 1,
             Value::Ip(ip) => ip.bytes.len(),
+            Value::Cache(_) => CACHE_INFO_LEN,
             Value::Bytes(bytes) => bytes.len(),
         }
     }
@@ -58,6 +65,7 @@ impl<'a> Value<'a> {
                 zero.copy_from_slice(&[0]);
             }
             Value::Ip(ip) => buffer.copy_from_slice(&ip.bytes),
+            Value::Cache(info) => write_cache_info(info, buffer),
             Value::Bytes(bytes) => buffer.copy_from_slice(bytes),
         }
     }
@@ -72,6 +80,7 @@ impl<'a> Value<'a> {
             (Value::Byte(a), Value::Byte(b)) => a == b,
             (Value::Text(a), Value::Text(b)) => same_text(a, b),
             (Value::Ip(a), Value::Ip(b)) => a.bytes == b.bytes,
+            (Value::Cache(a), Value::Cache(b)) => same_cache_info(a, b),
             (Value::Bytes(a), Value::Bytes(b)) => a == b,
             _ => false,
         }
@@ -165,6 +174,22 @@ pub(crate) fn read_ip(alloc: Global, kind: u16, value: &[u8]) -> Result<IpBytes,
     }
     let bytes = copy_of(alloc, value)?;
     Ok(IpBytes { bytes })
+}
+
+/// How long an address lasts, in a value of 16 bytes.
+pub(crate) fn read_cache_info(kind: u16, value: &[u8]) -> Result<CacheInfo, RouteError>
+    ensures ok { IfOk result (λ info. read_as four_numbers value.now ≡ Some (cache_bytes info)) }
+    ensures err { IfErr result (λ _. read_as four_numbers value.now ≡ None) }
+    ensures fault { IfErr result (IsValueFault four_numbers kind value.now) }
+{
+    if value.len() != CACHE_INFO_LEN {
+        return Err(RouteError::Size {
+            kind,
+            expected: CACHE_INFO_LEN,
+            received: value.len(),
+        });
+    }
+    Ok(cache_info_in(value))
 }
 
 /// A copy of a value of any bytes. No bytes ask for no memory.

@@ -55,6 +55,13 @@ fn what_is_read_with_none(rt: HostRuntime) -> Result<(), Fail> {
         received: 1,
     };
     assert!(rt; wrong.err() == Some(size));
+    let lasting = read_block::<AddressAttribute>(alloc, &[5, 0, 6, 0, 1, 0, 0, 0]);
+    let lasting_size = RouteError::Size {
+        kind: 6,
+        expected: 16,
+        received: 1,
+    };
+    assert!(rt; lasting.err() == Some(lasting_size));
     let header = NetlinkHeader {
         message_type: 30,
         ..NetlinkHeader::default()

@@ -89,8 +89,12 @@ fn an_address_is_read_and_written(rt: HostRuntime) -> Result<(), Fail> {
                     AddressAttribute::Address(ip),
                     _,
                     AddressAttribute::Flags(0x80),
-                    _,
+                    AddressAttribute::CacheInfo(info),
                 ] => {
+                    assert_eq!(rt; info.preferred, 0xffff_ffff);
+                    assert_eq!(rt; info.valid, 0xffff_ffff);
+                    assert_eq!(rt; info.created, 0x0403_0201);
+                    assert_eq!(rt; info.updated, 0x0807_0605);
                     assert_eq!(rt; ip.bytes.as_slice(), [192, 0, 2, 1].as_slice());
                 }
                 _ => assert!(rt; false),

@@ -56,8 +56,8 @@ returns-in_err-attribute-in-Ok-clause-fault g c =
     let a : Attribute = attribute_of (unread c.loop-item.item-iterator) in
     let kind : c.raw_kind.result ≡ a.kind = c.raw_kind.ensures.number ∙ ap (λ (b : List ℕ). (attribute_of b).kind) step.0 in
     let value : c.value.result.now ≡ a.value = c.value.ensures.bytes ∙ ap (λ (b : List ℕ). (attribute_of b).value) step.0 in
-    rw (fault.1, fault.2) (λ never. stops_at_value g.T.RouteNla.reading g.T.RouteNla.faults c.args.bytes.now done.0 _ _ a _ c.raw_kind.result
-    c.value.result.now _ done.1 done.2 step.2 kind value (c.in_err-attribute-in-Ok.ensures.refuses never)
+    rw (fault.1, fault.2) (λ never. stops_at_value g.T.RouteNla.reading g.T.RouteNla.faults c.args.bytes.now done.0 _ _ a _
+    c.raw_kind.result c.value.result.now _ done.1 done.2 step.2 kind value (c.in_err-attribute-in-Ok.ensures.refuses never)
     (c.in_err-attribute-in-Ok.ensures.fault never))
 
 pub returns-in-Err-clause-fault : goal.returns-in-Err-clause-fault
