@@ -1,0 +1,10 @@
+pub mod Address
+pub mod Ending
+pub mod Find
+pub mod Flags
+pub mod Lines
+pub mod Link
+pub mod Messages
+pub mod Names
+pub mod Run
+pub mod Text

@@ -1,0 +1,63 @@
+-- The words of numbers that have a name, as `ip` writes them.
+use Rattle.std.specs.Prelude.{ℕ, ◌==◌, false, List, [], ◌++◌, codes, decimal, if◌then◌else◌}
+use Rattle.std.specs.Fmt.{digits}
+use Rattle.netlink_route.specs.declared.address_header.AddressVerb.{AddressVerb}
+use Rattle.netlink_route.specs.declared.address_header.AddressVerb.TheVariants as address
+use Rattle.netlink_route.specs.declared.link_header.LinkVerb.{LinkVerb}
+use Rattle.netlink_route.specs.declared.link_header.LinkVerb.TheVariants as link
+
+-- IF_OPER_* of linux/if.h
+abbrev pub state_text : ℕ → List ℕ
+state_text n =
+    if n == 0 then codes "UNKNOWN"
+    else if n == 1 then codes "NOTPRESENT"
+    else if n == 2 then codes "DOWN"
+    else if n == 3 then codes "LOWERLAYERDOWN"
+    else if n == 4 then codes "TESTING"
+    else if n == 5 then codes "DORMANT"
+    else if n == 6 then codes "UP"
+    else codes "0x" ++ digits 16 false n
+
+-- ARPHRD_* of linux/if_arp.h
+abbrev pub hardware_text : ℕ → List ℕ
+hardware_text n =
+    if n == 1 then codes "ether"
+    else if n == 32 then codes "infiniband"
+    else if n == 512 then codes "ppp"
+    else if n == 768 then codes "ipip"
+    else if n == 769 then codes "tunnel6"
+    else if n == 772 then codes "loopback"
+    else if n == 776 then codes "sit"
+    else if n == 778 then codes "gre"
+    else if n == 65534 then codes "none"
+    else codes "[" ++ (decimal n ++ codes "]")
+
+-- AF_* of linux/socket.h
+abbrev pub family_text : ℕ → List ℕ
+family_text n =
+    if n == 2 then codes "inet"
+    else if n == 10 then codes "inet6"
+    else codes "family " ++ decimal n
+
+-- RT_SCOPE_* of linux/rtnetlink.h
+abbrev pub scope_text : ℕ → List ℕ
+scope_text n =
+    if n == 0 then codes "global"
+    else if n == 200 then codes "site"
+    else if n == 253 then codes "link"
+    else if n == 254 then codes "host"
+    else if n == 255 then codes "nowhere"
+    else decimal n
+
+-- what is done with a link: nothing is said of one that is there, as in a dump
+abbrev pub link_verb_text : LinkVerb → List ℕ
+link_verb_text link.New = []
+link_verb_text link.Del = codes "Deleted "
+link_verb_text link.Get = codes "Get "
+link_verb_text link.Set = codes "Set "
+
+-- and with an address
+abbrev pub address_verb_text : AddressVerb → List ℕ
+address_verb_text address.New = []
+address_verb_text address.Del = codes "Deleted "
+address_verb_text address.Get = codes "Get "

@@ -1,0 +1,36 @@
+-- What a run did.
+use Rattle.std.specs.Prelude.{ℕ, List, ◌++◌, Option, None, Some, Result, Ok, Err, codes, decimal}
+use Rattle.std.specs.Io.KnownBytes.{Appends}
+use Rattle.netlink_packet_core.specs.Causes.{cause_text}
+use Rattle.netlink_links.specs.Messages.{Makes}
+use Rattle.netlink_links.specs.declared.messages.Refused.{Refused}
+use Rattle.netlink_links.specs.declared.run.Fault.{Fault}
+use Rattle.netlink_links.specs.declared.run.Fault.TheVariants as fault
+
+-- the writer took the lines of the input and nothing else, and this is the refusal
+abbrev pub Wrote : List ℕ → Option (List ℕ) → Option (List ℕ) → Option Refused → Type 0
+Wrote input old new refused =
+    (output : List ℕ) × Makes input output refused × Appends old new output
+
+-- what a run over the whole input did; want of memory, and a failed read or write, decide nothing
+-- here
+abbrev pub Answers : {A : Type 0} → List ℕ → Option (List ℕ) → Option (List ℕ) → Result A Fault
+    → Type 0
+Answers input old new (Ok done) = Wrote input old new None
+Answers input old new (Err (fault.Refused refused)) = Wrote input old new (Some refused)
+Answers input old new (Err other) = Unit {0}
+
+-- a fault before anything was written
+abbrev pub IsEarly : Fault → Type 0
+IsEarly fault.Read = Unit {0}
+IsEarly fault.OutOfMemory = Unit {0}
+IsEarly fault.Write = ⊥
+IsEarly (fault.Refused refused) = ⊥
+
+-- the text of a fault
+abbrev pub fault_text : Fault → List ℕ
+fault_text fault.Read = codes "read failed"
+fault_text fault.Write = codes "write failed"
+fault_text fault.OutOfMemory = codes "out of memory"
+fault_text (fault.Refused refused) =
+    codes "byte " ++ (decimal refused.at ++ (codes ": " ++ cause_text refused.cause))

@@ -1,0 +1,25 @@
+//! Reads datagrams of route netlink from standard input, and writes a line a message to standard
+//! output.
+#![tactic(auto)]
+
+mod address;
+mod ending;
+mod find;
+mod flags;
+mod line;
+mod link;
+mod messages;
+mod names;
+mod run;
+#[cfg(test)]
+mod tests;
+mod text;
+
+use crate::ending::{Ending, asked, ended};
+use std::{env, io};
+
+/// Ends with status 0; with 1 and the fault's text on standard error; or with 2 and the usage.
+fn main(rt: HostRuntime) -> Ending {
+    let is_asked = asked(env::args(&rt).ok());
+    ended(rt.alloc(), is_asked, &mut rt.reader(), &mut io::writer(&rt))
+}

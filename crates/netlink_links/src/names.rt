@@ -1,0 +1,69 @@
+//! The words of numbers that have a name.
+
+ghost use Rattle.std.specs.Prelude.{◌≡◌, IfOk, string_bytes};
+ghost use Rattle.netlink_links.specs.Names.{family_text, hardware_text, scope_text, state_text};
+
+use std::alloc::{AllocError, Global};
+
+/// The word of an operational state, an `IF_OPER_*` of linux/if.h; any other number in hexadecimal.
+pub(crate) fn state_text(alloc: Global, state: u8) -> Result<String, AllocError>
+    ensures { IfOk result (λ text. string_bytes text ≡ state_text state) }
+{
+    let name = match state {
+        0 => "UNKNOWN",
+        1 => "NOTPRESENT",
+        2 => "DOWN",
+        3 => "LOWERLAYERDOWN",
+        4 => "TESTING",
+        5 => "DORMANT",
+        6 => "UP",
+        _ => return format!(in alloc; "0x{state:x}"),
+    };
+    String::from_str(alloc, name)
+}
+
+/// The word of a kind of device, an `ARPHRD_*` of linux/if_arp.h; any other number in brackets.
+pub(crate) fn hardware_text(alloc: Global, layer_type: u16) -> Result<String, AllocError>
+    ensures { IfOk result (λ text. string_bytes text ≡ hardware_text layer_type) }
+{
+    let name = match layer_type {
+        1 => "ether",
+        32 => "infiniband",
+        512 => "ppp",
+        768 => "ipip",
+        769 => "tunnel6",
+        772 => "loopback",
+        776 => "sit",
+        778 => "gre",
+        65534 => "none",
+        _ => return format!(in alloc; "[{layer_type}]"),
+    };
+    String::from_str(alloc, name)
+}
+
+/// The word of an address family, an `AF_*` of linux/socket.h; any other number behind `family`.
+pub(crate) fn family_text(alloc: Global, family: u8) -> Result<String, AllocError>
+    ensures { IfOk result (λ text. string_bytes text ≡ family_text family) }
+{
+    let name = match family {
+        2 => "inet",
+        10 => "inet6",
+        _ => return format!(in alloc; "family {family}"),
+    };
+    String::from_str(alloc, name)
+}
+
+/// The word of a scope, an `RT_SCOPE_*` of linux/rtnetlink.h; any other number in decimal.
+pub(crate) fn scope_text(alloc: Global, scope: u8) -> Result<String, AllocError>
+    ensures { IfOk result (λ text. string_bytes text ≡ scope_text scope) }
+{
+    let name = match scope {
+        0 => "global",
+        200 => "site",
+        253 => "link",
+        254 => "host",
+        255 => "nowhere",
+        _ => return format!(in alloc; "{scope}"),
+    };
+    String::from_str(alloc, name)
+}

@@ -1,0 +1,93 @@
+//! A run of the program over a reader and a writer.
+
+ghost use Rattle.std.specs.Prelude.{◌≡◌, Some, IfOk, IfErr, IfSome};
+ghost use Rattle.std.specs.Io.KnownBytes.{Keeps};
+ghost use Rattle.netlink_links.specs.Run.{Answers, IsEarly, fault_text};
+
+use crate::messages::{Answer, Refused, answer_to};
+use std::alloc::Global;
+use std::io::{Read, Write};
+use std::{fmt, io};
+
+/// Why a run did not end well.
+#[derive(Debug, Drop, PartialEq, Eq)]
+pub enum Fault {
+    /// The reader failed, or did not end within its bound of calls.
+    Read,
+    /// The writer failed; how much it took is not said.
+    Write,
+    /// A request for memory was refused.
+    OutOfMemory,
+    /// The input was refused.
+    Refused(Refused),
+}
+
+impl fmt::Display for Fault {
+    ghost output = { λ fault. Some (fault_text fault) };
+
+    fn fmt<W: fmt::Write>(&self, f: &mut fmt::Formatter<W>) -> fmt::Result {
+        match self {
+            Fault::Read => f.write_str("read failed"),
+            Fault::Write => f.write_str("write failed"),
+            Fault::OutOfMemory => f.write_str("out of memory"),
+            Fault::Refused(Refused { at, cause }) => write!(f, "byte {at}: {cause}"),
+        }
+    }
+}
+
+/// The most calls of the reader in one run.
+const CALLS: u32 = 1_048_576;
+
+/// The most bytes of one call.
+const CHUNK: usize = 4096;
+
+/// Writes the lines of all messages that the reader gives, in one piece, and ends with the first
+/// refusal.
+///
+/// The reader's end has to come within 1048576 calls, each for at most 4096 bytes; an interrupted
+/// call counts, and is made again. `Read` and `OutOfMemory` have written nothing. A `Write` comes
+/// before a `Refused` that would have followed; empty output is not written.
+pub fn run<R: Read, W: Write>(alloc: Global, reader: &mut R, writer: &mut W) -> Result<(), Fault>
+    ensures nothing { IfErr result
+        (λ fault. IsEarly fault → Keeps (W.contents writer.old) (W.contents writer.new)) }
+    ensures answers { IfSome (R.remaining reader.old) (λ input.
+        Answers input (W.contents writer.old) (W.contents writer.new) result) }
+{
+    let input = read_all(alloc, reader)?;
+    let Answer { output, fault } = match answer_to(alloc, input.as_slice()) {
+        Ok(answer) => answer,
+        Err(_) => return Err(Fault::OutOfMemory),
+    };
+    if writer.write_all(output.as_bytes()).is_err() {
+        return Err(Fault::Write);
+    }
+    match fault {
+        None => Ok(()),
+        Some(refused) => Err(Fault::Refused(refused)),
+    }
+}
+
+/// All that the reader gives.
+fn read_all<R: Read>(alloc: Global, reader: &mut R) -> Result<Vec<u8>, Fault>
+    ensures ok { IfOk result (λ input. IfSome (R.remaining reader.old) (λ all. input.items ≡ all)) }
+    ensures err { IfErr result IsEarly }
+{
+    let mut input = Vec::new(alloc);
+    let mut chunk = [0u8; CHUNK];
+    for _ in 0..CALLS {
+        match reader.read(&mut chunk) {
+            Ok(0) => return Ok(input),
+            Ok(n) => {
+                if input.extend_from_slice(&chunk[..n]).is_err() {
+                    return Err(Fault::OutOfMemory);
+                }
+            }
+            Err(e) => {
+                if e.kind() != io::ErrorKind::Interrupted {
+                    return Err(Fault::Read);
+                }
+            }
+        }
+    }
+    Err(Fault::Read)
+}

@@ -1,0 +1,90 @@
+//! The arguments, the statuses and what stands on standard error.
+
+use crate::ending::{Ending, asked, ended};
+use crate::messages::Refused;
+use crate::run::Fault;
+use crate::tests::lines::ADDRESS;
+use netlink_packet_core::DecodeError;
+use std::alloc::{AllocError, Global};
+use std::env::Args;
+use std::fmt::Display;
+use std::io;
+use std::process::{ExitCode, Termination};
+use std::test::Fail;
+
+/// The arguments as they are handed to a program.
+fn args_of(alloc: Global, words: &[&str]) -> Result<Args, AllocError> {
+    let mut args = Vec::new(alloc);
+    for word in words {
+        args.push(String::from_str(alloc, word)?)?;
+    }
+    Ok(args.into_iter())
+}
+
+#[test]
+fn a_name_alone_asks(rt: HostRuntime) -> Result<(), Fail> {
+    let rows: [(&[&str], bool); 4] = [
+        (&["netlink_links"], true),
+        (&[], false),
+        (&["netlink_links", ""], false),
+        (&["netlink_links", "links", "more"], false),
+    ];
+    for (words, wanted) in rows.iter() {
+        assert!(rt; asked(Some(args_of(rt.alloc(), words)?)) == *wanted);
+    }
+    assert!(rt; !asked(None));
+    Ok(())
+}
+
+/// Drops what is said on standard error.
+#[derive(Drop)]
+struct Silent;
+
+impl Eprint for Silent {
+    fn eprint<D: Display + Drop>(&self, _value: D) -> io::Result<()> {
+        Ok(())
+    }
+
+    fn eprintln<D: Display + Drop>(&self, _value: D) -> io::Result<()> {
+        Ok(())
+    }
+}
+
+#[test]
+fn each_ending_has_its_status_and_its_text(rt: HostRuntime) -> Result<(), Fail> {
+    let refused = Fault::Refused(Refused {
+        at: 40,
+        cause: DecodeError::TooLong,
+    });
+    let rows = [
+        (Ending::Done, 0u8, ""),
+        (Ending::Failed(Fault::Read), 1, "read failed\n"),
+        (Ending::Failed(Fault::Write), 1, "write failed\n"),
+        (Ending::Failed(Fault::OutOfMemory), 1, "out of memory\n"),
+        (
+            Ending::Failed(refused),
+            1,
+            "byte 40: message does not fit a 32-bit length\n",
+        ),
+        (Ending::Usage, 2, "usage: netlink_links < FILE\n"),
+    ];
+    for (ending, status, text) in rows {
+        assert_eq!(rt; ending.status(), status);
+        assert_eq!(rt; ending.to_string(rt.alloc())?.as_str(), text);
+        assert!(rt; ending.report(&Silent) == ExitCode::from(status));
+    }
+    Ok(())
+}
+
+/// Without arguments the input is read to its end, and with some it is left.
+#[test]
+fn runs_end_with_their_status(rt: HostRuntime) {
+    for (is_asked, status, size) in [(true, 0, 73), (false, 2, 0)] {
+        let mut reader: &[u8] = &ADDRESS;
+        let mut output: Vec<u8> = Vec::new(rt.alloc());
+        let ending = ended(rt.alloc(), is_asked, &mut reader, &mut output);
+        assert_eq!(rt; ending.status(), status);
+        assert_eq!(rt; output.len(), size);
+        assert_eq!(rt; reader.is_empty(), is_asked);
+    }
+}

@@ -1,0 +1,155 @@
+#!/usr/bin/env python3
+"""Runs the built program `netlink_links`: what a kernel sent, each fault, and wrong arguments.
+
+The lines of the captured datagrams are made here, by struct and ipaddress of Python from the numbers
+of linux/if.h, if_link.h and if_addr.h. The texts of faults are those of docs/FORMAT.md.
+"""
+
+import ipaddress
+import os
+import struct
+
+from built import TOP, built, run, side_by_side, tally
+
+CAPTURED = ["links-0", "links-1", "links-2", "addresses-0", "addresses-1", "link-by-name-0"]
+CAPTURED += ["link-unknown-0", "link-mtu-0", "event-0", "event-1", "event-2"]
+
+FLAGS = [(0x8, "LOOPBACK"), (0x2, "BROADCAST"), (0x1000, "MULTICAST"), (0x1, "UP"), (0x10000, "LOWER_UP")]
+STATES = {0: "UNKNOWN", 2: "DOWN", 6: "UP"}
+DEVICES = {1: "ether", 772: "loopback"}
+FAMILIES = {2: "inet", 10: "inet6"}
+SCOPES = {0: "global", 253: "link", 254: "host"}
+
+USAGE = (2, b"", b"usage: netlink_links < FILE\n")
+LINE = b"7: a: <> link/[0]\n"
+
+
+def blocks(data, size):
+    """The pieces of a walk: their bytes by the length in front of each, padded to 4."""
+    at = 0
+    while at < len(data):
+        length = int.from_bytes(data[at : at + size], "little")
+        yield data[at : at + length]
+        at += (length + 3) & ~3
+
+
+def attributes(data):
+    return {int.from_bytes(it[2:4], "little"): it[4:] for it in blocks(data, 2)}
+
+
+def text(value):
+    return value[:-1].decode()
+
+
+def number(value):
+    return int.from_bytes(value, "little")
+
+
+def link_line(kind, body):
+    _, device, index, flags, _ = struct.unpack_from("<HHIII", body)
+    had = attributes(body[16:])
+    names = ",".join(name for bit, name in FLAGS if flags & bit)
+    below = f"@if{number(had[5])}" if 5 in had else ""
+    words = [f"{'Deleted ' if kind == 17 else ''}{index}: {text(had[3])}{below}: <{names}>"]
+    words.append(f"mtu {number(had[4])}")
+    words += [f"master if{number(had[10])}"] if 10 in had else []
+    words += [f"state {STATES[had[16][0]]}", f"link/{DEVICES[device]} {had[1].hex(':')}"]
+    words += [f"kind {text(attributes(had[18])[1])}"] if 18 in had else []
+    return " ".join(words)
+
+
+def address_line(body):
+    family, prefix, _, scope, index = struct.unpack_from("<BBBBI", body)
+    had = attributes(body[8:])
+    own = ipaddress.ip_address(had.get(2, had[1]))
+    line = f"{index}: {FAMILIES[family]} {own}/{prefix} scope {SCOPES[scope]}"
+    return line + (f" {text(had[3])}" if 3 in had else "")
+
+
+def line_of(frame):
+    kind, body = number(frame[4:6]), frame[16:]
+    if kind == 2:
+        code = int.from_bytes(body[:4], "little", signed=True)
+        return f"error {code}" if code else "ack"
+    return {3: lambda: "done", 20: lambda: address_line(body)}.get(kind, lambda: link_line(kind, body))()
+
+
+def lines_of(data):
+    return "".join(f"{line_of(frame)}\n" for frame in blocks(data, 4)).encode()
+
+
+def frame(kind, body, length=None):
+    return struct.pack("<IHHII", 16 + len(body) if length is None else length, kind, 0, 0, 0) + body
+
+
+def attribute(kind, value):
+    return struct.pack("<HH", 4 + len(value), kind) + value + bytes(-len(value) % 4)
+
+
+def link(*attributes, index=7):
+    return frame(16, struct.pack("<HHIII", 0, 0, index, 0, 0) + b"".join(attributes))
+
+
+NAMED = attribute(3, b"a\0")
+FRONT = "failed deserializing NetlinkMessage caused by invalid netlink buffer length caused by "
+FRONT += "invalid netlink buffer: "
+PARSE = "Failed to parse message with type "
+NO_TEXT = "is not a text with one zero byte at its end"
+LEAST = "netlink packets are at least 16 bytes"
+
+# Bytes that hold no message, and why.
+FAULTS = [
+    (b"\0", f"{FRONT}length is 1 but {LEAST}"),
+    (link(NAMED)[:39], f"{FRONT}length field says 40 the buffer is 39 bytes long"),
+    (frame(16, bytes(16), 15), f"{FRONT}length field says 15 but {LEAST}"),
+    (frame(24, bytes(12)), f"{PARSE}24: message type 24 is none of links and addresses"),
+    (frame(16, bytes(15)), f"{PARSE}16: the payload has 15 bytes, and its header 16"),
+    (frame(20, bytes(7)), f"{PARSE}20: the payload has 7 bytes, and its header 8"),
+    (frame(16, b"\0\1" + bytes(14)), f"{PARSE}16: the second byte of the header is not zero"),
+    (link(b"\5\0\3"), f"{PARSE}16: buffer has length 3, but an NLA header is 4 bytes"),
+    (link(b"\5\0\3\0"), f"{PARSE}16: buffer has length: 4, but the NLA is 5 bytes"),
+    (link(b"\3\0\3\0"), f"{PARSE}16: NLA has invalid length: 3 (should be at least 4 bytes)"),
+    *[(link(attribute(3, it)), f"{PARSE}16: attribute 3 {NO_TEXT}") for it in (b"a", b"a\0\0", b"\xff\0")],
+    *[
+        (link(attribute(4, bytes(n))), f"{PARSE}16: attribute 4 has a value of {n} bytes instead of 4")
+        for n in (0, 3, 5)
+    ],
+    (link(attribute(18, attribute(1, b"veth"))), f"{PARSE}16: attribute 1 {NO_TEXT}"),
+    (
+        frame(20, bytes(8) + attribute(2, bytes(5))),
+        f"{PARSE}20: attribute 2 has an address of 5 bytes instead of 4 or 16",
+    ),
+]
+
+
+def rows():
+    """A run: its name, its arguments, its input, and its status, output and error."""
+    folder = os.path.join(TOP, "examples", "captured")
+    datagrams = [open(os.path.join(folder, f"{name}.bin"), "rb").read() for name in CAPTURED]
+    for name, data in zip(CAPTURED, datagrams):
+        yield name, [], data, (0, lines_of(data), b"")
+    whole = b"".join(datagrams)
+    yield "all of them", [], whole, (0, lines_of(whole), b"")
+    yield "nothing", [], b"", (0, b"", b"")
+    for given, fault in FAULTS:
+        yield given.hex(), [], given, (1, b"", f"byte 0: {fault}\n".encode())
+        behind = link(NAMED) + given
+        yield behind.hex(), [], behind, (1, LINE, f"byte 40: {fault}\n".encode())
+    for words in (["links"], [""], ["-h"], ["a", "b"], [b"\xff"]):
+        yield f"arguments {words}", words, link(NAMED), USAGE
+
+
+def main():
+    program = built("netlink_links", "netlink_links")
+
+    def fault_of(row):
+        name, words, given, wanted = row
+        answer = run([program, *words], given)
+        return None if answer == wanted else f"{name}: answered {answer} and not {wanted}"
+
+    all_rows = list(rows())
+    faults = [it for it in side_by_side(fault_of, all_rows) if it]
+    tally("links", faults, len(all_rows) - len(faults))
+
+
+main()
