@@ -1,7 +1,7 @@
 #!/usr/bin/env python3
 """Runs the built program `netlink_links`: what a kernel sent, each fault, and wrong arguments.
 
-The lines of the captured datagrams are made here, by struct and ipaddress of Python from the numbers
+The lines of the captured datagrams are made here, by Python's struct and ipaddress from the numbers
 of linux/if.h, if_link.h and if_addr.h. The texts of faults are those of docs/FORMAT.md.
 """
 
@@ -14,7 +14,8 @@ from built import TOP, built, run, side_by_side, tally
 CAPTURED = ["links-0", "links-1", "links-2", "addresses-0", "addresses-1", "link-by-name-0"]
 CAPTURED += ["link-unknown-0", "link-mtu-0", "event-0", "event-1", "event-2"]
 
-FLAGS = [(0x8, "LOOPBACK"), (0x2, "BROADCAST"), (0x1000, "MULTICAST"), (0x1, "UP"), (0x10000, "LOWER_UP")]
+FLAGS = [(0x8, "LOOPBACK"), (0x2, "BROADCAST"), (0x1000, "MULTICAST"), (0x1, "UP")]
+FLAGS += [(0x10000, "LOWER_UP")]
 STATES = {0: "UNKNOWN", 2: "DOWN", 6: "UP"}
 DEVICES = {1: "ether", 772: "loopback"}
 FAMILIES = {2: "inet", 10: "inet6"}
@@ -71,7 +72,9 @@ def line_of(frame):
     if kind == 2:
         code = int.from_bytes(body[:4], "little", signed=True)
         return f"error {code}" if code else "ack"
-    return {3: lambda: "done", 20: lambda: address_line(body)}.get(kind, lambda: link_line(kind, body))()
+    if kind == 3:
+        return "done"
+    return address_line(body) if kind == 20 else link_line(kind, body)
 
 
 def lines_of(data):
@@ -95,6 +98,7 @@ FRONT = "failed deserializing NetlinkMessage caused by invalid netlink buffer le
 FRONT += "invalid netlink buffer: "
 PARSE = "Failed to parse message with type "
 NO_TEXT = "is not a text with one zero byte at its end"
+OF_SIZE = "has a value of {} bytes instead of 4"
 LEAST = "netlink packets are at least 16 bytes"
 
 # Bytes that hold no message, and why.
@@ -109,9 +113,12 @@ FAULTS = [
     (link(b"\5\0\3"), f"{PARSE}16: buffer has length 3, but an NLA header is 4 bytes"),
     (link(b"\5\0\3\0"), f"{PARSE}16: buffer has length: 4, but the NLA is 5 bytes"),
     (link(b"\3\0\3\0"), f"{PARSE}16: NLA has invalid length: 3 (should be at least 4 bytes)"),
-    *[(link(attribute(3, it)), f"{PARSE}16: attribute 3 {NO_TEXT}") for it in (b"a", b"a\0\0", b"\xff\0")],
     *[
-        (link(attribute(4, bytes(n))), f"{PARSE}16: attribute 4 has a value of {n} bytes instead of 4")
+        (link(attribute(3, it)), f"{PARSE}16: attribute 3 {NO_TEXT}")
+        for it in (b"", b"a", b"a\0\0", b"\xff\0")
+    ],
+    *[
+        (link(attribute(4, bytes(n))), f"{PARSE}16: attribute 4 {OF_SIZE.format(n)}")
         for n in (0, 3, 5)
     ],
     (link(attribute(18, attribute(1, b"veth"))), f"{PARSE}16: attribute 1 {NO_TEXT}"),

@@ -45,7 +45,8 @@ label_words _ = []
 
 abbrev pub address_front : AddressVerb → AddressMessage → List ℕ
 address_front verb m =
-    address_verb_text verb ++ (decimal m.header.index ++ (codes ": " ++ family_text m.header.family))
+    address_verb_text verb
+    ++ (decimal m.header.index ++ (codes ": " ++ family_text m.header.family))
 
 -- what is done; index, family; addresses and prefix, the address for all, scope, label
 unfoldable pub address_line : AddressVerb → AddressMessage → List ℕ

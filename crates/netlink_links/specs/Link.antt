@@ -67,7 +67,8 @@ link_front verb m =
     ++ (decimal m.header.index
     ++ (codes ": "
     ++ (link_name m.header.index (link_first 3 m)
-    ++ (below_words (link_first 5 m) ++ (codes ": <" ++ (flags_text m.header.flags ++ codes ">"))))))
+    ++ (below_words (link_first 5 m)
+    ++ (codes ": <" ++ (flags_text m.header.flags ++ codes ">"))))))
 
 -- what is done; index, name, the link below, flags; MTU, master, state; device; kind, in a nest
 -- without its bit or with it

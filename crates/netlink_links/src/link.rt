@@ -81,7 +81,8 @@ fn verb_text(verb: LinkVerb) -> &'static str
 
 /// The name of a link, or `if` and its index where no attribute says it.
 fn link_name(alloc: Global, index: u32, found: Option<&LinkAttribute>) -> Result<String, AllocError>
-    ensures { IfOk result (λ text. string_bytes text ≡ link_name index (option_copied found.entry)) }
+    ensures { IfOk result
+        (λ text. string_bytes text ≡ link_name index (option_copied found.entry)) }
 {
     match found {
         Some(LinkAttribute::IfName(name)) => name_text(alloc, name.text.as_str()),
