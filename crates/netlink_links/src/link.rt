@@ -3,7 +3,6 @@
 ghost use Rattle.std.specs.Prelude.{◌≡◌, IfOk, string_bytes};
 ghost use Rattle.std.specs.Option.{option_copied};
 ghost use Rattle.netlink_route.specs.Info.{info_kind};
-ghost use Rattle.netlink_route.specs.Link.{kind_of};
 ghost use Rattle.netlink_links.specs.Find.{first_of};
 ghost use Rattle.netlink_links.specs.Link.{address_words, below_words, hardware_words, info_words, kind_words, link_line, link_name, link_front, master_words, mtu_words, state_words};
 ghost use Rattle.netlink_links.specs.Names.{link_verb_text};
