@@ -1,6 +1,6 @@
 //! A run of the program over a reader and a writer.
 
-ghost use Rattle.std.specs.Prelude.{◌≡◌, ◌≢◌, [], None, Some, IfOk, IfErr, IfSome, IsOkAnd};
+ghost use Rattle.std.specs.Prelude.{◌≡◌, ◌≢◌, [], None, Some, IfOk, IfErr, IfSome, IsOk, IsOkAnd};
 ghost use Rattle.std.specs.String.{string_bytes};
 ghost use Rattle.std.specs.Io.KnownBytes.{Keeps};
 ghost use Rattle.netlink_packet_core.specs.Frame.{Frame};
@@ -172,6 +172,7 @@ fn lines(
 ) -> Result<Answer, AllocError>
     ensures answer { IfOk result (λ answer. IsOkAnd made
         (λ text. answer.output.items ≡ string_bytes text) × (answer.fault ≡ fault)) }
+    ensures made { IfOk made (λ text. IsOk result) }
 {
     match made {
         Ok(text) => Ok(Answer {
