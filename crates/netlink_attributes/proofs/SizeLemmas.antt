@@ -3,7 +3,7 @@ use Rattle.std.proofs.Common.{◌≡◌, ℕ, ◌+◌, ◌<◌, ◌≤◌, ◌^�
 use Rattle.std.specs.List.{AllWithin}
 use Rattle.std.proofs.lemmas.List.{drop_all}
 use Rattle.std.proofs.lemmas.List.Elements.{All-append, All-map, All-nil, All-cons}
-use Rattle.netlink_attributes.specs.Attribute.{Attribute, FitsAttribute, padded}
+use Rattle.netlink_attributes.specs.Attribute.{Attribute, FitsAttribute, padded, value_max}
 use Rattle.netlink_attributes.specs.Block.{canonical_block}
 use Rattle.netlink_attributes.specs.BlockLaws.{block_push}
 use Rattle.netlink_attributes.specs.Nla.{attribute_with, attributes_of, AllFit, FitBlock}
@@ -36,9 +36,9 @@ each_attribute kind_of value_of list each = All-map FitsAttribute (of kind_of va
 -- attributes that fit have values that fit
 pub values_fit : {T : Type 0} (kind_of : T → ℕ) (value_of : T → List ℕ) (list : List T)
     → All FitsAttribute (attributes_of kind_of value_of list) → AllFit value_of list
-values_fit kind_of value_of [] each = All-nil (λ nla. length (value_of nla) ≤ 65531)
+values_fit kind_of value_of [] each = All-nil (λ nla. length (value_of nla) ≤ value_max)
 values_fit kind_of value_of (nla ∷ more) each =
-    All-cons (λ nla. length (value_of nla) ≤ 65531) nla more (each 0 (of kind_of value_of nla) (omega arith)).value
+    All-cons (λ nla. length (value_of nla) ≤ value_max) nla more (each 0 (of kind_of value_of nla) (omega arith)).value
     (values_fit kind_of value_of more (λ k d inside. each (suc k) d (omega arith)))
 
 pub attributes-push : {T : Type 0} (kind_of : T → ℕ) (value_of : T → List ℕ) (list : List T) (nla : T)
@@ -59,7 +59,7 @@ length-push kind_of value_of list nla =
 -- what holds of the attributes of a list and of one more
 pub each_push : {T : Type 0} (kind_of : T → ℕ) (value_of : T → List ℕ) (list : List T) (nla : T)
     → All FitsAttribute (attributes_of kind_of value_of list)
-    → kind_of nla < 2 ^ 16 → length (value_of nla) ≤ 65531 → All FitsAttribute (attributes_of kind_of value_of (list ++ (nla ∷ [])))
+    → kind_of nla < 2 ^ 16 → length (value_of nla) ≤ value_max → All FitsAttribute (attributes_of kind_of value_of (list ++ (nla ∷ [])))
 each_push kind_of value_of list nla each kind value =
     let last : All FitsAttribute (of kind_of value_of nla ∷ []) =
     All-cons FitsAttribute (of kind_of value_of nla) [] (record { kind = kind; value = value }) (All-nil FitsAttribute) in
@@ -78,7 +78,7 @@ pub fit_push : {T : Type 0} (kind_of : T → ℕ) (value_of : T → List ℕ) (l
     → All FitsAttribute (attributes_of kind_of value_of list)
     → size ≡ length (canonical_block (attributes_of kind_of value_of list)) → more ≡ length (padded (of kind_of value_of nla))
     → size + more ≤ 4294963200
-    → kind_of nla < 2 ^ 16 → length (value_of nla) ≤ 65531 → FitBlock kind_of value_of (list ++ (nla ∷ []))
+    → kind_of nla < 2 ^ 16 → length (value_of nla) ≤ value_max → FitBlock kind_of value_of (list ++ (nla ∷ []))
 fit_push kind_of value_of list nla size more each counted is low kind value = (
   values_fit kind_of value_of (list ++ (nla ∷ [])) (each_push kind_of value_of list nla each kind value),
   omega

@@ -1,16 +1,21 @@
 -- One attribute and its text (linux/netlink.h, struct nlattr).
 use Rattle.std.specs.Prelude.{ℕ, ◌+◌, ◌-◌, ◌%◌, ◌<◌, ◌≤◌, ◌^◌, List, ◌++◌, length, replicate}
 use Rattle.netlink_bytes.specs.Numbers.{bytes_le}
+use Rattle.netlink_attributes.specs.declared.constants.TheConstants.{NLA_VALUE_MAX}
 
 -- a kind of 16 bits, its two flag bits among them, and a value
 pub record Attribute : Type 0 where
   pub kind : ℕ
   pub value : List ℕ
 
+-- the most bytes of a value: a length field of 16 bits counts the header too
+abbrev pub value_max : ℕ
+value_max = NLA_VALUE_MAX
+
 -- the kind and the size of the value fit their fields
 pub record FitsAttribute (a : Attribute) : Type 0 where
   pub kind : a.kind < 2 ^ 16
-  pub value : length a.value ≤ 65531
+  pub value : length a.value ≤ value_max
 
 -- how many bytes a value of this size lacks to a multiple of 4
 abbrev pub padding : ℕ → ℕ

@@ -1,6 +1,6 @@
 -- The attributes that values stand for.
 use Rattle.std.specs.Prelude.{ℕ, ◌≤◌, List, length, map, All}
-use Rattle.netlink_attributes.specs.Attribute.{Attribute}
+use Rattle.netlink_attributes.specs.Attribute.{Attribute, value_max}
 use Rattle.netlink_attributes.specs.Block.{canonical_block}
 use Rattle.netlink_attributes.specs.declared.default.DefaultNla.{DefaultNla}
 
@@ -14,7 +14,7 @@ attributes_of kind_of value_of nlas = map (λ nla. attribute_with (kind_of nla) 
 
 -- each value is of a size that a length field can count
 abbrev pub AllFit : {T : Type 0} → (T → List ℕ) → List T → Type 0
-AllFit value_of nlas = All (λ nla. length (value_of nla) ≤ 65531) nlas
+AllFit value_of nlas = All (λ nla. length (value_of nla) ≤ value_max) nlas
 
 -- each value is of such a size, and as a block they leave room for the headers of a message
 abbrev pub FitBlock : {T : Type 0} → (T → ℕ) → (T → List ℕ) → List T → Type 0

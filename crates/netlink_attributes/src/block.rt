@@ -3,7 +3,7 @@
 ghost use Rattle.std.specs.Prelude.{◌≡◌, ◌↔◌, ◌+◌, ◌^◌, ◌<◌, ◌≤◌, ◌++◌, ◌⊎◌, List, [], None, Some, IfErr, IfOk, IsOk, MatchResult, OnOk, length, replicate, vec_len, vec_capacity};
 ghost use Rattle.netlink_bytes.specs.Numbers.{bytes_le};
 ghost use Rattle.netlink_bytes.specs.declared.error.DecodeError.{DecodeError};
-ghost use Rattle.netlink_attributes.specs.Attribute.{Attribute, padded, padding};
+ghost use Rattle.netlink_attributes.specs.Attribute.{Attribute, padded, padding, value_max};
 ghost use Rattle.netlink_attributes.specs.Block.{canonical_block, IsCanonicalBlock};
 ghost use Rattle.netlink_attributes.specs.Nla.{attribute_with};
 ghost use Rattle.netlink_attributes.specs.Walk.{Walk};
@@ -107,9 +107,9 @@ fn append_zeros(block: &mut Vec<u8>, count: usize) -> Result<(), AllocError>
 
 /// Adds an attribute to a block, its kind as it is, with its padding of zeros.
 ///
-/// The value has at most 65531 bytes. Where the block has room for the attribute with its padding
-/// the answer is Ok; otherwise its own allocator is asked, and where that refuses the answer is
-/// `OutOfMemory`, and the block is as it was.
+/// The value has at most `NLA_VALUE_MAX` bytes. Where the block has room for the attribute with its
+/// padding the answer is Ok; otherwise its own allocator is asked, and where that refuses the
+/// answer is `OutOfMemory`, and the block is as it was.
 #[inline]
 #[tactic(auto, using(crate::specs::Sizes::written_sizes))]
 pub fn append_nla(
@@ -118,7 +118,7 @@ pub fn append_nla(
     kind: u16,
     value: &[u8],
 ) -> Result<(), DecodeError>
-    requires fits { length value.now ≤ 65531 }
+    requires fits { length value.now ≤ value_max }
     ensures ok { OnOk result
         (block.new.items ≡ block.old.items ++ padded (attribute_with kind value.now)) }
     ensures err { IfErr result

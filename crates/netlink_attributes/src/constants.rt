@@ -15,3 +15,6 @@ pub const NLA_ALIGNTO: usize = 4;
 /// The size of an attribute's header in bytes (`NLA_HDRLEN` of linux/netlink.h): a length and a
 /// kind of 16 bits each.
 pub const NLA_HEADER_SIZE: usize = 4;
+
+/// The most bytes of a value: the length field counts the header too, and ends with `u16::MAX`.
+pub const NLA_VALUE_MAX: usize = 65531;

@@ -1,7 +1,7 @@
 //! An attribute that keeps its value as bytes.
 
 ghost use Rattle.std.specs.Prelude.{◌≡◌, ◌≤◌, [], IfErr, IfOk, IsOk, IsTrue, true, length};
-ghost use Rattle.netlink_attributes.specs.Attribute.{padded};
+ghost use Rattle.netlink_attributes.specs.Attribute.{padded, value_max};
 ghost use Rattle.netlink_attributes.specs.Nla.{kept_attribute};
 ghost use Rattle.netlink_attributes.specs.Views.{attribute_of, shown, HoldsAttribute};
 
@@ -63,7 +63,7 @@ impl Nla for DefaultNla {
 impl Emitable for DefaultNla {
     ghost bytes = { λ nla. padded (kept_attribute nla) };
 
-    ghost can_emit = { λ nla. length (kept_attribute nla).value ≤ 65531 };
+    ghost can_emit = { λ nla. length (kept_attribute nla).value ≤ value_max };
 
     ghost takes_longer = { true };
 

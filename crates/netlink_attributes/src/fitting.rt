@@ -16,8 +16,8 @@ use netlink_bytes::{DecodeError, Emitable};
 /// which leaves room for the message's header and for a fixed header of the protocol's own.
 pub const NLA_BLOCK_MAX: usize = 4294963200;
 
-/// Attributes that fit a message: each value has at most 65531 bytes, and as a block they have at
-/// most `NLA_BLOCK_MAX`. So a message that holds them can be written, whatever it holds.
+/// Attributes that fit a message: each value has at most `NLA_VALUE_MAX` bytes, and as a block they
+/// have at most `NLA_BLOCK_MAX`. So a message that holds them can be written, whatever it holds.
 #[derive(Debug, Drop)]
 pub struct NlaBlock<T: Nla> {
     /// The attributes in order.
@@ -30,8 +30,8 @@ pub struct NlaBlock<T: Nla> {
 }
 
 impl<T: Nla + Drop> NlaBlock<T> {
-    /// The block of these attributes; none where a value has more than 65531 bytes, or they all
-    /// more than `NLA_BLOCK_MAX`. Asks for no memory.
+    /// The block of these attributes; none where a value has more than `NLA_VALUE_MAX` bytes, or
+    /// they all more than `NLA_BLOCK_MAX`. Asks for no memory.
     pub fn new(list: Vec<T>) -> Option<Self>
         ensures fits { IsSome result ↔ FitBlock T.kind_of T.value_of list.items }
         ensures list { IfSome result (λ block. block.list ≡ list) }
@@ -42,10 +42,10 @@ impl<T: Nla + Drop> NlaBlock<T> {
         }
     }
 
-    /// Adds an attribute behind the others. One whose value has more than 65531 bytes, or with
-    /// which the block would have more than `NLA_BLOCK_MAX`, is refused with `TooLong`, whatever
-    /// memory there is; `OutOfMemory` says that a request for memory was refused. The block is then
-    /// as it was, and the attribute is given up.
+    /// Adds an attribute behind the others. One whose value has more than `NLA_VALUE_MAX` bytes,
+    /// or with which the block would have more than `NLA_BLOCK_MAX`, is refused with `TooLong`,
+    /// whatever memory there is; `OutOfMemory` says that a request for memory was refused. The
+    /// block is then as it was, and the attribute is given up.
     pub fn push(&mut self, nla: T) -> Result<(), DecodeError>
         ensures ok { IfOk result (λ _. self.new.list.items ≡ self.old.list.items ++ (nla ∷ [])) }
         ensures too_long { (FitBlock T.kind_of T.value_of (self.old.list.items ++ (nla ∷ [])) → ⊥)

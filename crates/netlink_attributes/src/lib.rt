@@ -22,7 +22,7 @@ pub use crate::block::{append_nla, normalize_nlas};
 pub use crate::buffer::NlaBuffer;
 pub use crate::canonical::is_canonical_nlas;
 pub use crate::constants::{
-    NLA_ALIGNTO, NLA_F_NESTED, NLA_F_NET_BYTEORDER, NLA_HEADER_SIZE, NLA_TYPE_MASK,
+    NLA_ALIGNTO, NLA_F_NESTED, NLA_F_NET_BYTEORDER, NLA_HEADER_SIZE, NLA_TYPE_MASK, NLA_VALUE_MAX,
 };
 pub use crate::default::DefaultNla;
 pub use crate::find::{nla_find, nla_find_raw};

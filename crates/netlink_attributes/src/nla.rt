@@ -1,14 +1,14 @@
 //! What can be written as an attribute.
 
 ghost use Rattle.std.specs.Prelude.{◌≡◌, ◌↔◌, ◌-◌, ◌<◌, ◌≤◌, ◌^◌, ◌++◌, ℕ, List, IsTrue, drop, length};
-ghost use Rattle.netlink_attributes.specs.Attribute.{padded, padded_size};
+ghost use Rattle.netlink_attributes.specs.Attribute.{padded, padded_size, value_max};
 ghost use Rattle.netlink_attributes.specs.Nla.{attribute_with};
 ghost use Rattle.netlink_attributes.specs.Views.{is_nested, is_network_byteorder};
 
 use crate::align::nla_align;
 use crate::block::attribute_header;
 use crate::buffer::{is_nested_kind, is_network_kind};
-use crate::constants::NLA_HEADER_SIZE;
+use crate::constants::{NLA_HEADER_SIZE, NLA_VALUE_MAX};
 
 /// A value that stands for an attribute: a kind, and the bytes of its value.
 pub trait Nla {
@@ -60,24 +60,24 @@ pub fn nla_buffer_len<T: Nla>(nla: &T) -> usize
     nla_align(nla.value_len()) + NLA_HEADER_SIZE
 }
 
-/// Whether the value is one of at most 65531 bytes, so that a length field of 16 bits can count it
-/// and its header.
+/// Whether the value is one of at most `NLA_VALUE_MAX` bytes, so that a length field of 16 bits can
+/// count it and its header.
 #[inline]
 pub fn nla_fits<T: Nla>(nla: &T) -> bool
-    ensures fits { IsTrue result ↔ (length (T.value_of nla.now) ≤ 65531) }
+    ensures fits { IsTrue result ↔ (length (T.value_of nla.now) ≤ value_max) }
 {
-    nla.value_len() <= u16::MAX as usize - NLA_HEADER_SIZE
+    nla.value_len() <= NLA_VALUE_MAX
 }
 
 /// Writes the attribute at the start of the buffer, its padding with zeros, and leaves the rest.
 /// The kind is written as it is. Asks for no memory.
 ///
-/// The value has at most 65531 bytes, as `nla_fits` tells, and the buffer at least the
+/// The value has at most `NLA_VALUE_MAX` bytes, as `nla_fits` tells, and the buffer at least the
 /// `nla_buffer_len` bytes that are written.
 #[tactic(auto, using(crate::specs::Sizes::written_sizes))]
 #[inline]
 pub fn emit_nla<T: Nla>(nla: &T, buffer: &mut [u8])
-    requires fits { length (T.value_of nla.now) ≤ 65531 }
+    requires fits { length (T.value_of nla.now) ≤ value_max }
     requires room { length (padded (attribute_with (T.kind_of nla.now) (T.value_of nla.now)))
         ≤ length buffer.old }
     ensures written { buffer.new

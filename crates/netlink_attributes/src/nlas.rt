@@ -31,7 +31,8 @@ impl<'a, T: Nla> Emitable for Nlas<'a, T> {
     }
 
     /// Writes the attributes at the start of the buffer, and leaves the rest. What is written walks
-    /// as the list. Each value has at most 65531 bytes, and the buffer at least `buffer_len` bytes.
+    /// as the list. Each value has at most `NLA_VALUE_MAX` bytes, and the buffer at least
+    /// `buffer_len` bytes.
     fn emit(&self, buffer: &mut [u8])
         requires can { AllFit T.value_of self.now.0.now }
         requires room { length (canonical_block (attributes_of T.kind_of T.value_of self.now.0.now))
@@ -53,8 +54,8 @@ impl<'a, T: Nla> Emitable for Nlas<'a, T> {
 
 /// The block that `Nlas` writes of these attributes, in a vector of its own.
 ///
-/// Each value has at most 65531 bytes, as `nla_fits` tells. The only error is `OutOfMemory`, and
-/// for no attributes no memory is asked.
+/// Each value has at most `NLA_VALUE_MAX` bytes, as `nla_fits` tells. The only error is
+/// `OutOfMemory`, and for no attributes no memory is asked.
 #[tactic(auto, using(crate::specs::Sizes::written_sizes))]
 pub fn write_nlas<T: Nla>(alloc: Global, nlas: &[T]) -> Result<Vec<u8>, DecodeError>
     requires fit { AllFit T.value_of nlas.now }

@@ -3,7 +3,7 @@ use Rattle.std.proofs.Common.{◌≡◌, ℕ, ◌+◌, ◌-◌, ◌<◌, ◌≤�
 use Rattle.std.proofs.lemmas.List.{drop_at, drop_all, drop-append-le, drop-drop, drop-take, length-replicate, length-take, length-take-le, take_at}
 use Rattle.std.specs.Prelude.{replicate, slice_range}
 use borrow.Rule.Slice.PartMut.{put_mid}
-use Rattle.netlink_packet_core.specs.Attribute.{Attribute, attribute_bytes, padded, padded_size, padding}
+use Rattle.netlink_packet_core.specs.Attribute.{Attribute, attribute_bytes, padded, padded_size, padding, value_max}
 use Rattle.netlink_packet_core.specs.AttributeSizes.{length-padded, length-written}
 use Rattle.netlink_packet_core.specs.Block.{canonical_block}
 use Rattle.netlink_packet_core.specs.Storage.{put_at}
@@ -53,7 +53,7 @@ grows_block a buffer new at next start all room written moved order held =
     ∙ grown a buffer at start all room order held
 
 -- and the walk gives it, where the attribute fits its fields
-pub put_reads_back : (a : Attribute) (buffer new : List ℕ) (at next : ℕ) → a.kind < 2 ^ 16 → length a.value ≤ 65531
+pub put_reads_back : (a : Attribute) (buffer new : List ℕ) (at next : ℕ) → a.kind < 2 ^ 16 → length a.value ≤ value_max
     → at + padded_size a ≤ length buffer → new ≡ put_at buffer at (padded a) → next ≡ at + padded_size a
     → Starts (drop at new) a (drop next new)
 put_reads_back a buffer new at next kind value room written moved =

@@ -21,8 +21,8 @@ use netlink_packet_core::{
 /// Ends a nest: the bytes from behind the header at `start` up to the cursor become its value.
 ///
 /// Answers 0; `NO_PLACE` where the cursor is not in the buffer, or not a multiple of 4 behind the
-/// start, or less than 4; or else `TOO_LONG` where the value has more than 65531 bytes. Writes the
-/// length field, and nothing else. Asks for no memory.
+/// start, or less than 4; or else `TOO_LONG` where the value has more than `NLA_VALUE_MAX` bytes.
+/// Writes the length field, and nothing else. Asks for no memory.
 #[unsafe(no_mangle)]
 pub extern "C" fn nlp_nest_end(buffer: &mut [u8], cursor: usize, start: usize) -> u32
     ensures answers { AnswersEnd 4 (2 ^ 16) (length buffer.old) start cursor result }

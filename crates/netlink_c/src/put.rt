@@ -1,7 +1,7 @@
 //! Attributes, written into a caller's buffer from a cursor on.
 
 ghost use Rattle.std.specs.Prelude.{◌≡◌, ◌≢◌, ◌+◌, ◌<◌, ◌≤◌, ◌^◌, ◌++◌, ◌∷◌, [], drop, length};
-ghost use Rattle.netlink_packet_core.specs.Attribute.{padded};
+ghost use Rattle.netlink_packet_core.specs.Attribute.{padded, value_max};
 ghost use Rattle.netlink_packet_core.specs.Nla.{attribute_with};
 ghost use Rattle.netlink_packet_core.specs.Numbers.{bytes_le};
 ghost use Rattle.netlink_packet_core.specs.Storage.{put_at};
@@ -18,8 +18,8 @@ use netlink_packet_core::{
 /// Adds an attribute from the cursor on, its kind as it is, with its padding of zeros.
 ///
 /// Answers 0, and the cursor is then behind the padding; `TOO_LONG` where the value has more than
-/// 65531 bytes; or else `NO_ROOM`. What was put is what `nlp_attrs_next` answers from the old
-/// cursor on. Wraps `emit_nla`. Asks for no memory.
+/// `NLA_VALUE_MAX` bytes; or else `NO_ROOM`. What was put is what `nlp_attrs_next` answers from the
+/// old cursor on. Wraps `emit_nla`. Asks for no memory.
 #[unsafe(no_mangle)]
 pub extern "C" fn nlp_attr_put(
     buffer: &mut [u8],
@@ -219,7 +219,7 @@ fn put<T: Nla>(buffer: &mut [u8], cursor: &mut usize, nla: &T) -> u32
 /// Writes an attribute of this size at a place.
 #[tactic(auto, using(crate::proofs::PutLemmas::put_sizes))]
 fn emit_at<T: Nla>(nla: &T, buffer: &mut [u8], at: usize, size: usize)
-    requires fits { length (T.value_of nla.now) ≤ 65531 }
+    requires fits { length (T.value_of nla.now) ≤ value_max }
     requires size { size
         ≡ length (padded (attribute_with (T.kind_of nla.now) (T.value_of nla.now))) }
     requires room { at + size ≤ length buffer.old }

@@ -60,6 +60,7 @@ pub use netlink_attributes::NLA_F_NESTED;
 pub use netlink_attributes::NLA_F_NET_BYTEORDER;
 pub use netlink_attributes::NLA_HEADER_SIZE;
 pub use netlink_attributes::NLA_TYPE_MASK;
+pub use netlink_attributes::NLA_VALUE_MAX;
 pub use netlink_attributes::Nla;
 pub use netlink_attributes::NlaBlock;
 pub use netlink_attributes::NlaBuffer;

@@ -1,7 +1,7 @@
 -- What is written is read, and what is read is written.
 use Rattle.std.proofs.Common.{◌≡◌, ◌↔◌, ℕ, zero, suc, ◌<◌, ◌≤◌, ◌^◌, false, nat_lt, List, [], ◌∷◌, length, refl, sym, ap, subst, ◌∙◌, inl, inr, Option, Some, None, Result, Ok, Err, Vec, Global, OnOk, IfOk, MatchResult, All, Contains, arith}
 use Rattle.std.proofs.lemmas.List.Elements.{All-nil, All-cons, All-head, All-tail, All-weaker, All-contains_itself}
-use Rattle.netlink_packet_core.specs.Attribute.{Attribute, FitsAttribute}
+use Rattle.netlink_packet_core.specs.Attribute.{Attribute, FitsAttribute, value_max}
 use Rattle.netlink_packet_core.specs.Block.{canonical_block}
 use Rattle.netlink_packet_core.specs.DecodeError.{DecodeError}
 use Rattle.netlink_packet_core.specs.DecodeError.TheVariants.{OutOfMemory}
@@ -70,7 +70,7 @@ walk_fits bytes (a ∷ more) fault (rest, starts, walk) = All-cons FitsAttribute
 attribute_is : (a : Attribute) (k : ℕ) (v : List ℕ) → k ≡ a.kind → v ≡ a.value → ◌≡◌ {A = Attribute} (record { kind = k; value = v }) a
 attribute_is a k v e₁ e₂ = ap (λ (x : ℕ). record { kind = x; value = v }) e₁ ∙ ap (λ (x : List ℕ). record { kind = a.kind; value = x }) e₂
 
-not_long : (v w : List ℕ) → v ≡ w → length w ≤ 65531 → is_long v ≡ false
+not_long : (v w : List ℕ) → v ≡ w → length w ≤ value_max → is_long v ≡ false
 not_long v w e fits = rw e (grind arith)
 
 -- what is canonical at every depth reads as trees that are written as it

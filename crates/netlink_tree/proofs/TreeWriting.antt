@@ -2,7 +2,7 @@
 use Rattle.std.proofs.Common.{◌≡◌, ℕ, suc, ◌+◌, ◌-◌, ◌%◌, ◌≤◌, Bool, true, false, nat_lt, ◌||◌, if◌then◌else◌, List, [], ◌∷◌, ◌++◌, length, take, drop, refl, sym, ap, ◌∙◌, Ok, Err, All, arith, append-nil, append_assoc, length-append}
 use Rattle.std.proofs.lemmas.List.Elements.{All-nil, All-cons, All-head, All-tail, All-contains}
 use Rattle.std.specs.Prelude.{replicate}
-use Rattle.netlink_packet_core.specs.Attribute.{Attribute, FitsAttribute, attribute_bytes, padded, padding}
+use Rattle.netlink_packet_core.specs.Attribute.{Attribute, FitsAttribute, attribute_bytes, padded, padding, value_max}
 use Rattle.netlink_packet_core.specs.AttributeSizes.{length-canonical_block, length-padded}
 use Rattle.netlink_packet_core.specs.Block.{canonical_block, IsBlockOf}
 use Rattle.netlink_packet_core.specs.Nla.{attribute_with}
@@ -17,7 +17,7 @@ pub neither : (a b : Bool) → a || b ≡ false → (a ≡ false) × (b ≡ fals
 neither true b e = absurd (cc)
 neither false b e = (refl, e)
 
-short : (v : List ℕ) → is_long v ≡ false → length v ≤ 65531
+short : (v : List ℕ) → is_long v ≡ false → length v ≤ value_max
 short v e = grind arith
 
 -- what a proof of a size needs

@@ -1,12 +1,14 @@
 -- The text of a fault, and which two say the same.
-use Rattle.std.specs.Prelude.{ℕ, List, codes}
+use Rattle.std.specs.Prelude.{ℕ, List, ◌++◌, codes, decimal}
+use Rattle.netlink_packet_core.specs.Attribute.{value_max}
 use Rattle.netlink_packet_core.specs.Causes.{SameCause, cause_text}
 use Rattle.netlink_tree.specs.declared.fault.TreeFault.{TreeFault}
 use Rattle.netlink_tree.specs.declared.fault.TreeFault.TheVariants.{TooDeep, TooLong, Decode}
 
 abbrev pub fault_text : TreeFault → List ℕ
 fault_text TooDeep = codes "attributes are nested deeper than 16"
-fault_text TooLong = codes "the value of an attribute is longer than 65531 bytes"
+fault_text TooLong =
+    codes "the value of an attribute is longer than " ++ (decimal value_max ++ codes " bytes")
 fault_text (Decode cause) = cause_text cause
 
 -- two faults that nobody can tell apart

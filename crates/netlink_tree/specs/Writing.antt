@@ -1,6 +1,6 @@
 -- Trees written as bytes.
 use Rattle.std.specs.Prelude.{ℕ, ◌≡◌, Bool, true, false, ◌||◌, nat_lt, if◌then◌else◌, List, [], ◌∷◌, length, Contains, Result, Ok, Err}
-use Rattle.netlink_packet_core.specs.Attribute.{Attribute}
+use Rattle.netlink_packet_core.specs.Attribute.{Attribute, value_max}
 use Rattle.netlink_packet_core.specs.Block.{canonical_block, IsBlockOf}
 use Rattle.netlink_packet_core.specs.Views.{is_nested}
 use Rattle.netlink_tree.specs.Tree.{Tree, leaf, nest, Forest, no_trees, grow, levels}
@@ -24,7 +24,7 @@ tree_bytes ts = canonical_block (attributes_of ts)
 
 -- longer than the length field of an attribute can count
 abbrev pub is_long : List ℕ → Bool
-is_long value = nat_lt 65531 (length value)
+is_long value = nat_lt value_max (length value)
 
 abbrev mutual
   -- a value, or the text inside a nest, is too long

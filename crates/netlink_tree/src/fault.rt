@@ -3,7 +3,7 @@
 ghost use Rattle.std.specs.Prelude.{◌≡◌};
 ghost use Rattle.netlink_tree.specs.Fault.{fault_text};
 
-use netlink_packet_core::DecodeError;
+use netlink_packet_core::{DecodeError, NLA_VALUE_MAX};
 use std::alloc::{AllocError, AllocFailed};
 use std::error::Error;
 use std::fmt;
@@ -13,7 +13,8 @@ use std::fmt;
 pub enum TreeFault {
     /// Something stands deeper than 16, where the outer attributes have depth 1.
     TooDeep,
-    /// A value, or the block inside a nest as it is written, is above 65531 bytes.
+    /// A value, or the block inside a nest as it is written, is above
+    /// `NLA_VALUE_MAX` bytes.
     TooLong,
     /// Bytes are no attributes (`NlaBufferTooSmall`, `NlaLengthMismatch` or `NlaInvalidLength`), or
     /// a request for memory was refused (`OutOfMemory`).
@@ -29,7 +30,10 @@ impl fmt::Display for TreeFault {
         match self {
             TreeFault::TooDeep => f.write_str("attributes are nested deeper than 16"),
             TreeFault::TooLong => {
-                f.write_str("the value of an attribute is longer than 65531 bytes")
+                write!(
+                    f,
+                    "the value of an attribute is longer than {NLA_VALUE_MAX} bytes"
+                )
             }
             TreeFault::Decode(cause) => write!(f, "{cause}"),
         }

@@ -1,7 +1,7 @@
 //! Trees written as bytes.
 
 ghost use Rattle.std.specs.Prelude.{◌≡◌, ◌+◌, ◌-◌, ◌≤◌, ◌⊎◌, ◌++◌, ◌||◌, [], true, false, Ok, Err, MatchResult, MatchOption, OnOk, IfOk, IfErr, IsOk, min, nat_lt, length};
-ghost use Rattle.netlink_packet_core.specs.Attribute.{padded};
+ghost use Rattle.netlink_packet_core.specs.Attribute.{padded, value_max};
 ghost use Rattle.netlink_packet_core.specs.Nla.{attribute_with};
 ghost use Rattle.netlink_packet_core.specs.DecodeError.{DecodeError};
 ghost use Rattle.netlink_packet_core.specs.Numbers.{bytes_le};
@@ -13,21 +13,17 @@ ghost use Rattle.netlink_tree.specs.Writing.{written, tree_bytes, is_long, is_to
 use crate::fault::TreeFault;
 use crate::tree::{GREATEST_DEPTH, NlaTree};
 use netlink_packet_core::laws::written_walks;
-use netlink_packet_core::{NLA_HEADER_SIZE, append_nla, nla_align, put_u16};
+use netlink_packet_core::{NLA_HEADER_SIZE, NLA_VALUE_MAX, append_nla, nla_align, put_u16};
 use std::alloc::Global;
-
-/// The most bytes of a value: the length field has 16 bits and counts the header.
-const LONGEST_VALUE: usize = 65531;
 
 /// The canonical block of trees, at every depth: each attribute with its kind as it is and with its
 /// padding of zeros, the value of a nest being the block of what is inside. The trees have to be
 /// well formed, as `is_well_formed` tells; those that `read_tree` gives are.
 ///
 /// Where an attribute stands deeper than 16, the outer ones having depth 1, the answer is
-/// `TooDeep`; otherwise, where a value or the block inside a nest is above 65531 bytes, it is
-/// `TooLong`.
-/// Neither asks for memory. Otherwise there is one request, of the block's size, and `Decode` of
-/// `OutOfMemory` says that it was refused; an empty list asks for none.
+/// `TooDeep`; otherwise, where a value or the block inside a nest is above `NLA_VALUE_MAX` bytes,
+/// it is `TooLong`. Neither asks for memory. Otherwise there is one request, of the block's size,
+/// and `Decode` of `OutOfMemory` says that it was refused; an empty list asks for none.
 pub fn write_tree(alloc: Global, trees: &[NlaTree]) -> Result<Vec<u8>, TreeFault>
     requires formed { AreWellFormed (views trees.now) }
     ensures text { MatchResult result
@@ -87,10 +83,10 @@ fn whole_size(trees: &[NlaTree]) -> Option<usize>
 fn value_size(tree: &NlaTree) -> Option<usize>
     ensures { MatchOption result
         (is_too_long (view tree.now) ≡ true)
-        (λ n. (is_too_long (view tree.now) ≡ false) × (n ≤ 65531) × (n ≡ length (written (view tree.now)).value)) }
+        (λ n. (is_too_long (view tree.now) ≡ false) × (n ≤ value_max) × (n ≡ length (written (view tree.now)).value)) }
 {
     match tree {
-        NlaTree::Leaf { value, .. } => (value.len() <= LONGEST_VALUE).then_some(value.len()),
+        NlaTree::Leaf { value, .. } => (value.len() <= NLA_VALUE_MAX).then_some(value.len()),
         NlaTree::Nest { children, .. } => text_size(children),
     }
 }
@@ -101,12 +97,12 @@ fn value_size(tree: &NlaTree) -> Option<usize>
 fn text_size(trees: &[NlaTree]) -> Option<usize>
     ensures { MatchOption result
         (are_too_long (views trees.now) || is_long (tree_bytes (views trees.now)) ≡ true)
-        (λ n. (are_too_long (views trees.now) ≡ false) × (n ≤ 65531) × (n ≡ length (tree_bytes (views trees.now)))) }
+        (λ n. (are_too_long (views trees.now) ≡ false) × (n ≤ value_max) × (n ≡ length (tree_bytes (views trees.now)))) }
 {
     let mut size = 0;
     for tree in trees {
         size += nla_align(value_size(tree)? + NLA_HEADER_SIZE);
-        if size > LONGEST_VALUE {
+        if size > NLA_VALUE_MAX {
             return None;
         }
     }
@@ -155,7 +151,7 @@ fn append_nest(
     children: &[NlaTree],
 ) -> Result<(), TreeFault>
     requires inside { are_too_long (views children.now) ≡ false }
-    requires fits { length (tree_bytes (views children.now)) ≤ 65531 }
+    requires fits { length (tree_bytes (views children.now)) ≤ value_max }
     ensures ok { OnOk result
         (block.new.items ≡ block.old.items
         ++ padded (attribute_with kind (tree_bytes (views children.now)))) }

@@ -1,4 +1,5 @@
 use Rattle.std.proofs.Common.{◌≡◌, ◌≤◌, ◌+◌, drop, length}
+use Rattle.netlink_packet_core.specs.Attribute.{value_max}
 use Rattle.netlink_tree.specs.Tree.{views}
 use Rattle.netlink_tree.specs.Writing.{are_too_long, tree_bytes}
 use Rattle.netlink_tree.proofs.write.+sizes.Given as goal
@@ -7,5 +8,5 @@ use Rattle.netlink_tree.proofs.write.+sizes.Given as goal
 abbrev pub invariant-text_size-loop-tree : goal.invariant-text_size-loop-tree
 invariant-text_size-loop-tree l =
     (are_too_long (views l.trees) ≡ are_too_long (views (drop l.tree-index l.trees)))
-    × (l.size ≤ 65531)
+    × (l.size ≤ value_max)
     × (l.size + length (tree_bytes (views (drop l.tree-index l.trees))) ≡ length (tree_bytes (views l.trees)))
