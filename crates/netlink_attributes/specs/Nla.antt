@@ -12,6 +12,10 @@ attribute_with kind value = record { kind = kind; value = value }
 abbrev pub attributes_of : {T : Type 0} → (T → ℕ) → (T → List ℕ) → List T → List Attribute
 attributes_of kind_of value_of nlas = map (λ nla. attribute_with (kind_of nla) (value_of nla)) nlas
 
+-- the block that is written of values
+abbrev pub written_block : {T : Type 0} → (T → ℕ) → (T → List ℕ) → List T → List ℕ
+written_block kind_of value_of nlas = canonical_block (attributes_of kind_of value_of nlas)
+
 -- each value is of a size that a length field can count
 abbrev pub AllFit : {T : Type 0} → (T → List ℕ) → List T → Type 0
 AllFit value_of nlas = All (λ nla. length (value_of nla) ≤ value_max) nlas
@@ -20,7 +24,7 @@ AllFit value_of nlas = All (λ nla. length (value_of nla) ≤ value_max) nlas
 abbrev pub FitBlock : {T : Type 0} → (T → ℕ) → (T → List ℕ) → List T → Type 0
 FitBlock kind_of value_of nlas =
     AllFit value_of nlas
-    × (length (canonical_block (attributes_of kind_of value_of nlas)) ≤ 4294963200)
+    × (length (written_block kind_of value_of nlas) ≤ 4294963200)
 
 -- the attribute that a `DefaultNla` keeps
 abbrev pub kept_attribute : DefaultNla → Attribute

@@ -31,7 +31,8 @@ pub fn normalize_nlas(alloc: Global, bytes: &[u8]) -> Result<Vec<u8>, DecodeErro
 
     // which of the two, by the walk of the bytes
     ensures writes { (all : List Attribute) → Walk bytes.now all None
-        → MatchResult result (λ v. v.items ≡ canonical_block all) (λ e. e ≡ DecodeError.OutOfMemory) }
+        → MatchResult result (λ v. v.items ≡ canonical_block all)
+        (λ e. e ≡ DecodeError.OutOfMemory) }
     ensures fault { (all : List Attribute) (fault : DecodeError) → Walk bytes.now all (Some fault)
         → result ≡ Err fault }
     ensures empty { bytes.now ≡ [] → IsOk result }
@@ -67,7 +68,8 @@ fn check_walk(bytes: &[u8]) -> Result<(), DecodeError>
 fn rewritten(alloc: Global, bytes: &[u8]) -> Result<Vec<u8>, DecodeError>
     ensures { MatchResult result
         (λ v. (all : List Attribute) × Walk bytes.now all None × (v.items ≡ canonical_block all))
-        (λ e. (e ≡ DecodeError.OutOfMemory) ⊎ ((all : List Attribute) × Walk bytes.now all (Some e))) }
+        (λ e. (e ≡ DecodeError.OutOfMemory)
+        ⊎ ((all : List Attribute) × Walk bytes.now all (Some e))) }
 {
     let mut block = Vec::with_capacity(alloc, nla_align(bytes.len()))?;
     for item in NlasIterator::new(bytes) {
@@ -87,7 +89,8 @@ fn rewritten(alloc: Global, bytes: &[u8]) -> Result<Vec<u8>, DecodeError>
 fn append_padded(block: &mut Vec<u8>, text: &[u8]) -> Result<(), AllocError>
     requires { length text.now < 2 ^ 16 }
     ensures { OnOk result
-        (block.new.items ≡ block.old.items ++ (text.now ++ replicate (padding (length text.now)) 0)) }
+        (block.new.items ≡ block.old.items
+        ++ (text.now ++ replicate (padding (length text.now)) 0)) }
 {
     block.extend_from_slice(text)?;
     append_zeros(block, nla_align(text.len()) - text.len())

@@ -31,7 +31,8 @@ impl DefaultNla {
     /// asks for none.
     pub fn try_clone(&self, alloc: Global) -> Result<Self, DecodeError>
         ensures same { IfOk result (λ copy. kept_attribute copy ≡ kept_attribute self.now) }
-        ensures equal { IfOk result (λ copy. IsTrue (⟦<DefaultNla as PartialEq>⟧.eq copy self.now)) }
+        ensures equal { IfOk result
+            (λ copy. IsTrue (⟦<DefaultNla as PartialEq>⟧.eq copy self.now)) }
         ensures memory { IfErr result (λ e. e ≡ DecodeError.OutOfMemory) }
         ensures empty { (kept_attribute self.now).value ≡ [] → IsOk result }
     {

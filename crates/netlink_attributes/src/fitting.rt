@@ -5,8 +5,7 @@ ghost use Rattle.std.specs.Cmp.{on_equiv, on_per};
 ghost use Rattle.std.specs.Cmp.Lexicographic.{lists_equiv, lists_per, pointwise};
 ghost use Rattle.netlink_bytes.specs.declared.error.DecodeError.{DecodeError};
 ghost use Rattle.netlink_attributes.specs.Attribute.{FitsAttribute};
-ghost use Rattle.netlink_attributes.specs.Block.{canonical_block};
-ghost use Rattle.netlink_attributes.specs.Nla.{attributes_of, FitBlock};
+ghost use Rattle.netlink_attributes.specs.Nla.{attributes_of, written_block, FitBlock};
 
 use crate::nla::{Nla, nla_buffer_len, nla_fits};
 use crate::nlas::Nlas;
@@ -25,7 +24,7 @@ pub struct NlaBlock<T: Nla> {
     /// The size of the block in bytes.
     pub size: usize,
     pub ghost each: { All FitsAttribute (attributes_of T.kind_of T.value_of list.items) },
-    pub ghost counted: { size ≡ length (canonical_block (attributes_of T.kind_of T.value_of list.items)) },
+    pub ghost counted: { size ≡ length (written_block T.kind_of T.value_of list.items) },
     pub ghost whole: { size ≤ 4294963200 },
 }
 
@@ -69,7 +68,7 @@ impl<T: Nla + Drop> NlaBlock<T> {
 }
 
 impl<T: Nla> Emitable for NlaBlock<T> {
-    ghost bytes = { λ block. canonical_block (attributes_of T.kind_of T.value_of block.list.items) };
+    ghost bytes = { λ block. written_block T.kind_of T.value_of block.list.items };
 
     ghost can_emit = { λ _. Unit {0} };
 
@@ -103,7 +102,7 @@ impl<T: Nla + Eq> Eq for NlaBlock<T> {
 /// The size of the block that is written of attributes, where they fit.
 fn block_size<T: Nla>(list: &[T]) -> Option<usize>
     ensures some { IfSome result
-        (λ size. size ≡ length (canonical_block (attributes_of T.kind_of T.value_of list.now))) }
+        (λ size. size ≡ length (written_block T.kind_of T.value_of list.now)) }
     ensures fits { IsSome result ↔ FitBlock T.kind_of T.value_of list.now }
     ensures each { IfSome result
         (λ _. All FitsAttribute (attributes_of T.kind_of T.value_of list.now)) }

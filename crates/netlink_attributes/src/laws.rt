@@ -157,7 +157,8 @@ pub fn older_block_kept(bytes: &[u8])
     ensures canonical { IsOlderCanonicalBlock bytes.now → IsCanonicalBlock bytes.now }
     ensures written { (all : List Attribute) (fault : Option DecodeError)
         → IsOlderCanonicalBlock bytes.now → Walk bytes.now all fault
-        → (fault ≡ None) × (canonical_block all ≡ bytes.now) × (older_canonical_block all ≡ bytes.now) }
+        → (fault ≡ None) × (canonical_block all ≡ bytes.now)
+        × (older_canonical_block all ≡ bytes.now) }
 {}
 
 /// With as many bytes in place of the value of the attribute with this index, the walk is the old

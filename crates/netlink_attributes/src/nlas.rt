@@ -2,8 +2,7 @@
 
 ghost use Rattle.std.specs.Prelude.{◌≡◌, ◌≤◌, ◌++◌, [], None, IfErr, IfOk, IsOk, true, drop, length};
 ghost use Rattle.netlink_bytes.specs.declared.error.DecodeError.{DecodeError};
-ghost use Rattle.netlink_attributes.specs.Block.{canonical_block};
-ghost use Rattle.netlink_attributes.specs.Nla.{attributes_of, AllFit};
+ghost use Rattle.netlink_attributes.specs.Nla.{attributes_of, written_block, AllFit};
 ghost use Rattle.netlink_attributes.specs.Walk.{Walk};
 
 use crate::nla::{Nla, emit_nla, nla_buffer_len};
@@ -16,7 +15,7 @@ use std::alloc::Global;
 pub struct Nlas<'a, T: Nla>(pub &'a [T]);
 
 impl<'a, T: Nla> Emitable for Nlas<'a, T> {
-    ghost bytes = { λ nlas. canonical_block (attributes_of T.kind_of T.value_of nlas.0.now) };
+    ghost bytes = { λ nlas. written_block T.kind_of T.value_of nlas.0.now };
 
     ghost can_emit = { λ nlas. AllFit T.value_of nlas.0.now };
 
@@ -35,13 +34,12 @@ impl<'a, T: Nla> Emitable for Nlas<'a, T> {
     /// `buffer_len` bytes.
     fn emit(&self, buffer: &mut [u8])
         requires can { AllFit T.value_of self.now.0.now }
-        requires room { length (canonical_block (attributes_of T.kind_of T.value_of self.now.0.now))
+        requires room { length (written_block T.kind_of T.value_of self.now.0.now)
             ≤ length buffer.old }
         ensures written { buffer.new
-            ≡ canonical_block (attributes_of T.kind_of T.value_of self.now.0.now)
-            ++ drop (length (canonical_block (attributes_of T.kind_of T.value_of self.now.0.now)))
-            buffer.old }
-        ensures walks { Walk (canonical_block (attributes_of T.kind_of T.value_of self.now.0.now))
+            ≡ written_block T.kind_of T.value_of self.now.0.now
+            ++ drop (length (written_block T.kind_of T.value_of self.now.0.now)) buffer.old }
+        ensures walks { Walk (written_block T.kind_of T.value_of self.now.0.now)
             (attributes_of T.kind_of T.value_of self.now.0.now) None }
     {
         let mut at = 0;
@@ -59,8 +57,8 @@ impl<'a, T: Nla> Emitable for Nlas<'a, T> {
 #[tactic(auto, using(crate::specs::Sizes::written_sizes))]
 pub fn write_nlas<T: Nla>(alloc: Global, nlas: &[T]) -> Result<Vec<u8>, DecodeError>
     requires fit { AllFit T.value_of nlas.now }
-    ensures written { IfOk result (λ block.
-        block.items ≡ canonical_block (attributes_of T.kind_of T.value_of nlas.now)) }
+    ensures written { IfOk result
+        (λ block. block.items ≡ written_block T.kind_of T.value_of nlas.now) }
     ensures memory { IfErr result (λ e. e ≡ DecodeError.OutOfMemory) }
     ensures empty { nlas.now ≡ [] → IsOk result }
 {

@@ -69,7 +69,8 @@ pub fn write_nla_value(block: &mut [u8], index: usize, value: &[u8]) -> bool
 /// `NlaBuffer::value_mut` for the bytes of one attribute.
 pub fn nlas_value_mut(block: &mut [u8], index: usize) -> Option<&mut [u8]>
     ensures* writes_back { sem 𝓛 (LendsSo (Array byte 0) (Array byte 0) block.entry result
-        (λ new value. OnSome result (IsWritten block.old index value new)) (λ new. new ≡ block.old)) }
+        (λ new value. OnSome result (IsWritten block.old index value new))
+        (λ new. new ≡ block.old)) }
     ensures none { (all : List Attribute) (fault : Option DecodeError) → Walk block.old all fault
         → IsNone result ↔ (length all ≤ index) }
     ensures value { IfSome result (λ value. IsValue block.old index value.now) }

@@ -94,7 +94,8 @@ pub enum DecodeError {
         /// Whether the text begins with the line of a whole message.
         inside: bool,
     },
-    /// C12: the body of a done message has fewer than 4 bytes. In a whole message no bytes at all stand for code 0.
+    /// C12: the body of a done message has fewer than 4 bytes. In a whole message no bytes at all
+    /// stand for code 0.
     DoneShort {
         /// The size of the body, in bytes.
         size: usize,

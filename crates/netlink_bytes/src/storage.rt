@@ -26,7 +26,8 @@ pub trait StorageMut: Storage {
 
     /// The bytes that it holds, lent for writing. Asks for no memory.
     fn bytes_mut(&mut self) -> &mut [u8]
-        ensures* writes_back { sem 𝓛 (Lends Self.row (Array byte 0) self.entry result (with_contents self.old)) }
+        ensures* writes_back { sem 𝓛 (Lends Self.row (Array byte 0) self.entry result
+            (with_contents self.old)) }
         ensures value { result.now ≡ Self.contents self.old };
 
     /// The bytes from `start` up to `end`, lent for writing; `start` is at most `end`, and `end` at

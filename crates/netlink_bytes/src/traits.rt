@@ -26,7 +26,8 @@ pub trait Emitable {
         ensures size { result ≡ length (bytes self.now) };
 
     /// Writes the bytes at the start of the buffer and leaves the rest. The value can be written,
-    /// and the buffer has the size of its bytes, or more where a longer one is taken. Asks for no memory.
+    /// and the buffer has the size of its bytes, or more where a longer one is taken. Asks for no
+    /// memory.
     fn emit(&self, buffer: &mut [u8])
         requires can { can_emit self.now }
         requires room { HasRoom takes_longer (length (bytes self.now)) (length buffer.old) }

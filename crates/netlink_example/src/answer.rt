@@ -1,9 +1,8 @@
 //! A program's use of the protocol: a request is read, and its answer is written.
 
-ghost use Rattle.std.specs.Prelude.{◌≡◌, ◌⊎◌, IfErr, IfOk, IsErrAnd, MatchResult};
-ghost use Rattle.netlink_packet_core.specs.Canonical.{Fits, IsTooLong, canonical_frame};
+ghost use Rattle.std.specs.Prelude.{◌≡◌, IfErr, IfOk, IsErrAnd, MatchResult};
+ghost use Rattle.netlink_packet_core.specs.Canonical.{Fits, IsTooLong, SaysTooLong, canonical_frame};
 ghost use Rattle.netlink_packet_core.specs.Frame.{Frame};
-ghost use Rattle.netlink_packet_core.specs.Refusal.{IsRefusal};
 ghost use Rattle.netlink_example.specs.Answer.{IsAnswerFault, Message, answer_to};
 ghost use Rattle.netlink_example.specs.Generic.{generic_decoding, generic_encoding, wants_memory};
 
@@ -34,8 +33,7 @@ pub fn answered(alloc: Global, datagram: &[u8], command: u8) -> Result<Vec<u8>, 
     // alone.
     ensures too_long { (request : Message) → Frame generic_decoding datagram.now request
         → IsTooLong generic_encoding (answer_to command request)
-        → IsErrAnd result (λ e. (e ≡ DecodeError.TooLong)
-        ⊎ ((e ≡ DecodeError.OutOfMemory) × IsRefusal generic_decoding wants_memory datagram.now e)) }
+        → IsErrAnd result (SaysTooLong generic_decoding wants_memory datagram.now) }
     ensures refuses { IfErr result (IsAnswerFault command datagram.now) }
 {
     frame_unique::<GenericMessage>();

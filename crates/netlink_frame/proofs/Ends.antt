@@ -21,3 +21,6 @@ pub frames_end : (bytes : List ℕ) (all : List (List ℕ)) (fault : Option Deco
 frames_end bytes [] None walk = tt
 frames_end bytes [] (Some e) (some, is) = λ same. subst (λ (x : DecodeError). IsFrameFault false bytes x) same is
 frames_end bytes (frame ∷ more) fault (rest, starts, walk) = frames_end rest more fault walk
+
+-- no walk of the program does
+pub ruleset walks_end = (attributes_end, frames_end)

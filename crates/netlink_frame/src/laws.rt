@@ -15,7 +15,8 @@ use netlink_tree::laws::frames_unique;
 /// words aside.
 pub fn makes_once()
     ensures once { (command : Command) (input first second : List ℕ) (e f : Option DecodeError)
-        → Makes command input first e → Makes command input second f → (first ≡ second) × SameFault e f }
+        → Makes command input first e → Makes command input second f
+        → (first ≡ second) × SameFault e f }
 {
     frame_unique::<PingPongMessage>();
     refusal_unique::<PingPongMessage>();

@@ -135,7 +135,8 @@ impl NetlinkProtocol for PingPongMessage {
 
     ghost own_pair = { λ v. refl };
 
-    ghost equal_pairs = { λ v w _ _. equal_pairs Self.eq (λ a b. refl) (λ a b. refl) (λ a b. refl) (λ a b. refl) v w };
+    ghost equal_pairs = { λ v w _ _.
+        equal_pairs Self.eq (λ a b. refl) (λ a b. refl) (λ a b. refl) (λ a b. refl) v w };
 
     ghost value_is_lawful = { λ v _. value_is_lawful v };
 

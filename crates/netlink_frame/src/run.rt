@@ -113,7 +113,7 @@ fn read_all<R: Read>(alloc: Global, reader: &mut R) -> Result<Vec<u8>, Fault>
 }
 
 /// The output of the command and its fault, or want of memory.
-#[tactic(auto, unfolding(crate::specs::Run::Makes), using(crate::proofs::Ends::attributes_end, crate::proofs::Ends::frames_end))]
+#[tactic(auto, unfolding(crate::specs::Run::Makes), using(crate::proofs::Ends::walks_end))]
 fn answer_to(alloc: Global, command: Command, input: Vec<u8>) -> Result<Answer, AllocError>
     ensures makes { IfOk result
         (λ answer. Makes command input.items answer.output.items answer.fault) }

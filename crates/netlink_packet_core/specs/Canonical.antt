@@ -46,6 +46,12 @@ pub record IsCanonicalFrame {I : Type 0} (decoding : Decoding I) (bytes : List �
 abbrev pub IsTooLong : {I : Type 0} → Encoding I → NetlinkMessage I → Type 0
 IsTooLong encoding m = 2 ^ 32 ≤ 16 + length (payload_bytes encoding m.payload)
 
+-- the answer where the frame of a message that is too long is read: that it is, or want of memory
+-- of the reading
+abbrev pub SaysTooLong : {I E : Type 0} → Decoding I → (E → Bool) → List ℕ → DecodeError → Type 0
+SaysTooLong decoding wants_memory bytes e =
+    (e ≡ TooLong) ⊎ ((e ≡ OutOfMemory) × IsRefusal decoding wants_memory bytes e)
+
 -- why bytes have no canonical frame: they are refused, or they are the frame of a message that is
 -- too long, or memory was refused for the canonical frame of one that fits
 abbrev pub IsNormalizeFault : {I E : Type 0} → Encoding I → Decoding I → (E → Bool) → List ℕ

@@ -1,5 +1,5 @@
 -- Which refusal bytes are answered with, and where no memory is asked for.
-use Rattle.std.specs.Prelude.{◌≡◌, ◌<◌, ◌≤◌, ◌⊎◌, ℕ, Bool, true, List, [], ◌++◌, None, length, codes, decimal, string_bytes, IsTrue}
+use Rattle.std.specs.Prelude.{◌≡◌, ◌<◌, ◌≤◌, ◌⊎◌, ℕ, Bool, true, List, [], ◌++◌, None, length, take, codes, decimal, string_bytes, IsTrue}
 use Rattle.netlink_bytes.specs.declared.error.DecodeError.{DecodeError}
 use Rattle.netlink_bytes.specs.declared.error.DecodeError.TheVariants.{FrameShort, FrameCut, FrameLength, DoneShort, ErrorShort, Message, OutOfMemory}
 use Rattle.netlink_packet_core.specs.Header.{field, payload_of, HoldsFrame}
@@ -17,6 +17,14 @@ IsFrameFault within bytes (FrameCut said size inside) =
 IsFrameFault within bytes (FrameLength said inside) =
     (16 ≤ length bytes) × (field 0 4 bytes < 16) × (said ≡ field 0 4 bytes) × (inside ≡ within)
 IsFrameFault within bytes _ = ⊥
+
+-- the first so many bytes of a frame are refused: below 16 as too short for a header, and from
+-- there on as cut, with both sizes
+abbrev pub IsCutShort : List ℕ → ℕ → Type 0
+IsCutShort bytes cut = IsFrameFault true (take cut bytes) (FrameShort cut true)
+
+abbrev pub IsCutLater : List ℕ → ℕ → Type 0
+IsCutLater bytes cut = IsFrameFault true (take cut bytes) (FrameCut (length bytes) cut true)
 
 -- the text of a protocol's refusal, with the protocol's own text behind it
 abbrev pub refusal_text : ℕ → List ℕ → List ℕ

@@ -1,11 +1,11 @@
 //! The canonical frame of what bytes say.
 
 ghost use Rattle.std.specs.Prelude.{◌≡◌, ◌⊎◌, ◌↔◌, Some, IfErr, IfOk, IsErrAnd, IsOk, IsTrue, MatchResult, OnErr};
-ghost use Rattle.netlink_packet_core.specs.Canonical.{Fits, IsCanonicalFrame, IsNormalizeFault, IsTooLong, canonical_frame};
+ghost use Rattle.netlink_packet_core.specs.Canonical.{Fits, IsCanonicalFrame, IsNormalizeFault, IsTooLong, SaysTooLong, canonical_frame};
 ghost use Rattle.netlink_packet_core.specs.Frame.{Frame};
 ghost use Rattle.netlink_packet_core.specs.Header.{HoldsFrame, field};
 ghost use Rattle.netlink_packet_core.specs.Protocol.{IsOwnType};
-ghost use Rattle.netlink_packet_core.specs.Refusal.{AsksNoMemory, IsRefusal};
+ghost use Rattle.netlink_packet_core.specs.Refusal.{AsksNoMemory};
 ghost use Rattle.netlink_packet_core.specs.declared.message.NetlinkMessage.{NetlinkMessage};
 
 use crate::buffer::read_header;
@@ -27,13 +27,15 @@ pub fn normalize<I: NetlinkProtocol>(alloc: Global, bytes: &[u8]) -> Result<Vec<
         (λ v. (m : NetlinkMessage I) × Frame I.decoding bytes.now m × Fits I.encoding m
         × (v.items ≡ canonical_frame I.encoding m)) }
     ensures writes { (m : NetlinkMessage I) → Frame I.decoding bytes.now m → Fits I.encoding m
-        → MatchResult result (λ v. v.items ≡ canonical_frame I.encoding m) (λ e. e ≡ DecodeError.OutOfMemory) }
+        → MatchResult result (λ v. v.items ≡ canonical_frame I.encoding m)
+        (λ e. e ≡ DecodeError.OutOfMemory) }
     // `TooLong` is the answer exactly where the message does not fit; `OutOfMemory` there is the
     // reading's alone.
     ensures too_long { (m : NetlinkMessage I) → Frame I.decoding bytes.now m
         → IsTooLong I.encoding m
-        → IsErrAnd result (λ e. (e ≡ DecodeError.TooLong) ⊎ ((e ≡ DecodeError.OutOfMemory) × IsRefusal I.decoding I.wants_memory bytes.now e)) }
-    ensures refuses { IfErr result (IsNormalizeFault I.encoding I.decoding I.wants_memory bytes.now) }
+        → IsErrAnd result (SaysTooLong I.decoding I.wants_memory bytes.now) }
+    ensures refuses { IfErr result
+        (IsNormalizeFault I.encoding I.decoding I.wants_memory bytes.now) }
     // Only the answer itself is the canonical frame of a message that the answer is the frame of.
     ensures again { IfOk result
         (λ v. (n : NetlinkMessage I) → Frame I.decoding v.items n
@@ -51,9 +53,9 @@ pub fn normalize<I: NetlinkProtocol>(alloc: Global, bytes: &[u8]) -> Result<Vec<
 /// Whether the bytes are a canonical frame: what `normalize` leaves as it is. Writes no frame.
 ///
 /// What `NetlinkMessage::deserialize` refuses for another cause than want of memory is not
-/// canonical.
-/// The only error is `OutOfMemory`, and it comes only where the type is the protocol's own: memory
-/// is asked for the protocol's reading, and by `is_written_as` for a value's text of the payload's size.
+/// canonical. The only error is `OutOfMemory`, and it comes only where the type is the protocol's
+/// own: memory is asked for the protocol's reading, and by `is_written_as` for a value's text of
+/// the payload's size.
 pub fn is_canonical_frame<I: NetlinkProtocol>(
     alloc: Global,
     bytes: &[u8],

@@ -147,8 +147,10 @@ impl DoneMessage {
     /// was refused, never without bytes to copy.
     pub fn try_clone(&self, alloc: Global) -> Result<Self, DecodeError>
         ensures code { IfOk result (λ copy. copy.code ≡ self.now.code) }
-        ensures bytes { IfOk result (λ copy. copy.extended_ack.items ≡ self.now.extended_ack.items) }
-        ensures equal { IfOk result (λ copy. IsTrue (⟦<DoneMessage as PartialEq>⟧.eq copy self.now)) }
+        ensures bytes { IfOk result
+            (λ copy. copy.extended_ack.items ≡ self.now.extended_ack.items) }
+        ensures equal { IfOk result
+            (λ copy. IsTrue (⟦<DoneMessage as PartialEq>⟧.eq copy self.now)) }
         ensures memory { IfErr result (λ e. e ≡ DecodeError.OutOfMemory) }
         ensures empty { OnErr result (0 < length self.now.extended_ack.items) }
     {

@@ -7,7 +7,7 @@ ghost use Rattle.netlink_packet_core.specs.Frame.{Frame, SamePayload};
 ghost use Rattle.netlink_packet_core.specs.Header.{HeaderInRange, field, header_bytes};
 ghost use Rattle.netlink_packet_core.specs.Payload.{InnerInRange, raw_code};
 ghost use Rattle.netlink_packet_core.specs.Protocol.{IsOwnType};
-ghost use Rattle.netlink_packet_core.specs.Refusal.{IsFrameFault, IsRefusal, SameRefusal};
+ghost use Rattle.netlink_packet_core.specs.Refusal.{IsCutLater, IsCutShort, IsRefusal, SameRefusal};
 ghost use Rattle.netlink_bytes.specs.declared.error.DecodeError.{DecodeError};
 ghost use Rattle.netlink_packet_core.specs.declared.buffer.NetlinkBuffer.{NetlinkBuffer};
 ghost use Rattle.netlink_packet_core.specs.declared.done.DoneBuffer.{DoneBuffer};
@@ -123,12 +123,12 @@ pub fn reads_back<I: NetlinkProtocol>(m: &NetlinkMessage<I>, n: &NetlinkMessage<
     ensures cut { (k : ℕ) → k < length (canonical_frame I.encoding m.now) → (x : NetlinkMessage I)
         → Frame I.decoding (take k (canonical_frame I.encoding m.now)) x → ⊥ }
     ensures cut_short { (k : ℕ) → k < 16
-        → IsFrameFault true (take k (canonical_frame I.encoding m.now))
-        (DecodeError.FrameShort k true) }
+        → IsCutShort (canonical_frame I.encoding m.now) k }
     ensures cut_later { (k : ℕ) → 16 ≤ k → k < length (canonical_frame I.encoding m.now)
-        → IsFrameFault true (take k (canonical_frame I.encoding m.now)) (DecodeError.FrameCut (length (canonical_frame I.encoding m.now)) k true) }
+        → IsCutLater (canonical_frame I.encoding m.now) k }
     ensures equal { (canonical_frame I.encoding m.now ≡ canonical_frame I.encoding n.now)
-        ↔ IsTrue (⟦<NetlinkMessage<I> as PartialEq>⟧.eq (finalized I.encoding m.now) (finalized I.encoding n.now)) }
+        ↔ IsTrue (⟦<NetlinkMessage<I> as PartialEq>⟧.eq
+        (finalized I.encoding m.now) (finalized I.encoding n.now)) }
 {
     known(&m.payload);
     known(&n.payload);
@@ -154,9 +154,9 @@ pub fn cut_refused<I: NetlinkProtocol>(bytes: &[u8], cut: usize)
     ensures cut { IsCanonicalFrame I.decoding bytes.now → cut < length bytes.now
         → (m : NetlinkMessage I) → Frame I.decoding (take cut bytes.now) m → ⊥ }
     ensures cut_short { IsCanonicalFrame I.decoding bytes.now → cut < 16
-        → IsFrameFault true (take cut bytes.now) (DecodeError.FrameShort cut true) }
+        → IsCutShort bytes.now cut }
     ensures cut_later { IsCanonicalFrame I.decoding bytes.now → 16 ≤ cut → cut < length bytes.now
-        → IsFrameFault true (take cut bytes.now) (DecodeError.FrameCut (length bytes.now) cut true) }
+        → IsCutLater bytes.now cut }
     ensures beginning { IsCanonicalFrame I.decoding bytes.now → cut < length bytes.now
         → IsCanonicalFrame I.decoding (take cut bytes.now) → ⊥ }
 {}
@@ -165,7 +165,8 @@ pub fn cut_refused<I: NetlinkProtocol>(bytes: &[u8], cut: usize)
 /// the same messages.
 pub fn tail_ignored<I: NetlinkProtocol>(bytes: &[u8], more: &[u8])
     ensures ignored { 16 ≤ field 0 4 bytes.now → field 0 4 bytes.now ≤ length bytes.now
-        → (m : NetlinkMessage I) → (Frame I.decoding (bytes.now ++ more.now) m) ↔ (Frame I.decoding bytes.now m) }
+        → (m : NetlinkMessage I)
+        → (Frame I.decoding (bytes.now ++ more.now) m) ↔ (Frame I.decoding bytes.now m) }
 {}
 
 /// The frame of a message that fits is what is written of the message exactly if it is canonical,

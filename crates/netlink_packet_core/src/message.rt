@@ -159,7 +159,8 @@ impl<I: NetlinkSerializable> NetlinkMessage<I> {
         requires room { self.now.header.length ≤ length buffer.old }
         ensures text { buffer.new
             ≡ header_bytes self.now.header
-            ++ (payload_bytes I.encoding self.now.payload ++ drop self.now.header.length buffer.old) }
+            ++ (payload_bytes I.encoding self.now.payload
+            ++ drop self.now.header.length buffer.old) }
     {
         let length = self.header.length as usize;
         let (head, rest) = buffer.split_at_mut(NETLINK_HEADER_LEN);

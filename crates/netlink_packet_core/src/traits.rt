@@ -34,7 +34,8 @@ pub trait NetlinkSerializable {
     /// hand does better to copy it once.
     fn append(&self, frame: &mut Vec<u8>) -> Result<(), AllocError>
         requires fits { vec_len frame.old + length (encoding.bytes_of self.now) < 2 ^ 64 }
-        ensures text { OnOk result (frame.new.items ≡ frame.old.items ++ encoding.bytes_of self.now) }
+        ensures text { OnOk result
+            (frame.new.items ≡ frame.old.items ++ encoding.bytes_of self.now) }
         ensures room { vec_len frame.old + length (encoding.bytes_of self.now)
             ≤ vec_capacity frame.old → IsOk result }
     {

@@ -1,5 +1,6 @@
 -- What trees are written as.
 use Rattle.std.proofs.Common.{◌≡◌, ℕ, suc, ◌+◌, ◌-◌, ◌%◌, ◌≤◌, Bool, true, false, nat_lt, ◌||◌, if◌then◌else◌, List, [], ◌∷◌, ◌++◌, length, take, drop, refl, sym, ap, ◌∙◌, Ok, Err, All, arith, append-nil, append_assoc, length-append}
+use Rattle.std.proofs.lemmas.Grind.{common_steps}
 use Rattle.std.proofs.lemmas.List.Elements.{All-nil, All-cons, All-head, All-tail, All-contains}
 use Rattle.std.specs.Prelude.{replicate}
 use Rattle.netlink_packet_core.specs.Attribute.{Attribute, FitsAttribute, attribute_bytes, padded, padding, value_max}
@@ -21,7 +22,7 @@ short : (v : List ℕ) → is_long v ≡ false → length v ≤ value_max
 short v e = grind arith
 
 -- what a proof of a size needs
-pub ruleset text_sizes = (length-canonical_block)
+pub ruleset text_sizes = (common_steps, length-canonical_block)
 
 -- ---- a nest whose size is counted once its inside is there
 

@@ -1,11 +1,12 @@
 -- Trees written as bytes.
-use Rattle.std.specs.Prelude.{ℕ, ◌≡◌, Bool, true, false, ◌||◌, nat_lt, if◌then◌else◌, List, [], ◌∷◌, length, Contains, Result, Ok, Err}
+use Rattle.std.specs.Prelude.{ℕ, ◌≡◌, ◌⊎◌, Bool, true, false, ◌||◌, nat_lt, if◌then◌else◌, List, [], ◌∷◌, length, Contains, Result, Ok, Err}
 use Rattle.netlink_packet_core.specs.Attribute.{Attribute, value_max}
 use Rattle.netlink_packet_core.specs.Block.{canonical_block, IsBlockOf}
+use Rattle.netlink_packet_core.specs.DecodeError.TheVariants.{OutOfMemory}
 use Rattle.netlink_packet_core.specs.Views.{is_nested}
 use Rattle.netlink_tree.specs.Tree.{Tree, leaf, nest, Forest, no_trees, grow, levels}
 use Rattle.netlink_tree.specs.declared.fault.TreeFault.{TreeFault}
-use Rattle.netlink_tree.specs.declared.fault.TreeFault.TheVariants.{TooDeep, TooLong}
+use Rattle.netlink_tree.specs.declared.fault.TreeFault.TheVariants.{TooDeep, TooLong, Decode}
 
 abbrev mutual
   -- the attribute that a tree is written as: the value of a nest is the block of what is inside
@@ -41,6 +42,12 @@ abbrev pub writing : Forest → Result (List ℕ) TreeFault
 writing ts =
     if nat_lt 16 (levels ts) then Err TooDeep else if are_too_long ts then Err TooLong else Ok
     (tree_bytes ts)
+
+-- why trees are not written: for what the writing comes to, or for want of memory where it comes to
+-- a block
+abbrev pub IsWriteFault : Forest → TreeFault → Type 0
+IsWriteFault ts e =
+    (writing ts ≡ Err e) ⊎ ((e ≡ Decode OutOfMemory) × (writing ts ≡ Ok (tree_bytes ts)))
 
 -- a canonical block, and so is the value of each of its attributes with the bit of nested
 -- attributes, at every depth

@@ -60,7 +60,8 @@ fn read_attribute(alloc: Global, nla: NlaBuffer<&[u8]>, levels: usize) -> Result
     requires { HoldsAttribute (shown nla) }
     ensures { MatchResult result
         (λ t. IsRead (Trees levels) (attribute_of (shown nla.entry)) (Ok (view t)))
-        (λ e. (e ≡ TreeFault.Decode DecodeError.OutOfMemory) ⊎ IsRead (Trees levels) (attribute_of (shown nla.entry)) (Err e)) }
+        (λ e. (e ≡ TreeFault.Decode DecodeError.OutOfMemory)
+        ⊎ IsRead (Trees levels) (attribute_of (shown nla.entry)) (Err e)) }
 {
     let kind = nla.raw_kind();
     if nla.nested_flag() {

@@ -1,6 +1,6 @@
 //! Trees written as bytes.
 
-ghost use Rattle.std.specs.Prelude.{◌≡◌, ◌+◌, ◌-◌, ◌≤◌, ◌⊎◌, ◌++◌, ◌||◌, [], true, false, Ok, Err, MatchResult, MatchOption, OnOk, IfOk, IfErr, IsOk, min, nat_lt, length};
+ghost use Rattle.std.specs.Prelude.{◌≡◌, ◌+◌, ◌-◌, ◌≤◌, ◌++◌, ◌||◌, [], true, false, Ok, MatchResult, MatchOption, OnOk, IfOk, IfErr, IsOk, min, nat_lt, length};
 ghost use Rattle.netlink_packet_core.specs.Attribute.{padded, value_max};
 ghost use Rattle.netlink_packet_core.specs.Nla.{attribute_with};
 ghost use Rattle.netlink_packet_core.specs.DecodeError.{DecodeError};
@@ -8,7 +8,7 @@ ghost use Rattle.netlink_packet_core.specs.Numbers.{bytes_le};
 ghost use Rattle.netlink_packet_core.specs.Storage.{put_at};
 ghost use Rattle.netlink_tree.specs.Tree.{view, views, levels, AreWellFormed, TreesInRange};
 ghost use Rattle.netlink_tree.specs.Reading.{Trees};
-ghost use Rattle.netlink_tree.specs.Writing.{written, tree_bytes, is_long, is_too_long, are_too_long, writing, IsCanonicalDeep};
+ghost use Rattle.netlink_tree.specs.Writing.{written, tree_bytes, is_long, is_too_long, are_too_long, writing, IsCanonicalDeep, IsWriteFault};
 
 use crate::fault::TreeFault;
 use crate::tree::{GREATEST_DEPTH, NlaTree};
@@ -28,8 +28,7 @@ pub fn write_tree(alloc: Global, trees: &[NlaTree]) -> Result<Vec<u8>, TreeFault
     requires formed { AreWellFormed (views trees.now) }
     ensures text { MatchResult result
         (λ v. writing (views trees.now) ≡ Ok v.items)
-        (λ e. (writing (views trees.now) ≡ Err e)
-        ⊎ ((e ≡ TreeFault.Decode DecodeError.OutOfMemory) × (writing (views trees.now) ≡ Ok (tree_bytes (views trees.now))))) }
+        (IsWriteFault (views trees.now)) }
     ensures reads_back { IfOk result (λ v. Trees 16 v.items (Ok (views trees.now))) }
     ensures canonical { IfOk result (λ v. IsCanonicalDeep v.items) }
     ensures empty { trees.now ≡ [] → IsOk result }
@@ -65,11 +64,12 @@ fn is_too_deep(trees: &[NlaTree], limit: usize) -> bool
 
 /// The size of the text of trees, or the greatest number below it that there is; none where a
 /// value, or the text inside a nest, is too long.
-#[tactic(auto, using(std::proofs::lemmas::Grind::common_steps, crate::proofs::TreeWriting::text_sizes))]
+#[tactic(auto, using(crate::proofs::TreeWriting::text_sizes))]
 fn whole_size(trees: &[NlaTree]) -> Option<usize>
     ensures { MatchOption result
         (are_too_long (views trees.now) ≡ true)
-        (λ n. (are_too_long (views trees.now) ≡ false) × (n ≡ min (length (tree_bytes (views trees.now))) usize.MAX)) }
+        (λ n. (are_too_long (views trees.now) ≡ false)
+        × (n ≡ min (length (tree_bytes (views trees.now))) usize.MAX)) }
 {
     let mut size: usize = 0;
     for tree in trees {
@@ -83,7 +83,8 @@ fn whole_size(trees: &[NlaTree]) -> Option<usize>
 fn value_size(tree: &NlaTree) -> Option<usize>
     ensures { MatchOption result
         (is_too_long (view tree.now) ≡ true)
-        (λ n. (is_too_long (view tree.now) ≡ false) × (n ≤ value_max) × (n ≡ length (written (view tree.now)).value)) }
+        (λ n. (is_too_long (view tree.now) ≡ false) × (n ≤ value_max)
+        × (n ≡ length (written (view tree.now)).value)) }
 {
     match tree {
         NlaTree::Leaf { value, .. } => (value.len() <= NLA_VALUE_MAX).then_some(value.len()),
@@ -92,12 +93,13 @@ fn value_size(tree: &NlaTree) -> Option<usize>
 }
 
 /// The size of the text of trees inside a nest; none where it or a value in it is too long.
-#[tactic(auto, using(std::proofs::lemmas::Grind::common_steps, crate::proofs::TreeWriting::text_sizes))]
+#[tactic(auto, using(crate::proofs::TreeWriting::text_sizes))]
 #[cycle(sizes)]
 fn text_size(trees: &[NlaTree]) -> Option<usize>
     ensures { MatchOption result
         (are_too_long (views trees.now) || is_long (tree_bytes (views trees.now)) ≡ true)
-        (λ n. (are_too_long (views trees.now) ≡ false) × (n ≤ value_max) × (n ≡ length (tree_bytes (views trees.now)))) }
+        (λ n. (are_too_long (views trees.now) ≡ false) × (n ≤ value_max)
+        × (n ≡ length (tree_bytes (views trees.now)))) }
 {
     let mut size = 0;
     for tree in trees {

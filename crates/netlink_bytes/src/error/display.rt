@@ -20,7 +20,8 @@ impl fmt::Display for DecodeError {
                 minimum_length,
             } => write!(
                 f,
-                "Invalid buffer {name}. Expected at least {minimum_length} bytes, received {received} bytes"
+                "Invalid buffer {name}. Expected at least {minimum_length} bytes, \
+                 received {received} bytes"
             ),
             DecodeError::InvalidMacAddress { received } => write!(
                 f,
@@ -66,7 +67,8 @@ impl fmt::Display for DecodeError {
                 f.write_str(frame_line(*inside))?;
                 write!(
                     f,
-                    "invalid netlink buffer length caused by invalid netlink buffer: length is {size} but netlink packets are at least 16 bytes"
+                    "invalid netlink buffer length caused by invalid netlink buffer: \
+                     length is {size} but netlink packets are at least 16 bytes"
                 )
             }
             DecodeError::FrameCut {
@@ -77,28 +79,32 @@ impl fmt::Display for DecodeError {
                 f.write_str(frame_line(*inside))?;
                 write!(
                     f,
-                    "invalid netlink buffer length caused by invalid netlink buffer: length field says {length} the buffer is {size} bytes long"
+                    "invalid netlink buffer length caused by invalid netlink buffer: \
+                     length field says {length} the buffer is {size} bytes long"
                 )
             }
             DecodeError::FrameLength { length, inside } => {
                 f.write_str(frame_line(*inside))?;
                 write!(
                     f,
-                    "invalid netlink buffer length caused by invalid netlink buffer: length field says {length} but netlink packets are at least 16 bytes"
+                    "invalid netlink buffer length caused by invalid netlink buffer: \
+                     length field says {length} but netlink packets are at least 16 bytes"
                 )
             }
             DecodeError::DoneShort { size, inside } => {
                 f.write_str(done_line(*inside))?;
                 write!(
                     f,
-                    "invalid DoneBuffer length caused by invalid DoneBuffer: length is {size} but DoneBuffer are at least 4 bytes"
+                    "invalid DoneBuffer length caused by invalid DoneBuffer: \
+                     length is {size} but DoneBuffer are at least 4 bytes"
                 )
             }
             DecodeError::ErrorShort { size, inside } => {
                 f.write_str(error_line(*inside))?;
                 write!(
                     f,
-                    "invalid ErrorBuffer length caused by invalid ErrorBuffer: length is {size} but ErrorBuffer are at least 4 bytes"
+                    "invalid ErrorBuffer length caused by invalid ErrorBuffer: \
+                     length is {size} but ErrorBuffer are at least 4 bytes"
                 )
             }
             DecodeError::Message(text) => f.write_str(text.as_str()),

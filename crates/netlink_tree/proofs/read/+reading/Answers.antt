@@ -42,7 +42,8 @@ read_block-loop-item-preserved t c =
     let done = c.loop-item.invariant in
     let bytes : List ℕ = unread c.loop-item.item-iterator in
     let first : IsRead (Trees (c.args.levels - 1)) (attribute_of bytes) (Ok (view c.in_ok-tree.tree)) =
-    subst (λ (b : List ℕ). IsRead (Trees (c.args.levels - 1)) (attribute_of b) (Ok (view c.in_ok-tree.tree))) step.0 c.in_ok-tree.ensures in (
+    subst (λ (b : List ℕ). IsRead (Trees (c.args.levels - 1)) (attribute_of b) (Ok (view c.in_ok-tree.tree))) step.0
+    c.in_ok-tree.ensures in (
       done.0 ++ (attribute_of bytes ∷ []),
       passes_push _ done.0 _ _ _ done.1 step.2,
       subst (λ (ts : Forest). AreRead (Trees (c.args.levels - 1)) (done.0 ++ (attribute_of bytes ∷ [])) ts)
