@@ -9,7 +9,9 @@ ghost use Rattle.netlink_attributes.specs.contracts.buffer.NlaBuffer.{the_row};
 ghost use Rattle.netlink_attributes.specs.Views.{length_field, raw_kind, masked, nested, network_byteorder, with_length, with_kind, is_nested, is_network_byteorder, attribute_of, storage_of, view_over, shown, HoldsAttribute};
 ghost use Rattle.netlink_attributes.specs.Walk.{IsFault};
 
-use crate::constants::{NLA_F_NESTED, NLA_F_NET_BYTEORDER, NLA_HEADER_SIZE, NLA_TYPE_MASK};
+use crate::constants::{
+    KIND, LENGTH, NLA_F_NESTED, NLA_F_NET_BYTEORDER, NLA_HEADER_SIZE, NLA_TYPE_MASK,
+};
 use netlink_bytes::{DecodeError, Storage, StorageMut, put_u16, u16_at};
 
 /// The bytes of an attribute (`struct nlattr` of linux/netlink.h), looked at in place.
@@ -97,7 +99,7 @@ impl<T: Storage> NlaBuffer<T> {
         requires field { 2 ≤ length (T.contents (storage_of self.now)) }
         ensures number { result ≡ length_field (T.contents (storage_of self.now)) }
     {
-        u16_at(self.buffer.bytes(), 0)
+        u16_at(self.buffer.bytes(), LENGTH)
     }
 
     /// The kind with its two flag bits, as it stands in the field (`nla_type`). The storage has at
@@ -107,7 +109,7 @@ impl<T: Storage> NlaBuffer<T> {
         requires field { 4 ≤ length (T.contents (storage_of self.now)) }
         ensures number { result ≡ raw_kind (T.contents (storage_of self.now)) }
     {
-        u16_at(self.buffer.bytes(), 2)
+        u16_at(self.buffer.bytes(), KIND)
     }
 
     /// The kind without its two flag bits. The storage has at least 4 bytes.
@@ -160,7 +162,7 @@ impl<T: StorageMut> NlaBuffer<T> {
             ≡ T.with_contents (storage_of self.old)
             (with_length (T.contents (storage_of self.old)) value) }
     {
-        put_u16(self.buffer.bytes_mut(), 0, value);
+        put_u16(self.buffer.bytes_mut(), LENGTH, value);
     }
 
     /// Sets the kind without its flag bits, so that both are cleared, and no byte outside the kind
@@ -222,7 +224,7 @@ impl<T: StorageMut> NlaBuffer<T> {
             ≡ T.with_contents (storage_of self.old)
             (with_kind (T.contents (storage_of self.old)) kind) }
     {
-        put_u16(self.buffer.bytes_mut(), 2, kind);
+        put_u16(self.buffer.bytes_mut(), KIND, kind);
     }
 
     /// The value, lent for writing: the bytes from 4 up to the length. The storage holds a whole
@@ -283,7 +285,7 @@ pub(crate) fn checked_length(bytes: &[u8]) -> Result<u16, DecodeError>
             nla_len: NLA_HEADER_SIZE,
         });
     }
-    let length = u16_at(bytes, 0);
+    let length = u16_at(bytes, LENGTH);
     if length as usize > size {
         return Err(DecodeError::NlaLengthMismatch {
             buffer_len: size,

@@ -16,5 +16,11 @@ pub const NLA_ALIGNTO: usize = 4;
 /// kind of 16 bits each.
 pub const NLA_HEADER_SIZE: usize = 4;
 
+/// Where the length field of an attribute starts, in bytes.
+pub(crate) const LENGTH: usize = 0;
+
+/// Where its kind starts.
+pub(crate) const KIND: usize = 2;
+
 /// The most bytes of a value: the length field counts the header too, and ends with `u16::MAX`.
 pub const NLA_VALUE_MAX: usize = 65531;

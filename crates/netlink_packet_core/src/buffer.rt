@@ -8,7 +8,9 @@ ghost use Rattle.netlink_bytes.specs.Storage.{put_at};
 ghost use Rattle.netlink_packet_core.specs.Header.{field, header_of, payload_of, HoldsFrame, IsHeader};
 ghost use Rattle.netlink_packet_core.specs.Refusal.{IsFrameFault};
 
-use crate::constants::NETLINK_HEADER_LEN;
+use crate::constants::{
+    FLAGS, LENGTH, MESSAGE_TYPE, NETLINK_HEADER_LEN, PORT_NUMBER, SEQUENCE_NUMBER,
+};
 use crate::header::NetlinkHeader;
 use netlink_bytes::{DecodeError, Storage, StorageMut, put_u16, put_u32, u16_at, u32_at};
 
@@ -51,7 +53,7 @@ impl<T: Storage> NetlinkBuffer<T> {
         requires field { 4 ≤ length (T.contents self.now.buffer) }
         ensures number { result ≡ field 0 4 (T.contents self.now.buffer) }
     {
-        u32_at(self.buffer.bytes(), 0)
+        u32_at(self.buffer.bytes(), LENGTH)
     }
 
     /// The message type. The storage has to hold 6 bytes at least.
@@ -60,7 +62,7 @@ impl<T: Storage> NetlinkBuffer<T> {
         requires field { 6 ≤ length (T.contents self.now.buffer) }
         ensures number { result ≡ field 4 2 (T.contents self.now.buffer) }
     {
-        u16_at(self.buffer.bytes(), 4)
+        u16_at(self.buffer.bytes(), MESSAGE_TYPE)
     }
 
     /// The flags. The storage has to hold 8 bytes at least.
@@ -69,7 +71,7 @@ impl<T: Storage> NetlinkBuffer<T> {
         requires field { 8 ≤ length (T.contents self.now.buffer) }
         ensures number { result ≡ field 6 2 (T.contents self.now.buffer) }
     {
-        u16_at(self.buffer.bytes(), 6)
+        u16_at(self.buffer.bytes(), FLAGS)
     }
 
     /// The sequence number. The storage has to hold 12 bytes at least.
@@ -78,7 +80,7 @@ impl<T: Storage> NetlinkBuffer<T> {
         requires field { 12 ≤ length (T.contents self.now.buffer) }
         ensures number { result ≡ field 8 4 (T.contents self.now.buffer) }
     {
-        u32_at(self.buffer.bytes(), 8)
+        u32_at(self.buffer.bytes(), SEQUENCE_NUMBER)
     }
 
     /// The port number. The storage has to hold 16 bytes at least.
@@ -87,7 +89,7 @@ impl<T: Storage> NetlinkBuffer<T> {
         requires field { 16 ≤ length (T.contents self.now.buffer) }
         ensures number { result ≡ field 12 4 (T.contents self.now.buffer) }
     {
-        u32_at(self.buffer.bytes(), 12)
+        u32_at(self.buffer.bytes(), PORT_NUMBER)
     }
 
     /// The size of the payload in bytes, by the length field, also where that exceeds the storage.
@@ -128,7 +130,7 @@ impl<T: StorageMut> NetlinkBuffer<T> {
         ensures same_storage { self.new.buffer ≡ T.with_contents self.old.buffer
             (put_at (T.contents self.old.buffer) 0 (bytes_le value 4)) }
     {
-        put_u32(self.buffer.bytes_mut(), 0, value);
+        put_u32(self.buffer.bytes_mut(), LENGTH, value);
     }
 
     /// Sets the message type, and changes nothing else. The storage has to hold 6 bytes at least.
@@ -140,7 +142,7 @@ impl<T: StorageMut> NetlinkBuffer<T> {
         ensures same_storage { self.new.buffer ≡ T.with_contents self.old.buffer
             (put_at (T.contents self.old.buffer) 4 (bytes_le value 2)) }
     {
-        put_u16(self.buffer.bytes_mut(), 4, value);
+        put_u16(self.buffer.bytes_mut(), MESSAGE_TYPE, value);
     }
 
     /// Sets the flags, and changes nothing else. The storage has to hold 8 bytes at least.
@@ -152,7 +154,7 @@ impl<T: StorageMut> NetlinkBuffer<T> {
         ensures same_storage { self.new.buffer ≡ T.with_contents self.old.buffer
             (put_at (T.contents self.old.buffer) 6 (bytes_le value 2)) }
     {
-        put_u16(self.buffer.bytes_mut(), 6, value);
+        put_u16(self.buffer.bytes_mut(), FLAGS, value);
     }
 
     /// Sets the sequence number, and changes nothing else. The storage has to hold 12 bytes at
@@ -165,7 +167,7 @@ impl<T: StorageMut> NetlinkBuffer<T> {
         ensures same_storage { self.new.buffer ≡ T.with_contents self.old.buffer
             (put_at (T.contents self.old.buffer) 8 (bytes_le value 4)) }
     {
-        put_u32(self.buffer.bytes_mut(), 8, value);
+        put_u32(self.buffer.bytes_mut(), SEQUENCE_NUMBER, value);
     }
 
     /// Sets the port number, and changes nothing else. The storage has to hold 16 bytes at least.
@@ -177,7 +179,7 @@ impl<T: StorageMut> NetlinkBuffer<T> {
         ensures same_storage { self.new.buffer ≡ T.with_contents self.old.buffer
             (put_at (T.contents self.old.buffer) 12 (bytes_le value 4)) }
     {
-        put_u32(self.buffer.bytes_mut(), 12, value);
+        put_u32(self.buffer.bytes_mut(), PORT_NUMBER, value);
     }
 
     /// The payload, lent for writing: the bytes from 16 up to the length become what is written,
@@ -235,7 +237,7 @@ pub(crate) fn check_frame(bytes: &[u8], inside: bool) -> Result<(), DecodeError>
     if size < NETLINK_HEADER_LEN {
         return Err(DecodeError::FrameShort { size, inside });
     }
-    let length = u32_at(bytes, 0);
+    let length = u32_at(bytes, LENGTH);
     if length as usize > size {
         return Err(DecodeError::FrameCut {
             length,

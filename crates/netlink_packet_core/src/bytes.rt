@@ -4,6 +4,7 @@ ghost use Rattle.std.specs.Prelude.{◌≡◌, ◌+◌, ◌≤◌, ◌++◌, len
 ghost use Rattle.netlink_packet_core.specs.Payload.{code_bytes};
 ghost use Rattle.netlink_packet_core.specs.Frame.{IsCodeAndRest};
 
+use crate::constants::{CODE, CODE_SIZE};
 use netlink_bytes::{i32_at, put_i32};
 use std::alloc::AllocError;
 
@@ -13,7 +14,7 @@ pub(crate) fn split_code(payload: &[u8]) -> (i32, &[u8])
     ensures parts { IsCodeAndRest payload.now result.0 result.1.now }
     ensures size { length payload.now ≡ 4 + length result.1.now }
 {
-    (i32_at(payload, 0), &payload[4..])
+    (i32_at(payload, CODE), &payload[CODE_SIZE..])
 }
 
 /// Writes a code and what stands behind it.
@@ -22,8 +23,8 @@ pub(crate) fn put_code(buffer: &mut [u8], code: i32, rest: &[u8])
     requires { length buffer.old ≡ 4 + length rest.now }
     ensures { buffer.new ≡ code_bytes code ++ rest.now }
 {
-    put_i32(buffer, 0, code);
-    buffer[4..].copy_from_slice(rest);
+    put_i32(buffer, CODE, code);
+    buffer[CODE_SIZE..].copy_from_slice(rest);
 }
 
 /// Adds a code and what stands behind it at the end of a frame.
@@ -31,8 +32,8 @@ pub(crate) fn put_code(buffer: &mut [u8], code: i32, rest: &[u8])
 pub(crate) fn append_code(frame: &mut Vec<u8>, code: i32, rest: &[u8]) -> Result<(), AllocError>
     ensures { OnOk result (frame.new.items ≡ frame.old.items ++ (code_bytes code ++ rest.now)) }
 {
-    let mut front = [0; 4];
-    put_i32(&mut front, 0, code);
+    let mut front = [0; CODE_SIZE];
+    put_i32(&mut front, CODE, code);
     frame.extend_from_slice(&front)?;
     frame.extend_from_slice(rest)
 }

@@ -9,7 +9,9 @@ ghost use Rattle.netlink_packet_core.specs.Refusal.{AsksNoMemory};
 ghost use Rattle.netlink_packet_core.specs.declared.message.NetlinkMessage.{NetlinkMessage};
 
 use crate::buffer::read_header;
-use crate::constants::{NETLINK_HEADER_LEN, NLMSG_DONE, NLMSG_ERROR, NLMSG_NOOP, NLMSG_OVERRUN};
+use crate::constants::{
+    CODE_SIZE, NETLINK_HEADER_LEN, NLMSG_DONE, NLMSG_ERROR, NLMSG_NOOP, NLMSG_OVERRUN,
+};
 use crate::header::NetlinkHeader;
 use crate::message::NetlinkMessage;
 use crate::traits::NetlinkProtocol;
@@ -76,7 +78,7 @@ pub fn is_canonical_frame<I: NetlinkProtocol>(
     let payload = &bytes[NETLINK_HEADER_LEN..];
     match header.message_type {
         NLMSG_NOOP => Ok(payload.is_empty()),
-        NLMSG_ERROR | NLMSG_DONE => Ok(payload.len() >= 4),
+        NLMSG_ERROR | NLMSG_DONE => Ok(payload.len() >= CODE_SIZE),
         NLMSG_OVERRUN => Ok(true),
         _ => reads_as_itself::<I>(alloc, &header, payload),
     }

@@ -5,6 +5,27 @@ ghost use Rattle.std.specs.Prelude.{◌≡◌, ◌+◌, ◌-◌, ◌%◌, ◌<�
 /// The size of a message's header in bytes (`NLMSG_HDRLEN`).
 pub const NETLINK_HEADER_LEN: usize = 16;
 
+/// Where the length field of a message starts, in bytes.
+pub(crate) const LENGTH: usize = 0;
+
+/// Where its type starts.
+pub(crate) const MESSAGE_TYPE: usize = 4;
+
+/// Where its flags start.
+pub(crate) const FLAGS: usize = 6;
+
+/// Where its sequence number starts.
+pub(crate) const SEQUENCE_NUMBER: usize = 8;
+
+/// Where its port number starts.
+pub(crate) const PORT_NUMBER: usize = 12;
+
+/// Where the code of a done or error message starts in the payload.
+pub(crate) const CODE: usize = 0;
+
+/// The size of that code in bytes. What stands behind it starts there.
+pub(crate) const CODE_SIZE: usize = 4;
+
 /// Message type: the message is ignored.
 pub const NLMSG_NOOP: u16 = 1;
 

@@ -9,6 +9,7 @@ ghost use Rattle.netlink_packet_core.specs.Header.{field};
 ghost use Rattle.netlink_packet_core.specs.Payload.{code_bytes};
 
 use crate::bytes::{put_code, split_code};
+use crate::constants::{CODE, CODE_SIZE};
 use netlink_bytes::{
     DecodeError, Emitable, Parseable, Storage, StorageMut, copy_of, i32_at, put_i32,
 };
@@ -41,7 +42,7 @@ impl<T: Storage> DoneBuffer<T> {
             × (e ≡ DecodeError.DoneShort (length (T.contents buffer)) false)) }
     {
         let size = buffer.bytes().len();
-        if size < 4 {
+        if size < CODE_SIZE {
             return Err(DecodeError::DoneShort {
                 size,
                 inside: false,
@@ -73,7 +74,7 @@ impl<T: Storage> DoneBuffer<T> {
         requires field { 4 ≤ length (T.contents self.now.buffer) }
         ensures number { result ≡ signed 4 (field 0 4 (T.contents self.now.buffer)) }
     {
-        i32_at(self.buffer.bytes(), 0)
+        i32_at(self.buffer.bytes(), CODE)
     }
 }
 
@@ -85,7 +86,7 @@ impl<'a> DoneBuffer<&'a [u8]> {
         requires field { 4 ≤ length self.now.buffer.now }
         ensures bytes { result.now ≡ drop 4 self.now.buffer.now }
     {
-        &self.buffer[4..]
+        &self.buffer[CODE_SIZE..]
     }
 }
 
@@ -99,7 +100,7 @@ impl<T: StorageMut> DoneBuffer<T> {
         ensures same_storage { self.new.buffer ≡ T.with_contents self.old.buffer
             (put_at (T.contents self.old.buffer) 0 (code_bytes code)) }
     {
-        put_i32(self.buffer.bytes_mut(), 0, code);
+        put_i32(self.buffer.bytes_mut(), CODE, code);
     }
 
     /// The bytes behind the code, lent for writing; no others change. The storage has to hold 4
@@ -114,7 +115,7 @@ impl<T: StorageMut> DoneBuffer<T> {
         ensures value { result.now ≡ drop 4 (T.contents self.old.buffer) }
     {
         let end = self.buffer.bytes().len();
-        self.buffer.part_mut(4, end)
+        self.buffer.part_mut(CODE_SIZE, end)
     }
 }
 
@@ -169,7 +170,7 @@ impl DoneMessage {
         if size == 0 {
             return Ok(DoneMessage::empty(alloc));
         }
-        if size < 4 {
+        if size < CODE_SIZE {
             return Err(DecodeError::DoneShort { size, inside: true });
         }
         DoneMessage::of_code_and_rest(alloc, payload)
@@ -200,7 +201,7 @@ impl Emitable for DoneMessage {
     /// 4 plus the number of bytes behind the code.
     #[tactic(auto, using(crate::specs::Sizes::text_sizes))]
     fn buffer_len(&self) -> usize {
-        4 + self.extended_ack.len()
+        CODE_SIZE + self.extended_ack.len()
     }
 
     /// Fills a buffer of exactly `buffer_len` bytes with the code and the bytes.

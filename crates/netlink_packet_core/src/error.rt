@@ -10,6 +10,7 @@ ghost use Rattle.netlink_packet_core.specs.Header.{field};
 ghost use Rattle.netlink_packet_core.specs.Payload.{code_bytes, errno_text, raw_code};
 
 use crate::bytes::{put_code, split_code};
+use crate::constants::{CODE, CODE_SIZE};
 use netlink_bytes::{
     DecodeError, Emitable, NonZeroI32, Parseable, Storage, StorageMut, copy_of, i32_at, put_i32,
 };
@@ -43,7 +44,7 @@ impl<T: Storage> ErrorBuffer<T> {
             × (e ≡ DecodeError.ErrorShort (length (T.contents buffer)) false)) }
     {
         let size = buffer.bytes().len();
-        if size < 4 {
+        if size < CODE_SIZE {
             return Err(DecodeError::ErrorShort {
                 size,
                 inside: false,
@@ -77,7 +78,7 @@ impl<T: Storage> ErrorBuffer<T> {
             (signed 4 (field 0 4 (T.contents self.now.buffer)) ≡ pos 0)
             (λ code. number_of code ≡ signed 4 (field 0 4 (T.contents self.now.buffer))) }
     {
-        NonZeroI32::new(i32_at(self.buffer.bytes(), 0))
+        NonZeroI32::new(i32_at(self.buffer.bytes(), CODE))
     }
 }
 
@@ -90,7 +91,7 @@ impl<'a> ErrorBuffer<&'a [u8]> {
         requires field { 4 ≤ length self.now.buffer.now }
         ensures bytes { result.now ≡ drop 4 self.now.buffer.now }
     {
-        &self.buffer[4..]
+        &self.buffer[CODE_SIZE..]
     }
 }
 
@@ -104,7 +105,7 @@ impl<T: StorageMut> ErrorBuffer<T> {
         ensures same_storage { self.new.buffer ≡ T.with_contents self.old.buffer
             (put_at (T.contents self.old.buffer) 0 (code_bytes code)) }
     {
-        put_i32(self.buffer.bytes_mut(), 0, code);
+        put_i32(self.buffer.bytes_mut(), CODE, code);
     }
 
     /// The bytes behind the code: the header of the message that is answered, and what follows it,
@@ -119,7 +120,7 @@ impl<T: StorageMut> ErrorBuffer<T> {
         ensures value { result.now ≡ drop 4 (T.contents self.old.buffer) }
     {
         let end = self.buffer.bytes().len();
-        self.buffer.part_mut(4, end)
+        self.buffer.part_mut(CODE_SIZE, end)
     }
 }
 
@@ -188,7 +189,7 @@ impl ErrorMessage {
         ensures err { IfErr result (IsErrorFault payload.now) }
     {
         let size = payload.len();
-        if size < 4 {
+        if size < CODE_SIZE {
             return Err(DecodeError::ErrorShort { size, inside: true });
         }
         ErrorMessage::of_code_and_rest(alloc, payload)
@@ -231,7 +232,7 @@ impl Emitable for ErrorMessage {
     /// 4 plus the number of bytes behind the code.
     #[tactic(auto, using(crate::specs::Sizes::text_sizes))]
     fn buffer_len(&self) -> usize {
-        4 + self.header.len()
+        CODE_SIZE + self.header.len()
     }
 
     /// Fills a buffer of exactly `buffer_len` bytes with the code and the bytes.

@@ -3,7 +3,9 @@
 ghost use Rattle.std.specs.Prelude.{◌≡◌, ◌≤◌, length, true};
 
 use crate::buffer::{NetlinkBuffer, read_header};
-use crate::constants::NETLINK_HEADER_LEN;
+use crate::constants::{
+    FLAGS, LENGTH, MESSAGE_TYPE, NETLINK_HEADER_LEN, PORT_NUMBER, SEQUENCE_NUMBER,
+};
 use netlink_bytes::{DecodeError, Emitable, Parseable, put_u16, put_u32};
 use std::alloc::Global;
 
@@ -42,11 +44,11 @@ impl NetlinkHeader {
         requires { length buffer.old ≡ 16 }
         ensures { buffer.new ≡ header_bytes self.now }
     {
-        put_u32(buffer, 0, self.length);
-        put_u16(buffer, 4, self.message_type);
-        put_u16(buffer, 6, self.flags);
-        put_u32(buffer, 8, self.sequence_number);
-        put_u32(buffer, 12, self.port_number);
+        put_u32(buffer, LENGTH, self.length);
+        put_u16(buffer, MESSAGE_TYPE, self.message_type);
+        put_u16(buffer, FLAGS, self.flags);
+        put_u32(buffer, SEQUENCE_NUMBER, self.sequence_number);
+        put_u32(buffer, PORT_NUMBER, self.port_number);
     }
 
     /// The five fields as they are written.

@@ -6,7 +6,7 @@ ghost use Rattle.netlink_packet_core.specs.Payload.{PayloadInRange, payload_byte
 ghost use Rattle.netlink_packet_core.specs.Refusal.{IsBodyFault, IsInnerFault, refusal_text};
 
 use crate::bytes::{append_code, put_code};
-use crate::constants::{NLMSG_DONE, NLMSG_ERROR, NLMSG_NOOP, NLMSG_OVERRUN};
+use crate::constants::{CODE_SIZE, NLMSG_DONE, NLMSG_ERROR, NLMSG_NOOP, NLMSG_OVERRUN};
 use crate::done::DoneMessage;
 use crate::error::ErrorMessage;
 use crate::header::NetlinkHeader;
@@ -53,8 +53,8 @@ impl<I: NetlinkSerializable> NetlinkPayload<I> {
         ensures { result ≡ length (payload_bytes I.encoding self.now) }
     {
         match self {
-            NetlinkPayload::Done(message) => 4 + message.extended_ack.len(),
-            NetlinkPayload::Error(message) => 4 + message.header.len(),
+            NetlinkPayload::Done(message) => CODE_SIZE + message.extended_ack.len(),
+            NetlinkPayload::Error(message) => CODE_SIZE + message.header.len(),
             NetlinkPayload::Noop => 0,
             NetlinkPayload::Overrun(bytes) => bytes.len(),
             NetlinkPayload::InnerMessage(message) => message.buffer_len(),
@@ -67,8 +67,8 @@ impl<I: NetlinkSerializable> NetlinkPayload<I> {
         ensures { IsTrue result ↔ (length (payload_bytes I.encoding self.now) ≤ limit) }
     {
         match self {
-            NetlinkPayload::Done(message) => 4 + message.extended_ack.len() <= limit,
-            NetlinkPayload::Error(message) => 4 + message.header.len() <= limit,
+            NetlinkPayload::Done(message) => CODE_SIZE + message.extended_ack.len() <= limit,
+            NetlinkPayload::Error(message) => CODE_SIZE + message.header.len() <= limit,
             NetlinkPayload::Noop => true,
             NetlinkPayload::Overrun(bytes) => bytes.len() <= limit,
             NetlinkPayload::InnerMessage(message) => message.buffer_len() <= limit,
