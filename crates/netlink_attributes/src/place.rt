@@ -10,6 +10,9 @@ ghost use Rattle.netlink_attributes.specs.Walk.{Walk};
 use crate::constants::NLA_HEADER_SIZE;
 use crate::iterator::NlasIterator;
 
+/// The range of a value that is not there: its start is behind its end.
+const NO_RANGE: (usize, usize) = (1, 0);
+
 /// Where the value of the attribute with this index starts and ends, in bytes from the block's
 /// start.
 ///
@@ -82,7 +85,8 @@ pub fn nlas_value_mut(block: &mut [u8], index: usize) -> Option<&mut [u8]>
     Some(&mut block[start..end])
 }
 
-/// Where the value of the attribute with this index starts and ends, and the block itself.
+/// Where the value of the attribute with this index starts and ends, and the block itself: a lent
+/// block is proved by hand, which is short for two numbers and long for an `Option`.
 fn ranged(block: &mut [u8], index: usize) -> (usize, usize, &mut [u8])
     ensures same { result.2.ghost_name ≡ block.entry.ghost_name }
     ensures bytes { result.2.now ≡ block.old }
@@ -93,10 +97,10 @@ fn ranged(block: &mut [u8], index: usize) -> (usize, usize, &mut [u8])
     (start, end, block)
 }
 
-/// Where that value starts and ends; without such an attribute the start is behind the end.
+/// Where that value starts and ends; without such an attribute it is `NO_RANGE`.
 fn value_range(block: &[u8], index: usize) -> (usize, usize)
     ensures range { IsRange block.now index result.0 result.1 }
     ensures inside { result.1 ≤ length block.now }
 {
-    nla_place(block, index).unwrap_or((1, 0))
+    nla_place(block, index).unwrap_or(NO_RANGE)
 }
