@@ -1,4 +1,4 @@
-//! What the program shows of a datagram.
+//! What the program shows of a datagram. `nlas` says why the two have loops of their own.
 
 ghost use Rattle.std.specs.Prelude.{◌≡◌, List, ℕ, Option, IfOk, IfErr, string_bytes};
 ghost use Rattle.netlink_packet_core.specs.DecodeError.{DecodeError};

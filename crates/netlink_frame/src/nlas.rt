@@ -1,4 +1,7 @@
 //! What the program shows of attributes.
+//!
+//! The loops are those of `frames` over another walk. One writer of lines for both would need a
+//! trait for walks with their items and lines, and be longer than the two.
 
 ghost use Rattle.std.specs.Prelude.{◌≡◌, ◌/◌, ◌%◌, ◌++◌, [], ◌∷◌, List, Option, IfOk, IfErr, OnOk, string_bytes};
 ghost use Rattle.netlink_packet_core.specs.Attribute.{Attribute};

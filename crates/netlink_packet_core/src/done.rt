@@ -1,4 +1,7 @@
 //! The end of a multipart message.
+//!
+//! `error` has the same calls. One body for both would save no line: each call's contract speaks of
+//! its own view and cause.
 
 ghost use Rattle.std.specs.Prelude.{◌≡◌, ◌<◌, ◌≤◌, [], pos, length, drop, OnOk, OnErr, IfOk, IfErr, IsTrue, false};
 ghost use Rattle.std.specs.Borrow.{Lends, Array, sem, u8 as byte};

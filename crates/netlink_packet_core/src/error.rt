@@ -1,4 +1,4 @@
-//! An acknowledgement, or a refusal.
+//! An acknowledgement, or a refusal. `done` says why the two views have a body each.
 
 ghost use Rattle.std.specs.Prelude.{◌≡◌, ◌<◌, ◌≤◌, [], length, drop, unsigned_abs, OnOk, OnErr, IfOk, IfErr, IsTrue, MatchOption, None, Some, false, pos};
 ghost use Rattle.std.specs.Borrow.{Lends, Array, sem, u8 as byte};
