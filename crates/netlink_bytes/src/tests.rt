@@ -4,6 +4,8 @@ mod causes;
 mod contexts;
 mod copies;
 mod fields;
+mod mark;
+mod memory_not_asked;
 mod numbers;
 mod readers;
 mod storage;

@@ -143,9 +143,12 @@ fn a_list_leaves_the_rest(rt: HostRuntime) -> Result<(), Fail> {
     Ok(())
 }
 
+/// The most bytes of a value: what 16 bits can count, less a header of four.
+const LONGEST: usize = 65531;
+
 #[test]
 fn the_longest_value(rt: HostRuntime) -> Result<(), Fail> {
-    let longest = DefaultNla::new(1, vec![in rt.alloc(); 9; 65531]?);
+    let longest = DefaultNla::new(1, vec![in rt.alloc(); 9; LONGEST]?);
     let mut written = Vec::new(rt.alloc());
     if nla_fits(&longest) {
         written = vec![in rt.alloc(); 0xff; nla_buffer_len(&longest)]?;

@@ -6,5 +6,4 @@
 mod above;
 pub(crate) mod attributes;
 mod messages;
-mod numbers;
 mod views;

@@ -71,7 +71,7 @@ fn sixteen_levels_are_written(rt: HostRuntime) -> Result<(), Fail> {
     assert_eq!(rt; written(alloc, &nests)?.0, 64);
     let nests = nested(alloc, 17, Vec::new(alloc))?;
     assert_eq!(rt; written(alloc, &nests)?.1.as_str(), TOO_DEEP);
-    let nests = nested(alloc, 16, leaf(alloc, 65532)?)?;
+    let nests = nested(alloc, 16, leaf(alloc, LONGEST + 1)?)?;
     assert_eq!(rt; written(alloc, &nests)?.1.as_str(), TOO_DEEP);
     Ok(())
 }
@@ -91,11 +91,14 @@ fn both_flag_bits_are_kept(rt: HostRuntime) -> Result<(), Fail> {
     Ok(())
 }
 
+/// The most bytes of a value: what 16 bits can count, less a header of four.
+const LONGEST: usize = 65531;
+
 #[test]
 fn values_have_at_most_65531_bytes(rt: HostRuntime) -> Result<(), Fail> {
     let alloc = rt.alloc();
-    assert_eq!(rt; written(alloc, &leaf(alloc, 65531)?)?.0, 65536);
-    assert_eq!(rt; written(alloc, &leaf(alloc, 65532)?)?.1.as_str(), TOO_LONG);
+    assert_eq!(rt; written(alloc, &leaf(alloc, LONGEST)?)?.0, 65536);
+    assert_eq!(rt; written(alloc, &leaf(alloc, LONGEST + 1)?)?.1.as_str(), TOO_LONG);
     let nest = nested(alloc, 1, leaf(alloc, 65524)?)?;
     assert_eq!(rt; written(alloc, &nest)?.0, 65532);
     let nest = nested(alloc, 1, leaf(alloc, 65525)?)?;

@@ -1,8 +1,10 @@
-//! Numbers, addresses, causes and texts.
+//! Calls that ask for no memory: numbers, addresses, causes and texts.
+//!
+//! `tests/memory` runs each test with every request behind its mark refused: it passes as ever, and
+//! it makes none.
 
 use crate::tests::mark::refuse_from_here;
-use crate::tests::refusals::refuses;
-use netlink_packet_core::{
+use crate::{
     DecodeError, ErrorContext, IpAddr, NonZeroI32, copy_of, emit_i16, emit_i16_be, emit_i16_le,
     emit_i32, emit_i32_be, emit_i32_le, emit_i64, emit_i64_be, emit_i64_le, emit_i128,
     emit_i128_be, emit_i128_le, emit_u16, emit_u16_be, emit_u16_le, emit_u32, emit_u32_be,
@@ -16,14 +18,22 @@ use netlink_packet_core::{
 use std::process::Abort;
 use std::test::Fail;
 
-/// A number is written as its bytes and read from them, and refused where there is no byte.
+/// Whether an answer is a refusal with this number.
+fn refuses<T: Drop>(answer: Result<T, DecodeError>, number: u8) -> bool {
+    match answer {
+        Ok(_) => false,
+        Err(error) => error.number() == number,
+    }
+}
+
+/// A number is written as its bytes and nothing behind them, read from them, and refused where
+/// there is no byte.
 macro_rules! number {
     ($rt:expr, $emit:ident, $parse:ident, $value:expr, $bytes:expr) => {{
         let bytes = $bytes;
-        let mut buffer = bytes;
-        buffer.fill(0x55);
+        let mut buffer = [0x55; 17];
         assert!($rt; $emit(&mut buffer, $value).is_ok());
-        assert!($rt; buffer == bytes);
+        assert!($rt; buffer.starts_with(&bytes) && buffer.get(bytes.len()) == Some(&0x55));
         assert!($rt; $parse(&bytes).ok() == Some($value));
         assert!($rt; refuses($emit(&mut [], $value), 8));
         assert!($rt; refuses($parse(&[]), 4));
