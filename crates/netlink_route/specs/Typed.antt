@@ -33,7 +33,8 @@ spell reading (Some all) = all_spelled reading all
 abbrev pub spelled_in : ValueReading → List ℕ → Option (List Attribute)
 spelled_in reading bytes = spell reading (attributes_in bytes)
 
--- each value has at most 65531 bytes, and they all leave room for the headers of a message
+-- the size of each value is one that a length field of 16 bits can count with the header, and they
+-- all leave room for the headers of a message
 abbrev pub value_fits : Attribute → Bool
 value_fits a = nat_le (length a.value) 65531
 

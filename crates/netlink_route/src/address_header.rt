@@ -1,7 +1,7 @@
 //! What stands in front of the attributes of an address.
 
-ghost use Rattle.std.specs.Prelude.{◌≡◌, length, IsTrue};
-ghost use Rattle.netlink_route.specs.AddressHeader.{address_header_fits, address_header_text};
+ghost use Rattle.std.specs.Prelude.{◌≡◌, ◌↔◌, length, IfSome, IsSome, IsTrue};
+ghost use Rattle.netlink_route.specs.AddressHeader.{address_header_fits, address_header_text, address_verb_type, is_address_type};
 
 use netlink_packet_core::{put_u32, u32_at};
 
@@ -14,6 +14,32 @@ pub enum AddressVerb {
     Del,
     /// `RTM_GETADDR`, message type 22.
     Get,
+}
+
+impl AddressVerb {
+    /// The message type.
+    pub(crate) fn message_type(self) -> u16
+        ensures { result ≡ address_verb_type self }
+    {
+        match self {
+            AddressVerb::New => 20,
+            AddressVerb::Del => 21,
+            AddressVerb::Get => 22,
+        }
+    }
+
+    /// What a message type does with an address; none of another type.
+    pub(crate) fn of_type(message_type: u16) -> Option<Self>
+        ensures some { IfSome result (λ verb. address_verb_type verb ≡ message_type) }
+        ensures address { IsSome result ↔ IsTrue (is_address_type message_type) }
+    {
+        match message_type {
+            20 => Some(AddressVerb::New),
+            21 => Some(AddressVerb::Del),
+            22 => Some(AddressVerb::Get),
+            _ => None,
+        }
+    }
 }
 
 /// The numbers of `struct ifaddrmsg` (linux/if_addr.h).

@@ -1,47 +1,19 @@
 //! Messages about addresses, read and written.
 
-ghost use Rattle.std.specs.Prelude.{◌≡◌, ◌↔◌, false, length, ℕ, IfErr, IfOk, IfSome, IsSome, IsTrue, None, Some};
-ghost use Rattle.netlink_route.specs.AddressHeader.{address_header_fits, address_verb_type, is_address_type};
+ghost use Rattle.std.specs.Prelude.{◌≡◌, false, length, ℕ, IfErr, IfOk, IsTrue, None, Some};
+ghost use Rattle.netlink_route.specs.AddressHeader.{address_header_fits};
 ghost use Rattle.netlink_route.specs.Error.{wants_memory};
 ghost use Rattle.netlink_route.specs.Family.{family_reading};
 ghost use Rattle.netlink_route.specs.Faults.{IsFamilyFault};
 ghost use Rattle.netlink_route.specs.KindFaults.{address_faults};
 ghost use Rattle.netlink_route.specs.Message.{address_bytes, addresses};
 
-use crate::address_header::{
-    ADDRESS_HEADER_LEN, AddressVerb, read_address_header, write_address_header,
-};
-use crate::error::RouteError;
+use crate::address_header::{ADDRESS_HEADER_LEN, read_address_header, write_address_header};
+use crate::error::{RouteError, header_short};
 use crate::message::AddressMessage;
 use crate::typed::read_block;
 use netlink_packet_core::Emitable;
 use std::alloc::Global;
-
-impl AddressVerb {
-    /// The message type.
-    pub(crate) fn message_type(self) -> u16
-        ensures { result ≡ address_verb_type self }
-    {
-        match self {
-            AddressVerb::New => 20,
-            AddressVerb::Del => 21,
-            AddressVerb::Get => 22,
-        }
-    }
-
-    /// What a message type does with an address; none of another type.
-    pub(crate) fn of_type(message_type: u16) -> Option<Self>
-        ensures some { IfSome result (λ verb. address_verb_type verb ≡ message_type) }
-        ensures address { IsSome result ↔ IsTrue (is_address_type message_type) }
-    {
-        match message_type {
-            20 => Some(AddressVerb::New),
-            21 => Some(AddressVerb::Del),
-            22 => Some(AddressVerb::Get),
-            _ => None,
-        }
-    }
-}
 
 impl AddressMessage {
     /// The size of the message as it is written.
@@ -69,16 +41,14 @@ impl AddressMessage {
         ensures reads { IfOk result
             (λ m. (t : ℕ) → family_reading addresses t payload.now ≡ Some (t, address_bytes m)) }
         ensures refuses { IfErr result
-            (λ e. wants_memory e ≡ false → (t : ℕ) → family_reading addresses t payload.now ≡ None) }
+            (λ e. wants_memory e ≡ false
+            → (t : ℕ) → family_reading addresses t payload.now ≡ None) }
         ensures fault { IfErr result
             (λ e. wants_memory e ≡ false
             → IsFamilyFault addresses address_faults payload.now e) }
     {
         if payload.len() < ADDRESS_HEADER_LEN {
-            return Err(RouteError::HeaderShort {
-                expected: ADDRESS_HEADER_LEN,
-                received: payload.len(),
-            });
+            return Err(header_short(ADDRESS_HEADER_LEN, payload));
         }
         let (front, block) = payload.split_at(ADDRESS_HEADER_LEN);
         let attributes = read_block(alloc, block)?;

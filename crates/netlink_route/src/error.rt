@@ -1,7 +1,8 @@
 //! The refusals of route netlink.
 
-ghost use Rattle.std.specs.Prelude.{◌≡◌, Some};
+ghost use Rattle.std.specs.Prelude.{◌≡◌, length, Some};
 ghost use Rattle.netlink_route.specs.Error.{error_text};
+ghost use Rattle.netlink_route.specs.declared.error.RouteError.TheVariants.{HeaderShort};
 
 use netlink_packet_core::DecodeError;
 use std::alloc::{AllocError, AllocFailed};
@@ -121,5 +122,15 @@ impl<T: Drop> From<AllocFailed<T>> for RouteError {
     /// The same where a value found no room; the value is given up.
     fn from(_refused: AllocFailed<T>) -> Self {
         RouteError::OutOfMemory
+    }
+}
+
+/// That a payload is shorter than its header, with both sizes.
+pub(crate) fn header_short(expected: usize, payload: &[u8]) -> RouteError
+    ensures { result ≡ HeaderShort expected (length payload.now) }
+{
+    RouteError::HeaderShort {
+        expected,
+        received: payload.len(),
     }
 }

@@ -47,7 +47,8 @@ impl InfoAttribute {
     /// An attribute of any other kind; none for a kind that has a variant of its own.
     pub fn other(kind: u16, value: Vec<u8>) -> Option<Self>
         ensures other { IsSome result ↔ IsTrue (is_none (info_row kind)) }
-        ensures attribute { IfSome result (λ a. info_attribute a ≡ attribute_with kind value.items) }
+        ensures attribute { IfSome result
+            (λ a. info_attribute a ≡ attribute_with kind value.items) }
     {
         match kind {
             IFLA_INFO_KIND | IFLA_INFO_DATA | IFLA_INFO_SLAVE_KIND | IFLA_INFO_SLAVE_DATA => None,

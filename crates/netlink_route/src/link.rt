@@ -95,7 +95,8 @@ impl LinkAttribute {
     /// An attribute of any other kind; none for a kind that has a variant of its own.
     pub fn other(kind: u16, value: Vec<u8>) -> Option<Self>
         ensures other { IsSome result ↔ IsTrue (is_none (link_row kind)) }
-        ensures attribute { IfSome result (λ a. link_attribute a ≡ attribute_with kind value.items) }
+        ensures attribute { IfSome result
+            (λ a. link_attribute a ≡ attribute_with kind value.items) }
     {
         if kind == IFLA_LINKINFO || kind == NESTED_LINKINFO {
             return None;

@@ -1,7 +1,7 @@
 //! What stands in front of the attributes of a link.
 
-ghost use Rattle.std.specs.Prelude.{◌≡◌, length, slice_index, IsTrue};
-ghost use Rattle.netlink_route.specs.LinkHeader.{header_fits, header_bytes};
+ghost use Rattle.std.specs.Prelude.{◌≡◌, ◌↔◌, length, slice_index, IfSome, IsSome, IsTrue};
+ghost use Rattle.netlink_route.specs.LinkHeader.{header_bytes, header_fits, is_link_type, verb_type};
 
 use netlink_packet_core::{put_u16, put_u32, u16_at, u32_at};
 
@@ -16,6 +16,34 @@ pub enum LinkVerb {
     Get,
     /// `RTM_SETLINK`, message type 19.
     Set,
+}
+
+impl LinkVerb {
+    /// The message type.
+    pub(crate) fn message_type(self) -> u16
+        ensures { result ≡ verb_type self }
+    {
+        match self {
+            LinkVerb::New => 16,
+            LinkVerb::Del => 17,
+            LinkVerb::Get => 18,
+            LinkVerb::Set => 19,
+        }
+    }
+
+    /// What a message type does with a link; none of another type.
+    pub(crate) fn of_type(message_type: u16) -> Option<Self>
+        ensures some { IfSome result (λ verb. verb_type verb ≡ message_type) }
+        ensures link { IsSome result ↔ IsTrue (is_link_type message_type) }
+    {
+        match message_type {
+            16 => Some(LinkVerb::New),
+            17 => Some(LinkVerb::Del),
+            18 => Some(LinkVerb::Get),
+            19 => Some(LinkVerb::Set),
+            _ => None,
+        }
+    }
 }
 
 /// The numbers of `struct ifinfomsg` (linux/rtnetlink.h), whose second byte is zero.

@@ -1,17 +1,17 @@
 //! Route netlink as a protocol.
 
-ghost use Rattle.std.specs.Prelude.{◌≡◌, ◌↔◌, false, length, ℕ, IfErr, IfOk, IfSome, IsSome, IsTrue, None, Some, refl};
+ghost use Rattle.std.specs.Prelude.{◌≡◌, false, length, ℕ, IfErr, IfOk, IsTrue, None, Some, refl};
 ghost use Rattle.netlink_route.specs.Error.{wants_memory};
 ghost use Rattle.netlink_route.specs.Family.{family_reading};
 ghost use Rattle.netlink_route.specs.Faults.{IsFamilyFault};
 ghost use Rattle.netlink_route.specs.KindFaults.{link_faults};
-ghost use Rattle.netlink_route.specs.LinkHeader.{header_fits, is_link_type, verb_type};
+ghost use Rattle.netlink_route.specs.LinkHeader.{header_fits};
 ghost use Rattle.netlink_route.specs.MessageFaults.{IsRouteFault};
 ghost use Rattle.netlink_route.specs.MessageLaws.{equal_pairs, reading_is_lawful, value_is_lawful};
 ghost use Rattle.netlink_route.specs.Message.{link_bytes, links, route_decoding, route_encoding};
 
 use crate::address_header::AddressVerb;
-use crate::error::RouteError;
+use crate::error::{RouteError, header_short};
 use crate::link_header::{
     LINK_HEADER_LEN, LinkHeader, LinkVerb, read_link_header, write_link_header,
 };
@@ -21,34 +21,6 @@ use netlink_packet_core::{
     Emitable, NetlinkDeserializable, NetlinkHeader, NetlinkProtocol, NetlinkSerializable,
 };
 use std::alloc::Global;
-
-impl LinkVerb {
-    /// The message type.
-    pub(crate) fn message_type(self) -> u16
-        ensures { result ≡ verb_type self }
-    {
-        match self {
-            LinkVerb::New => 16,
-            LinkVerb::Del => 17,
-            LinkVerb::Get => 18,
-            LinkVerb::Set => 19,
-        }
-    }
-
-    /// What a message type does with a link; none of another type.
-    pub(crate) fn of_type(message_type: u16) -> Option<Self>
-        ensures some { IfSome result (λ verb. verb_type verb ≡ message_type) }
-        ensures link { IsSome result ↔ IsTrue (is_link_type message_type) }
-    {
-        match message_type {
-            16 => Some(LinkVerb::New),
-            17 => Some(LinkVerb::Del),
-            18 => Some(LinkVerb::Get),
-            19 => Some(LinkVerb::Set),
-            _ => None,
-        }
-    }
-}
 
 impl LinkMessage {
     /// The size of the message as it is written.
@@ -81,10 +53,7 @@ impl LinkMessage {
             (λ e. wants_memory e ≡ false → IsFamilyFault links link_faults payload.now e) }
     {
         if payload.len() < LINK_HEADER_LEN {
-            return Err(RouteError::HeaderShort {
-                expected: LINK_HEADER_LEN,
-                received: payload.len(),
-            });
+            return Err(header_short(LINK_HEADER_LEN, payload));
         }
         let (front, block) = payload.split_at(LINK_HEADER_LEN);
         if front[1] != 0 {

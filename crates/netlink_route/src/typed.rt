@@ -19,13 +19,14 @@ pub trait RouteNla: Nla + Sized + Drop {
     /// Which error a value is refused with that is none of its kind.
     ghost faults: { ValueFault };
 
-    /// The attribute of this kind, its flag bits among it, and this value, which has at most 65531
-    /// bytes. A value that is none of its kind is refused.
+    /// The attribute of this kind, its flag bits among it, and this value, whose size a length
+    /// field of 16 bits can count with the header. A value that is none of its kind is refused.
     fn read(alloc: Global, kind: u16, value: &[u8]) -> Result<Self, RouteError>
         requires fits { length value.now ≤ 65531 }
         ensures kind { IfOk result (λ a. Self.kind_of a ≡ kind) }
         ensures value { IfOk result (λ a. reading kind value.now ≡ Some (Self.value_of a)) }
-        ensures refuses { IfErr result (λ e. wants_memory e ≡ false → reading kind value.now ≡ None) }
+        ensures refuses { IfErr result
+            (λ e. wants_memory e ≡ false → reading kind value.now ≡ None) }
         ensures fault { IfErr result (λ e. wants_memory e ≡ false → faults kind value.now e) };
 }
 
