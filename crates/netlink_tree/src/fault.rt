@@ -13,8 +13,7 @@ use std::fmt;
 pub enum TreeFault {
     /// Something stands deeper than 16, where the outer attributes have depth 1.
     TooDeep,
-    /// A value, or the block inside a nest as it is written, is above
-    /// `NLA_VALUE_MAX` bytes.
+    /// A value, or the block inside a nest as it is written, is above `NLA_VALUE_MAX` bytes.
     TooLong,
     /// Bytes are no attributes (`NlaBufferTooSmall`, `NlaLengthMismatch` or `NlaInvalidLength`), or
     /// a request for memory was refused (`OutOfMemory`).
