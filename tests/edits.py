@@ -32,7 +32,10 @@ BATCH = 12
 PARTS = ("src", "specs", "proofs")
 
 FUNCTION = re.compile(r'(?m)^( *)((?:(?:pub(?:\([^)]*\))?|const|unsafe|extern|"C") )*)fn (\w+)(.*)$')
-REFUSED = re.compile(r"(?m)^(\w+) (\w+(?:::\w+)*): (?:not proved; |no proof: )(.*)$")
+# Behind a proof by hand that fails stands `not proved` alone: its own error then shows whether it waits for another.
+REFUSED = re.compile(r"(?m)^(\w+) ([\w+]+(?:::[\w+]+)*): (?:not proved(?:; |$)|no proof: )(.*)$")
+# The line that begins the impl or the trait which a function is a member of.
+MEMBER_OF = re.compile(r"(?m)^(?:pub(?:\(\w+\))? )?(?:impl|trait)\b(.*)$")
 # A reason that may lie in another item alone, or in a proof by hand, whose own error then shows it.
 WAITS = re.compile(r"(?:is|are) not proved|waits for the proof|`ensures\*`")
 # The answers of functions that call one another in a cycle, which are proved, or not, together.
@@ -40,6 +43,8 @@ CYCLE = re.compile(r"expected answers in (\S*/\+\S+)")
 AT = re.compile(r"(?m)^(?:note: )?(?:\./)?(src|specs|proofs)/\S+:\d+:\d+: .*$")
 UNREAD = re.compile(r"is not in scope|has no field|is no name|operand is missing|expected the end|cannot continue")
 ERROR = re.compile(r"^(?:\./)?(\S+?):\d+:\d+: error: (?:(`[^`]*`): )?(.*)$", re.M)
+# What a file says of what stands on a lemma that was refused.
+DEPENDS = re.compile(r"declarations? that depends? on ")
 # What a proof file says where the edit took a name away, which says little of the contract.
 NAME_GONE = re.compile(r"^(?:\./)?proofs/.*(?:has no field|is not in scope|has no `|was not admitted)")
 
@@ -84,7 +89,7 @@ class Edit:
 
 
 def function_at(file, text, old):
-    """The module and the name of the function in whose body the text stands, or none.
+    """The module of the function in whose body the text stands, its trait, its type and its name, or none.
 
     The files are laid out by `rt fmt`: a function ends at the first line that closes a brace at its own indent. A
     `const fn` may be computed in another function's proof, so it is none.
@@ -103,7 +108,18 @@ def function_at(file, text, old):
     if not 0 <= opens < at or at + len(old) > ends + 1:
         return None
     module = file.removeprefix("src/").removesuffix(".rt").replace("/", "::")
-    return "" if module in ("lib", "main") else module, start[3]
+    trait, owner = owner_of(text[: start.start()]) if start[1] else ("", "")
+    return "" if module in ("lib", "main") else module, trait, owner, start[3]
+
+
+def owner_of(above):
+    """The trait and the type whose impl, or the trait whose body, is the last that begins in this text."""
+    head = ["", *MEMBER_OF.findall(above)][-1]
+    while "<" in (bare := re.sub(r"<[^<>]*>", "", head)) and bare != head:
+        head = bare
+    first, _, second = bare.partition(" for ")
+    owner = re.match(r" *(?:\w+::)*(\w*)", second or first)[1]
+    return re.search(r"(\w*) *$", first)[1] if second else "", owner
 
 
 def texts_of(crate):
@@ -147,6 +163,8 @@ class Checked:
     def is_unread(self, files):
         """Whether the prover could not read an edited text, so that no contract was tried."""
         for file, name, said in ERROR.findall(self.said):
+            if DEPENDS.search(said):
+                continue
             ours = file in files or file.startswith(("src/", "specs/"))
             if ours and (not name or UNREAD.search(re.sub(r"`[^`]*`", "", said))):
                 return True
@@ -161,7 +179,7 @@ class Checked:
             own, cycle = path.partition("::")[2], CYCLE.search(reasons)
             proof = f"proofs/{own.replace('::', '/')}/"
             is_wrong = kind == "fn" and any(it.startswith(proof) for it in wrong)
-            if is_wrong or not all(map(WAITS.search, reasons.split("; "))):
+            if is_wrong or (reasons and not all(map(WAITS.search, reasons.split("; ")))):
                 found.append((kind, own, cycle[1] if cycle else own))
         return found
 
@@ -172,9 +190,17 @@ class Checked:
 
 
 def is_of(function, path):
-    """Whether the path of a function, without its crate, is in this module and has this name."""
-    module, name = function
-    return path.startswith(f"{module}::" if module else "") and path.rpartition("::")[2] == name
+    """Whether the path of a function, without its crate, is this one's.
+
+    A member of a type's own impl has the path of the type, wherever the impl stands. One of a trait's impl has that of
+    the module, then the type and the trait in one word. What either is given stands behind, or between, with signs.
+    """
+    module, trait, owner, name = function
+    *front, member, last = ["", *path.split("::")]
+    if last != name or not member.startswith(owner) or trait not in member:
+        return False
+    inside = "::".join(filter(None, front if owner or trait else [*front, member]))
+    return bool(owner and not trait) or inside == module
 
 
 def refused_of(functions, checked):
@@ -193,14 +219,14 @@ def refused_of(functions, checked):
 
 
 class Batch:
-    """Edits of functions of different names, and the crate's texts as all of them make them."""
+    """Edits of different functions, and the crate's texts as all of them make them."""
 
     def __init__(self, texts):
         self.texts, self.edits, self.functions = texts, [], []
 
     def takes(self, edit, function):
         """Whether the edit can stand beside those of the batch; then it does."""
-        if len(self.edits) == BATCH or any(function[1] == it[1] for it in self.functions):
+        if len(self.edits) == BATCH or function in self.functions:
             return False
         try:
             self.texts = edit.applied(self.texts)

@@ -5,7 +5,7 @@ use Rattle.std.specs.List.{list_all}
 use Rattle.std.specs.Prelude.{if◌then◌else◌}
 use Rattle.std.proofs.lemmas.Bool.{and_from, and_parts, cases_Bool, le-leb, leb-true}
 use Rattle.std.proofs.lemmas.List.Elements.{All-nil, All-cons, All-head, All-tail}
-use Rattle.netlink_packet_core.specs.Attribute.{Attribute}
+use Rattle.netlink_packet_core.specs.Attribute.{Attribute, value_max}
 use Rattle.netlink_packet_core.specs.DecodeError.{DecodeError}
 use Rattle.netlink_packet_core.specs.Nla.{attribute_with, attributes_of, AllFit, FitBlock}
 use Rattle.netlink_packet_core.specs.Progress.{Passes, passes_ends, passes_faults, passes_walk}
@@ -122,16 +122,16 @@ values_fit : {T : Type 0} (kind_of : T → ℕ) (value_of : T → List ℕ) (lis
     → list_all value_fits (attributes_of kind_of value_of list) ≡ true
 values_fit kind_of value_of [] fit = refl
 values_fit kind_of value_of (a ∷ list) fit =
-    and_from _ _ (le-leb _ _ (All-head (λ nla. length (value_of nla) ≤ 65531) a list fit))
-    (values_fit kind_of value_of list (All-tail (λ nla. length (value_of nla) ≤ 65531) a list fit))
+    and_from _ _ (le-leb _ _ (All-head (λ nla. length (value_of nla) ≤ value_max) a list fit))
+    (values_fit kind_of value_of list (All-tail (λ nla. length (value_of nla) ≤ value_max) a list fit))
 
 pub all_fit : {T : Type 0} (kind_of : T → ℕ) (value_of : T → List ℕ) (list : List T)
     → list_all value_fits (attributes_of kind_of value_of list) ≡ true → AllFit value_of list
-all_fit kind_of value_of [] fit = All-nil (λ nla. length (value_of nla) ≤ 65531)
+all_fit kind_of value_of [] fit = All-nil (λ nla. length (value_of nla) ≤ value_max)
 all_fit kind_of value_of (a ∷ list) fit =
     let p =
     and_parts (value_fits (attribute_with (kind_of a) (value_of a))) (list_all value_fits (attributes_of kind_of value_of list)) fit in
-    All-cons (λ nla. length (value_of nla) ≤ 65531) a list (leb-true _ _ p.0) (all_fit kind_of value_of list p.1)
+    All-cons (λ nla. length (value_of nla) ≤ value_max) a list (leb-true _ _ p.0) (all_fit kind_of value_of list p.1)
 
 pub fit_kept : {T : Type 0} (kind_of : T → ℕ) (value_of : T → List ℕ) (list : List T) → FitBlock kind_of value_of list
     → keep_fit (Some (attributes_of kind_of value_of list)) ≡ Some (attributes_of kind_of value_of list)

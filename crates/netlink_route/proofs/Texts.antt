@@ -63,6 +63,9 @@ text_read value text is same =
 pub no_text : (value : List ℕ) → zero_ended value ≡ false → read_as zero_text value ≡ None
 no_text value not = ap (λ (b : Bool). keep b value) (and_left _ _ not)
 
+-- what is known of a value that is read as a text
+pub ruleset texts_are_read = (text_plain, text_read, no_text)
+
 pub no_utf8 : (value : List ℕ) (e : DecodeError) → (IsUtf8 (without_last_zero value) → e ≡ OutOfMemory) → e ≢ OutOfMemory
     → read_as zero_text value ≡ None
 no_utf8 value e utf8 other = elim (cases_Bool (is_utf8 (without_last_zero value))) [

@@ -2,7 +2,7 @@
 use Rattle.std.specs.Prelude.{ℕ, ◌≡◌, ◌==◌, Bool, ◌&&◌, List, [], ◌∷◌, length, Option, Some, None, nat_le, bytes_eq, if◌then◌else◌}
 use Rattle.std.specs.Option.{option_map}
 use Rattle.std.specs.List.{list_all}
-use Rattle.netlink_packet_core.specs.Attribute.{Attribute}
+use Rattle.netlink_packet_core.specs.Attribute.{Attribute, value_max}
 use Rattle.netlink_packet_core.specs.Block.{canonical_block}
 use Rattle.netlink_packet_core.specs.Nla.{attribute_with}
 use Rattle.netlink_packet_core.specs.Reading.{attributes_in}
@@ -36,7 +36,7 @@ spelled_in reading bytes = spell reading (attributes_in bytes)
 -- the size of each value is one that a length field of 16 bits can count with the header, and they
 -- all leave room for the headers of a message
 abbrev pub value_fits : Attribute → Bool
-value_fits a = nat_le (length a.value) 65531
+value_fits a = nat_le (length a.value) value_max
 
 abbrev pub block_fits : List Attribute → Bool
 block_fits all = list_all value_fits all && nat_le (length (canonical_block all)) 4294963200

@@ -1,6 +1,7 @@
 //! Blocks of typed attributes, read.
 
 ghost use Rattle.std.specs.Prelude.{◌≡◌, ◌≤◌, false, length, None, Some, IfErr, IfOk};
+ghost use Rattle.netlink_packet_core.specs.Attribute.{value_max};
 ghost use Rattle.netlink_packet_core.specs.Nla.{attributes_of};
 ghost use Rattle.netlink_route.specs.Error.{wants_memory};
 ghost use Rattle.netlink_route.specs.Faults.{IsBlockFault, IsListFault, ValueFault};
@@ -22,7 +23,7 @@ pub trait RouteNla: Nla + Sized + Drop {
     /// The attribute of this kind, its flag bits among it, and this value, whose size a length
     /// field of 16 bits can count with the header. A value that is none of its kind is refused.
     fn read(alloc: Global, kind: u16, value: &[u8]) -> Result<Self, RouteError>
-        requires fits { length value.now ≤ 65531 }
+        requires fits { length value.now ≤ value_max }
         ensures kind { IfOk result (λ a. Self.kind_of a ≡ kind) }
         ensures value { IfOk result (λ a. reading kind value.now ≡ Some (Self.value_of a)) }
         ensures refuses { IfErr result

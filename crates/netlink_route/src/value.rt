@@ -137,7 +137,7 @@ pub(crate) fn read_byte(kind: u16, value: &[u8]) -> Result<u8, RouteError>
 }
 
 /// The text of a value with one zero byte, its last.
-#[tactic(auto, using(crate::proofs::Texts::text_plain, crate::proofs::Texts::text_read, crate::proofs::Texts::no_text))]
+#[tactic(auto, using(crate::proofs::Texts::texts_are_read))]
 pub(crate) fn read_text(alloc: Global, kind: u16, value: &[u8]) -> Result<Text, RouteError>
     ensures ok { IfOk result
         (λ text. read_as zero_text value.now ≡ Some (string_bytes text.text ++ (0 ∷ []))) }
