@@ -98,7 +98,10 @@ const LONGEST: usize = 65531;
 fn values_have_at_most_65531_bytes(rt: HostRuntime) -> Result<(), Fail> {
     let alloc = rt.alloc();
     assert_eq!(rt; written(alloc, &leaf(alloc, LONGEST)?)?.0, 65536);
-    assert_eq!(rt; written(alloc, &leaf(alloc, LONGEST + 1)?)?.1.as_str(), TOO_LONG);
+    assert_eq!(rt;
+        written(alloc, &leaf(alloc, LONGEST + 1)?)?.1.as_str(),
+        TOO_LONG
+    );
     let nest = nested(alloc, 1, leaf(alloc, 65524)?)?;
     assert_eq!(rt; written(alloc, &nest)?.0, 65532);
     let nest = nested(alloc, 1, leaf(alloc, 65525)?)?;
