@@ -54,7 +54,7 @@ def wanted(protocol, frame):
 
 
 def main():
-    program = built("netlink_route_tests", "netlink_route")
+    program = built("netlink_route_tests_tests", "netlink_route_tests")
     rows = []
     with open(os.path.join(CAPTURED, "INDEX.tsv"), encoding="utf-8") as file:
         datagrams = [row for row in csv.reader(file, delimiter="\t") if not row[0].startswith("#")]

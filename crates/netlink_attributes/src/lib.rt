@@ -14,8 +14,6 @@ pub mod laws;
 mod nla;
 mod nlas;
 mod place;
-#[cfg(test)]
-mod tests;
 
 pub use crate::align::nla_align;
 pub use crate::block::{append_nla, normalize_nlas};

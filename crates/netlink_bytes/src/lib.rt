@@ -11,8 +11,6 @@ pub mod laws;
 mod nonzero;
 mod numbers;
 mod storage;
-#[cfg(test)]
-mod tests;
 mod text;
 mod traits;
 

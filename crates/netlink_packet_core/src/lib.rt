@@ -12,8 +12,6 @@ mod header;
 pub mod laws;
 mod message;
 mod payload;
-#[cfg(test)]
-mod tests;
 mod traits;
 
 pub use crate::buffer::NetlinkBuffer;

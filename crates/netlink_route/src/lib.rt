@@ -17,8 +17,6 @@ mod other_address;
 mod other_info;
 mod other_link;
 mod protocol;
-#[cfg(test)]
-mod tests;
 mod text;
 mod typed;
 mod value;

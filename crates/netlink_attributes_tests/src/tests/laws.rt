@@ -1,0 +1,48 @@
+//! Calls of the laws: what a law says stands in its clauses, and a call does nothing when it runs.
+
+use super::TWO;
+use netlink_attributes::laws::{
+    attributes_equal, attributes_read, block_unique, canonical_walks, fixed_points,
+    older_block_kept, slice_views_equal, value_replaced, views_equal, walk_cut, walk_given,
+    walk_join, walk_stops, walk_total, walk_unique, walks_equal, written_reads_back, written_walks,
+};
+use netlink_attributes::nla_place;
+
+#[test]
+fn each_law_can_be_called() {
+    walk_total();
+    walk_unique();
+    walk_given();
+    walk_stops();
+    walks_equal();
+    views_equal::<&[u8]>();
+    slice_views_equal();
+    attributes_equal();
+    written_reads_back();
+    written_walks();
+    walk_cut(&TWO, 15);
+    canonical_walks(&TWO);
+    attributes_read();
+    walk_join(&TWO, &TWO);
+    block_unique(&TWO, &TWO);
+    fixed_points(&TWO);
+    older_block_kept(&TWO);
+}
+
+/// Whether the value of the attribute with this index can be replaced by one of its size.
+fn can_replace(block: &[u8], index: usize, value: &[u8]) -> bool {
+    match nla_place(block, index) {
+        Some((start, end)) if end - start == value.len() => {
+            value_replaced(block, index, value);
+            true
+        }
+        _ => false,
+    }
+}
+
+#[test]
+fn a_value_of_the_same_size_can_be_replaced(rt: HostRuntime) {
+    assert!(rt; can_replace(&TWO, 1, &[5, 6, 7, 8]));
+    assert!(rt; !can_replace(&TWO, 1, &[5]));
+    assert!(rt; !can_replace(&TWO, 2, &[5]));
+}
