@@ -2,36 +2,45 @@
 """Tries the must-fail edits of all crates, or of those named: the prover has to refuse each.
 
 `rt must-fail` tries them one at a time, and each check loads the standard library and the crate anew. Here edits
-of the bodies of different functions are tried in one check. A function is proved against the contracts of what it
-calls, not against their bodies, so one wrong body has no part in what the check says of another function's goals. An
-edit passes there only if the check names a goal of its own function, and no goal of anything that was not edited; that
-a function calls another that is not proved says nothing of it.
+of the bodies of different functions are tried in one check, of these functions and what they call. A function is proved
+against the contracts of what it calls, not against their bodies, so one wrong body has no part in what the check says
+of another function's goals. An edit passes there only if the check names a goal of a function that it changes, and no
+goal of anything that was not edited; that a function calls another that is not proved says nothing of it.
 What that does not show is tried alone, as `rt must-fail` does it: edits of a constant, a type, a member of an impl or
-a definition, and those of which a first and a second try together showed nothing.
+a definition, and those of which a first and a second try together showed nothing. Where an edit names a function, by a
+line `only: NAME`, that function's own contract has to refuse it: no other is checked.
 
-    tests/edits.py [--over FOLDER] [--lanes N] [CRATE..]
+    tests/edits.py [--over FOLDER] [--follow] [--lanes N] [CRATE..]
 
 It takes the libraries from the folders out/ of FOLDER, a copy of this repository (else from its own), where `rt ci`
 or `rt check` left them, and first proves each crate as it stands: from nothing behind `rt ci`, which keeps no work.
-N checks run side by side, as many as there are processors where nothing is said.
+With --follow it reads from standard input which libraries are proved, a name a line, and begins each crate as soon as
+those below it are. N checks run side by side, as many as there are processors where nothing is said.
 """
 
 import argparse
+import itertools
 import os
 import re
 import shutil
 import subprocess
 import sys
 import tempfile
-from concurrent.futures import ThreadPoolExecutor
+from concurrent.futures import Future
+from queue import PriorityQueue
+from threading import Thread
 
-from libraries import TOP, dependencies, folder_of, words_over_rlibs
+from libraries import TOP, below, dependencies, folder_of, words_over_rlibs
 
 # How many edits one check tries at most.
-BATCH = 12
+BATCH = 16
 PARTS = ("src", "specs", "proofs")
 
 FUNCTION = re.compile(r'(?m)^( *)((?:(?:pub(?:\([^)]*\))?|const|unsafe|extern|"C") )*)fn (\w+)(.*)$')
+# What a check of some functions ends with: how many were asked for, and how many of them are proved.
+ONLY = re.compile(r"only=(\d+) proved=(\d+)")
+# A function of the crate that is proved, by its path.
+PROVED = re.compile(r"(?m)^fn ([\w+]+(?:::[\w+]+)*): proved$")
 # Behind a proof by hand that fails stands `not proved` alone: its own error then shows whether it waits for another.
 REFUSED = re.compile(r"(?m)^(\w+) ([\w+]+(?:::[\w+]+)*): (?:not proved(?:; |$)|no proof: )(.*)$")
 # The line that begins the impl or the trait which a function is a member of.
@@ -54,17 +63,20 @@ class BadEdit(Exception):
 
 
 class Edit:
-    """One file of a folder must-fail: pairs of texts, old and new, each in a file of the crate."""
+    """One file of a folder must-fail: pairs of texts, old and new, each in a file of the crate, and the functions, if
+    any are named, whose contracts have to refuse it."""
 
     def __init__(self, crate, path):
         self.crate, self.name = crate, os.path.basename(path)
-        self.pairs, file, old = [], "", None
+        self.pairs, self.only, file, old = [], [], "", None
         with open(path, encoding="utf-8") as lines:
             for line in lines.read().split("\n"):
                 word, _, text = line.partition(":")
                 text = text.removeprefix(" ")
                 if word == "file":
                     file = text.strip()
+                elif word == "only":
+                    self.only.append(text.strip())
                 elif word == "old":
                     old = text
                 elif word == "new" and old is not None:
@@ -82,14 +94,14 @@ class Edit:
             made[file] = made[file].replace(old, new)
         return made
 
-    def function(self, texts):
-        """The module and the name of the function whose body holds all of the edit, or none."""
+    def functions(self, texts):
+        """The functions that hold all of the edit, or none where a part of it stands elsewhere."""
         found = {function_at(file, texts.get(file, ""), old) for file, old, _ in self.pairs}
-        return found.pop() if len(found) == 1 else None
+        return set() if self.only or None in found else found
 
 
 def function_at(file, text, old):
-    """The module of the function in whose body the text stands, its trait, its type and its name, or none.
+    """The module of the function in which the text stands, its trait, its type and its name, or none.
 
     The files are laid out by `rt fmt`: a function ends at the first line that closes a brace at its own indent. A
     `const fn` may be computed in another function's proof, so it is none.
@@ -105,7 +117,8 @@ def function_at(file, text, old):
     opens = text.find(f"\n{start[1]}{{\n", start.start(), ends)
     if opens < 0 and start[4].endswith("{"):
         opens = start.end() - 1
-    if not 0 <= opens < at or at + len(old) > ends + 1:
+    is_named = at + len(old) <= start.end()
+    if opens < 0 or not (is_named or opens < at and at + len(old) <= ends + 1):
         return None
     module = file.removeprefix("src/").removesuffix(".rt").replace("/", "::")
     trait, owner = owner_of(text[: start.start()]) if start[1] else ("", "")
@@ -135,9 +148,10 @@ def texts_of(crate):
 
 
 class Checked:
-    """What a check of the crate with these texts says, over a copy of the kept work of another check."""
+    """What a check of the crate with these texts says, of all or of some functions alone, over a copy of the kept work
+    of another check."""
 
-    def __init__(self, words, texts, kept, keep=False):
+    def __init__(self, words, texts, kept, only=(), keep=False):
         with tempfile.TemporaryDirectory(prefix="edits-") as room:
             for path, text in texts.items():
                 os.makedirs(os.path.dirname(os.path.join(room, "crate", path)), exist_ok=True)
@@ -147,6 +161,7 @@ class Checked:
             if kept and not keep:
                 shutil.copytree(kept, own)
             words = [*words, "--jobs", "1", *(["--incremental", own] if kept else [])]
+            words += [word for path in only for word in ("--only", path)]
             how = {"cwd": os.path.join(room, "crate"), "stdin": subprocess.DEVNULL, "stdout": subprocess.PIPE}
             ran = subprocess.run(words, **how, stderr=subprocess.STDOUT, text=True, errors="replace")
         self.status, self.said = ran.returncode, ran.stdout.rstrip("\n")
@@ -155,10 +170,11 @@ class Checked:
         return self.said.rpartition("\n")[2]
 
     def is_refused(self):
-        return self.status == 1 and self.last().startswith("logic=not-proved")
+        some = ONLY.fullmatch(self.last())
+        return self.status == 1 and (some[1] != some[2] if some else self.last().startswith("logic=not-proved"))
 
     def is_proved(self):
-        return self.status == 0 and self.last().startswith("logic=proved ")
+        return self.status == 0 and (bool(ONLY.fullmatch(self.last())) or self.last().startswith("logic=proved "))
 
     def is_unread(self, files):
         """Whether the prover could not read an edited text, so that no contract was tried."""
@@ -203,37 +219,37 @@ def is_of(function, path):
     return bool(owner and not trait) or inside == module
 
 
-def refused_of(functions, checked):
-    """Which of these functions the check refuses; none of them where it refuses anything else.
+def refused_of(edits, checked):
+    """Which of these edits, each with its functions, the check refuses; none where it refuses anything else.
 
-    A cycle of calls is refused whole, so of two of these functions in one cycle nothing is said.
+    A cycle of calls is refused whole, so of two of these edits in one cycle nothing is said.
     """
     owners, others = {}, []
     for kind, path, cycle in checked.refused():
-        found = [it for it in functions if kind == "fn" and is_of(it, path)]
+        found = {edit for edit, own in edits if kind == "fn" and any(is_of(it, path) for it in own)}
         owners.setdefault(cycle, set()).update(found)
         others += [cycle] * (not found)
     if not all(owners.get(cycle) for cycle in others):
-        return []
-    return [next(iter(found)) for found in owners.values() if len(found) == 1]
+        return set()
+    return {next(iter(found)) for found in owners.values() if len(found) == 1}
 
 
 class Batch:
     """Edits of different functions, and the crate's texts as all of them make them."""
 
     def __init__(self, texts):
-        self.texts, self.edits, self.functions = texts, [], []
+        self.texts, self.edits, self.functions = texts, [], set()
 
-    def takes(self, edit, function):
+    def takes(self, edit, functions):
         """Whether the edit can stand beside those of the batch; then it does."""
-        if len(self.edits) == BATCH or function in self.functions:
+        if len(self.edits) == BATCH or self.functions & functions:
             return False
         try:
             self.texts = edit.applied(self.texts)
         except BadEdit:
             return False
-        self.edits.append(edit)
-        self.functions.append(function)
+        self.edits.append((edit, functions))
+        self.functions |= functions
         return True
 
 
@@ -242,49 +258,16 @@ def batches(edits, texts):
 
     They are dealt out in turn, so that neighbours, which often call one another, are tried apart.
     """
-    whole = [(it, it.function(texts)) for it in edits]
-    wide = sum(function is not None for _, function in whole)
-    made = [Batch(texts) for _ in range(-(-wide // BATCH))]
+    whole = [(it, it.functions(texts)) for it in edits]
+    held = [it for _, functions in whole for it in functions]
+    wide = sum(bool(functions) for _, functions in whole)
+    made = [Batch(texts) for _ in range(max([-(-wide // BATCH), *map(held.count, set(held))]))]
     alone = []
-    for at, (edit, function) in enumerate(whole):
+    for at, (edit, functions) in enumerate(whole):
         turn = [*made[at % max(len(made), 1):], *made[: at % max(len(made), 1)]]
-        if function is None or not any(it.takes(edit, function) for it in turn):
+        if not functions or not any(it.takes(edit, functions) for it in turn):
             alone.append(edit)
     return made, alone
-
-
-def tried_together(words, batch, kept):
-    """Which edits of the batch are refused, with what to say, and those of which the check shows nothing."""
-    checked = Checked(words, batch.texts, kept)
-    files = {file for edit in batch.edits for file, _, _ in edit.pairs}
-    refused = []
-    if checked.is_refused() and not checked.is_unread(files):
-        refused = refused_of(batch.functions, checked)
-    shown, rest = [], []
-    for edit, function in zip(batch.edits, batch.functions):
-        if function in refused:
-            said = f"refused, beside {len(batch.edits) - 1} others: {'::'.join(filter(None, function))}"
-            shown.append((edit, True, said))
-        else:
-            rest.append(edit)
-    return shown, rest
-
-
-def tried_alone(words, edit, texts, kept):
-    """The edit with whether the prover refuses it, and what to say."""
-    try:
-        edited = edit.applied(texts)
-    except BadEdit as why:
-        return edit, False, f"BAD EDIT: {why}"
-    for over in (kept, None):
-        checked = Checked(words, edited, over)
-        if checked.is_refused() and not checked.is_unread({file for file, _, _ in edit.pairs}):
-            why = checked.why()
-            gone = "only because a proof names what the edit took away, which says little of the contract"
-            return edit, True, f"refused, alone: {why[:160] if why else gone}"
-    if checked.is_proved():
-        return edit, False, "NOT REFUSED: the crate is proved with this edit"
-    return edit, False, f"BAD EDIT: it did not reach the prover: {checked.said[:300]}"
 
 
 class Crate:
@@ -293,37 +276,104 @@ class Crate:
     def __init__(self, name, top, folder):
         self.name, self.words, self.texts = name, words_over_rlibs(name, "check", top), texts_of(name)
         self.kept, self.earlier = os.path.join(folder, name), os.path.join(folder_of(name, top), "out", "incremental")
-        self.edits = edits_of(name)
+        self.edits, self.proved = edits_of(name), []
 
     def is_proved(self):
         """Proves the crate as it stands, over what an earlier check kept if one did, and keeps that work."""
         if os.path.isdir(self.earlier):
             shutil.copytree(self.earlier, self.kept)
         os.makedirs(self.kept, exist_ok=True)
-        return Checked(self.words, self.texts, self.kept, keep=True).is_proved()
+        checked = Checked(self.words, self.texts, self.kept, keep=True)
+        self.proved = PROVED.findall(checked.said)
+        return checked.is_proved()
+
+    def paths(self, functions):
+        """The paths of these functions as a check prints them, or none where one of them is not found."""
+        found = [[it for it in self.proved if is_of(own, it.partition("::")[2])] for own in functions]
+        return [path for paths in found for path in paths] if all(found) else []
 
     def tries(self):
-        """What is to be tried: functions that give the edits with what is said of each."""
+        """What is to be tried: functions that give the edits with what is said of each; first the longest."""
         together, alone = batches(self.edits, self.texts)
         return [lambda it=it: self.batch(it) for it in together] + [lambda it=it: [self.alone(it)] for it in alone]
 
     def batch(self, batch):
         """Tries a batch, then once more those of its edits of which it shows nothing, and the rest of these alone."""
-        shown, rest = tried_together(self.words, batch, self.kept)
+        shown, rest = self.together(batch)
         again, alone = batches(rest, self.texts) if 1 < len(rest) < len(batch.edits) else ([], rest)
         for it in again:
-            more, left = tried_together(self.words, it, self.kept)
+            more, left = self.together(it)
             shown, alone = shown + more, alone + left
         return shown + [self.alone(it) for it in alone]
 
+    def together(self, batch):
+        """Which edits of the batch are refused, with what to say, and those of which the check shows nothing."""
+        checked = Checked(self.words, batch.texts, self.kept, self.paths(batch.functions))
+        files = {file for edit, _ in batch.edits for file, _, _ in edit.pairs}
+        refused = set()
+        if checked.is_refused() and not checked.is_unread(files):
+            refused = refused_of(batch.edits, checked)
+        shown, rest = [], []
+        for edit, functions in batch.edits:
+            if edit in refused:
+                names = " ".join(sorted("::".join(filter(None, it)) for it in functions))
+                shown.append((edit, True, f"refused, beside {len(batch.edits) - 1} others: {names}"))
+            else:
+                rest.append(edit)
+        return shown, rest
+
     def alone(self, edit):
-        return tried_alone(self.words, edit, self.texts, self.kept)
+        """The edit with whether the prover refuses it, and what to say."""
+        try:
+            edited = edit.applied(self.texts)
+        except BadEdit as why:
+            return edit, False, f"BAD EDIT: {why}"
+        only = edit.only or self.paths(edit.functions(self.texts))
+        tries = [(self.kept, only)] * bool(only) + [(self.kept, ()), (None, ())] * (not edit.only)
+        for kept, some in tries:
+            checked = Checked(self.words, edited, kept, some)
+            if checked.is_refused() and not checked.is_unread({file for file, _, _ in edit.pairs}):
+                why = checked.why()
+                gone = "only because a proof names what the edit took away, which says little of the contract"
+                return edit, True, f"refused, alone: {why[:160] if why else gone}"
+        if checked.is_proved():
+            return edit, False, f"NOT REFUSED: {' '.join(edit.only) or 'the crate'} is proved with this edit"
+        return edit, False, f"BAD EDIT: it did not reach the prover: {checked.said[:300]}"
 
 
 def edits_of(crate):
     folder = os.path.join(folder_of(crate), "must-fail")
     names = sorted(os.listdir(folder)) if os.path.isdir(folder) else []
     return [Edit(crate, os.path.join(folder, it)) for it in names if it.endswith(".edit")]
+
+
+class Lanes:
+    """Threads that take the waiting tasks, the lowest rank first: the proof of a crate as it stands, since its tries
+    wait for it, and then these."""
+
+    def __init__(self, number):
+        self.waiting, self.turns = PriorityQueue(), itertools.count()
+        for _ in range(number):
+            Thread(target=self.work, daemon=True).start()
+
+    def submit(self, rank, task):
+        """What the task gives, once a thread has had time for it."""
+        future = Future()
+        self.waiting.put((rank, next(self.turns), task, future))
+        return future
+
+    def work(self):
+        while True:
+            _, _, task, future = self.waiting.get()
+            try:
+                future.set_result(task())
+            except BaseException as why:
+                future.set_exception(why)
+
+
+def begun(crate, lanes):
+    """The tries of a crate that is proved as it stands, or none."""
+    return [lanes.submit(1, lambda it=it: shown(it)) for it in crate.tries()] if crate.is_proved() else None
 
 
 def shown(tries):
@@ -339,24 +389,30 @@ def asked(words):
     """What the command line asks for."""
     parser = argparse.ArgumentParser(description="Tries the must-fail edits: the prover has to refuse each.")
     parser.add_argument("--over", default=TOP, help="the copy of the repository whose libraries are taken")
+    parser.add_argument("--follow", action="store_true", help="read the proved libraries' names from standard input")
     parser.add_argument("--lanes", type=int, default=len(os.sched_getaffinity(0)), help="how many checks run at once")
     parser.add_argument("crates", nargs="*", help="the crates, else all")
     return parser.parse_args(words)
 
 
 def main(words):
-    how = asked(words)
-    names, top = how.crates or dependencies(), os.path.abspath(how.over)
-    with tempfile.TemporaryDirectory(prefix="edits-kept-") as folder, ThreadPoolExecutor(how.lanes) as pool:
-        crates = [it for it in (Crate(name, top, folder) for name in names) if it.edits]
-        proved = list(pool.map(Crate.is_proved, crates))
-        for crate, well in zip(crates, proved):
-            if not well:
-                print(f"FAILED: {crate.name} is not proved as it stands, so none of its edits was tried")
-        tries = [it for crate, well in zip(crates, proved) if well for it in crate.tries()]
-        counts = list(pool.map(shown, tries))
-    passed = sum(it[0] for it in counts)
-    failed = sum(it[1] for it in counts) + proved.count(False)
+    how, names = asked(words), dependencies()
+    top, lanes, bases, proved = os.path.abspath(how.over), Lanes(how.lanes), {}, set() if how.follow else {*names}
+    with tempfile.TemporaryDirectory(prefix="edits-kept-") as folder:
+        crates = [it for it in (Crate(name, top, folder) for name in how.crates or names) if it.edits]
+        for library in itertools.chain([""], map(str.strip, sys.stdin) if how.follow else []):
+            proved.add(library)
+            for crate in crates:
+                if crate not in bases and proved.issuperset(below(crate.name, names)):
+                    bases[crate] = lanes.submit(0, lambda it=crate: begun(it, lanes))
+        counts = []
+        for crate in crates:
+            tries = bases[crate].result() if crate in bases else None
+            if tries is None:
+                why = "is not proved as it stands" if crate in bases else "lacks a library"
+                print(f"FAILED: {crate.name} {why}, so none of its edits was tried")
+            counts += [(0, 1)] if tries is None else [it.result() for it in tries]
+    passed, failed = map(sum, zip(*counts)) if counts else (0, 0)
     print(f"edits: {passed} passed, {failed} failed", flush=True)
     return 1 if failed else 0
 
