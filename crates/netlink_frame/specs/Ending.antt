@@ -1,12 +1,14 @@
 -- What the arguments ask for, and how the program ends.
-use Rattle.std.specs.Prelude.{◌≡◌, ◌≢◌, ℕ, List, [], ◌∷◌, ◌++◌, Option, None, Some, String, codes, string_bytes}
+use Rattle.std.specs.Prelude.{◌≡◌, ◌≢◌, ℕ, List, [], ◌∷◌, Option, None, Some, String, codes, string_bytes}
 use Rattle.std.specs.declared.alloc.Global.{Global}
 use Rattle.netlink_packet_core.specs.DecodeError.TheVariants.{OutOfMemory}
-use Rattle.netlink_frame.specs.Run.{Wrote, fault_text}
+use Rattle.netlink_program.specs.declared.ending.Ending.{Ending}
+use Rattle.netlink_program.specs.declared.ending.Ending.TheVariants as end
+use Rattle.netlink_frame.specs.Run.{Wrote}
 use Rattle.netlink_frame.specs.declared.command.Command.{Command}
 use Rattle.netlink_frame.specs.declared.command.Command.TheVariants.{Normalize, Show, Nlas, Canon, Frames}
-use Rattle.netlink_frame.specs.declared.ending.Ending.{Ending}
-use Rattle.netlink_frame.specs.declared.ending.Ending.TheVariants.{Done, Failed, Usage}
+use Rattle.netlink_frame.specs.declared.ending.Usage.{Usage}
+use Rattle.netlink_frame.specs.declared.run.Fault.{Fault}
 use Rattle.netlink_frame.specs.declared.run.Fault.TheVariants.{Decode}
 
 -- the word of a command
@@ -25,23 +27,16 @@ Asks (Some arguments) command =
     (name : String Global) × (word : String Global) × (arguments ≡ name ∷ (word ∷ []))
     × (string_bytes word ≡ word_of command)
 
--- the status of the process
-abbrev pub status_of : Ending → ℕ
-status_of Done = 0
-status_of (Failed fault) = 1
-status_of Usage = 2
-
--- what stands on standard error
-abbrev pub ending_text : Ending → List ℕ
-ending_text Done = []
-ending_text (Failed fault) = fault_text fault ++ (10 ∷ [])
-ending_text Usage = codes "usage: netlink_frame normalize|show|nlas|canon|frames" ++ (10 ∷ [])
+-- what is said where they ask for none
+abbrev pub usage_text : List ℕ
+usage_text = codes "usage: netlink_frame normalize|show|nlas|canon|frames"
 
 -- how a command over the whole input ended; want of memory, and a failed read or write, decide
 -- nothing here
-abbrev pub Ends : Command → List ℕ → Option (List ℕ) → Option (List ℕ) → Ending → Type 0
-Ends command input old new Done = Wrote command input old new None
-Ends command input old new (Failed (Decode e)) =
+abbrev pub Ends : Command → List ℕ → Option (List ℕ) → Option (List ℕ) → Ending Fault Usage
+    → Type 0
+Ends command input old new end.Done = Wrote command input old new None
+Ends command input old new (end.Failed (Decode e)) =
     e ≢ OutOfMemory → Wrote command input old new (Some e)
-Ends command input old new (Failed fault) = Unit {0}
-Ends command input old new Usage = ⊥
+Ends command input old new (end.Failed fault) = Unit {0}
+Ends command input old new (end.Usage said) = ⊥

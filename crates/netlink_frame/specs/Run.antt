@@ -11,6 +11,8 @@ use Rattle.netlink_packet_core.specs.Frame.{Frame}
 use Rattle.netlink_packet_core.specs.Refusal.{IsRefusal, SameRefusal}
 use Rattle.netlink_packet_core.specs.Walk.{Walk}
 use Rattle.netlink_packet_core.specs.declared.message.NetlinkMessage.{NetlinkMessage}
+use Rattle.netlink_program.specs.declared.reading.ReadFault.{ReadFault}
+use Rattle.netlink_program.specs.declared.reading.ReadFault.TheVariants as read
 use Rattle.netlink_tree.specs.FrameWalk.{FrameWalk}
 use Rattle.netlink_frame.specs.Lines.{message_lines, nla_lines, frame_lines}
 use Rattle.netlink_frame.specs.PingPong.{ping_pong_decoding, ping_pong_encoding, wants_memory}
@@ -69,6 +71,11 @@ IsSameFault Read Read = Unit {0}
 IsSameFault Write Write = Unit {0}
 IsSameFault (Decode a) (Decode b) = SameCause a b
 IsSameFault _ _ = ⊥
+
+-- the fault of a run over an input that was not had
+abbrev pub read_fault : ReadFault → Fault
+read_fault read.Read = Read
+read_fault read.OutOfMemory = Decode OutOfMemory
 
 -- a fault before anything was written
 abbrev pub IsEarly : Fault → Type 0

@@ -2,64 +2,29 @@
 
 ghost use Rattle.std.specs.Prelude.{◌≡◌, ◌↔◌, None, Some, IfSome, option_map};
 ghost use Rattle.std.specs.Io.KnownBytes.{Keeps};
-ghost use Rattle.std.specs.Process.{exit_status};
 ghost use Rattle.std.specs.Vec.Iter.{into_iter_items};
-ghost use Rattle.netlink_frame.specs.Ending.{Asks, Ends, ending_text, status_of};
+ghost use Rattle.netlink_program.specs.Ending.{IsUsage};
+ghost use Rattle.netlink_frame.specs.Ending.{Asks, Ends, usage_text};
 ghost use Rattle.netlink_frame.specs.Run.{IsEarly};
 ghost use Rattle.netlink_frame.specs.declared.command.Command.{Command};
 
 use crate::command::Command;
 use crate::run::{Fault, run};
+use netlink_program::Ending;
 use std::alloc::Global;
 use std::env::Args;
 use std::fmt;
 use std::io::{Read, Write};
-use std::process::{ExitCode, Termination};
 
-/// How the program ends. What it displays as is what stands on standard error.
+/// What is said where the arguments are no command.
 #[derive(Debug, Drop)]
-pub enum Ending {
-    /// The output is written whole. Nothing is said; the status is 0.
-    Done,
-    /// The run ended with this fault. Its text and a line feed are said; the status is 1.
-    Failed(Fault),
-    /// The arguments are no command. The usage is said; the status is 2.
-    Usage,
-}
+pub struct Usage;
 
-impl Ending {
-    /// The number that the process ends with.
-    pub fn status(&self) -> u8
-        ensures status { result ≡ status_of self.now }
-    {
-        match self {
-            Ending::Done => 0,
-            Ending::Failed(_) => 1,
-            Ending::Usage => 2,
-        }
-    }
-}
-
-impl fmt::Display for Ending {
-    ghost output = { λ ending. Some (ending_text ending) };
+impl fmt::Display for Usage {
+    ghost output = { λ _. Some usage_text };
 
     fn fmt<W: fmt::Write>(&self, f: &mut fmt::Formatter<W>) -> fmt::Result {
-        match self {
-            Ending::Done => Ok(()),
-            Ending::Failed(fault) => writeln!(f, "{fault}"),
-            Ending::Usage => f.write_str("usage: netlink_frame normalize|show|nlas|canon|frames\n"),
-        }
-    }
-}
-
-impl Termination for Ending {
-    /// Says on standard error what there is to say, and gives the status. A failed write is no
-    /// fault.
-    fn report<R: Eprint>(self, rt: &R) -> ExitCode
-        ensures status { exit_status result ≡ status_of self }
-    {
-        let _ = eprint!(rt; "{self}");
-        ExitCode::from(self.status())
+        f.write_str("usage: netlink_frame normalize|show|nlas|canon|frames")
     }
 }
 
@@ -84,8 +49,8 @@ pub fn ended<R: Read, W: Write>(
     command: Option<Command>,
     reader: &mut R,
     writer: &mut W,
-) -> Ending
-    ensures usage { (result ≡ Ending.Usage) ↔ (command ≡ None) }
+) -> Ending<Fault, Usage>
+    ensures usage { IsUsage result ↔ (command ≡ None) }
     ensures untouched { command ≡ None → (reader.new ≡ reader.old) × (writer.new ≡ writer.old) }
     ensures early { (fault : Fault) → result ≡ Ending.Failed fault → IsEarly fault
         → Keeps (W.contents writer.old) (W.contents writer.new) }
@@ -93,7 +58,7 @@ pub fn ended<R: Read, W: Write>(
         Ends asked input (W.contents writer.old) (W.contents writer.new) result)) }
 {
     let Some(command) = command else {
-        return Ending::Usage;
+        return Ending::Usage(Usage);
     };
     match run(alloc, command, reader, writer) {
         Ok(()) => Ending::Done,

@@ -9,7 +9,7 @@ ghost use Rattle.netlink_packet_core.specs.declared.message.NetlinkMessage.{Netl
 ghost use Rattle.netlink_frame.specs.Lines.{message_lines};
 ghost use Rattle.netlink_frame.specs.PingPong.{ping_pong_decoding, wants_memory};
 ghost use Rattle.netlink_frame.specs.declared.ping_pong.PingPongMessage.{PingPongMessage};
-ghost use Rattle.netlink_frame.specs.Run.{Answers, IsEarly, Makes, fault_text};
+ghost use Rattle.netlink_frame.specs.Run.{Answers, IsEarly, Makes, fault_text, read_fault};
 
 use crate::command::Command;
 use crate::frames::{frames_fault, frames_text};
@@ -17,9 +17,10 @@ use crate::nlas::{nlas_fault, nlas_text};
 use crate::ping_pong::PingPongMessage;
 use crate::text::show_text;
 use netlink_packet_core::{DecodeError, NetlinkMessage, normalize, normalize_nlas};
+use netlink_program::{ReadFault, read_all};
 use std::alloc::{AllocError, Global};
+use std::fmt;
 use std::io::{Read, Write};
-use std::{fmt, io};
 
 /// Why a run did not end well.
 #[derive(Debug, Drop, PartialEq, Eq)]
@@ -44,11 +45,16 @@ impl fmt::Display for Fault {
     }
 }
 
-/// The most calls of the reader in one run.
-const CALLS: u32 = 1_048_576;
+impl From<ReadFault> for Fault {
+    ghost from_gives = { λ cause fault. fault ≡ read_fault cause };
 
-/// The most bytes of one call.
-const CHUNK: usize = 4096;
+    fn from(cause: ReadFault) -> Fault {
+        match cause {
+            ReadFault::Read => Fault::Read,
+            ReadFault::OutOfMemory => Fault::Decode(DecodeError::OutOfMemory),
+        }
+    }
+}
 
 /// What a command makes of an input.
 struct Answer {
@@ -85,31 +91,6 @@ pub fn run<R: Read, W: Write>(
         None => Ok(()),
         Some(cause) => Err(Fault::Decode(cause)),
     }
-}
-
-/// All that the reader gives.
-fn read_all<R: Read>(alloc: Global, reader: &mut R) -> Result<Vec<u8>, Fault>
-    ensures ok { IfOk result (λ input. IfSome (R.remaining reader.old) (λ all. input.items ≡ all)) }
-    ensures err { IfErr result IsEarly }
-{
-    let mut input = Vec::new(alloc);
-    let mut chunk = [0u8; CHUNK];
-    for _ in 0..CALLS {
-        match reader.read(&mut chunk) {
-            Ok(0) => return Ok(input),
-            Ok(n) => {
-                if input.extend_from_slice(&chunk[..n]).is_err() {
-                    return Err(Fault::Decode(DecodeError::OutOfMemory));
-                }
-            }
-            Err(e) => {
-                if e.kind() != io::ErrorKind::Interrupted {
-                    return Err(Fault::Read);
-                }
-            }
-        }
-    }
-    Err(Fault::Read)
 }
 
 /// The output of the command and its fault, or want of memory.

@@ -2,6 +2,8 @@
 use Rattle.std.specs.Prelude.{ℕ, List, ◌++◌, Option, None, Some, Result, Ok, Err, codes, decimal}
 use Rattle.std.specs.Io.KnownBytes.{Appends}
 use Rattle.netlink_packet_core.specs.Causes.{cause_text}
+use Rattle.netlink_program.specs.declared.reading.ReadFault.{ReadFault}
+use Rattle.netlink_program.specs.declared.reading.ReadFault.TheVariants as read
 use Rattle.netlink_links.specs.Messages.{Makes}
 use Rattle.netlink_links.specs.declared.messages.Refused.{Refused}
 use Rattle.netlink_links.specs.declared.run.Fault.{Fault}
@@ -19,6 +21,11 @@ abbrev pub Answers : {A : Type 0} → List ℕ → Option (List ℕ) → Option 
 Answers input old new (Ok done) = Wrote input old new None
 Answers input old new (Err (fault.Refused refused)) = Wrote input old new (Some refused)
 Answers input old new (Err other) = Unit {0}
+
+-- the fault of a run over an input that was not had
+abbrev pub read_fault : ReadFault → Fault
+read_fault read.Read = fault.Read
+read_fault read.OutOfMemory = fault.OutOfMemory
 
 -- a fault before anything was written
 abbrev pub IsEarly : Fault → Type 0

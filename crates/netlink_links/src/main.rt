@@ -15,11 +15,13 @@ mod run;
 mod tests;
 mod text;
 
-use crate::ending::{Ending, asked, ended};
+use crate::ending::{Usage, asked, ended};
+use crate::run::Fault;
+use netlink_program::Ending;
 use std::{env, io};
 
 /// Ends with status 0; with 1 and the fault's text on standard error; or with 2 and the usage.
-fn main(rt: HostRuntime) -> Ending {
+fn main(rt: HostRuntime) -> Ending<Fault, Usage> {
     let is_asked = asked(env::args(&rt).ok());
     ended(rt.alloc(), is_asked, &mut rt.reader(), &mut io::writer(&rt))
 }

@@ -1,13 +1,14 @@
 //! A run of the program over a reader and a writer.
 
-ghost use Rattle.std.specs.Prelude.{◌≡◌, Some, IfOk, IfErr, IfSome};
+ghost use Rattle.std.specs.Prelude.{◌≡◌, Some, IfErr, IfSome};
 ghost use Rattle.std.specs.Io.KnownBytes.{Keeps};
-ghost use Rattle.netlink_links.specs.Run.{Answers, IsEarly, fault_text};
+ghost use Rattle.netlink_links.specs.Run.{Answers, IsEarly, fault_text, read_fault};
 
 use crate::messages::{Answer, Refused, answer_to};
+use netlink_program::{ReadFault, read_all};
 use std::alloc::Global;
+use std::fmt;
 use std::io::{Read, Write};
-use std::{fmt, io};
 
 /// Why a run did not end well.
 #[derive(Debug, Drop, PartialEq, Eq)]
@@ -35,11 +36,16 @@ impl fmt::Display for Fault {
     }
 }
 
-/// The most calls of the reader in one run.
-const CALLS: u32 = 1_048_576;
+impl From<ReadFault> for Fault {
+    ghost from_gives = { λ cause fault. fault ≡ read_fault cause };
 
-/// The most bytes of one call.
-const CHUNK: usize = 4096;
+    fn from(cause: ReadFault) -> Fault {
+        match cause {
+            ReadFault::Read => Fault::Read,
+            ReadFault::OutOfMemory => Fault::OutOfMemory,
+        }
+    }
+}
 
 /// Writes the lines of all messages that the reader gives, in one piece, and ends with the first
 /// refusal.
@@ -65,29 +71,4 @@ pub fn run<R: Read, W: Write>(alloc: Global, reader: &mut R, writer: &mut W) -> 
         None => Ok(()),
         Some(refused) => Err(Fault::Refused(refused)),
     }
-}
-
-/// All that the reader gives.
-fn read_all<R: Read>(alloc: Global, reader: &mut R) -> Result<Vec<u8>, Fault>
-    ensures ok { IfOk result (λ input. IfSome (R.remaining reader.old) (λ all. input.items ≡ all)) }
-    ensures err { IfErr result IsEarly }
-{
-    let mut input = Vec::new(alloc);
-    let mut chunk = [0u8; CHUNK];
-    for _ in 0..CALLS {
-        match reader.read(&mut chunk) {
-            Ok(0) => return Ok(input),
-            Ok(n) => {
-                if input.extend_from_slice(&chunk[..n]).is_err() {
-                    return Err(Fault::OutOfMemory);
-                }
-            }
-            Err(e) => {
-                if e.kind() != io::ErrorKind::Interrupted {
-                    return Err(Fault::Read);
-                }
-            }
-        }
-    }
-    Err(Fault::Read)
 }

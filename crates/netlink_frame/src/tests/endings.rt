@@ -1,17 +1,14 @@
 //! The arguments, the statuses and what stands on standard error.
 
 use crate::command::Command;
-use crate::ending::{Ending, asked, ended};
+use crate::ending::{Usage, asked, ended};
 use crate::laws::faults_equal;
 use crate::run::Fault;
 use crate::tests::messages::PING;
 use netlink_packet_core::DecodeError;
+use netlink_program::Ending;
 use std::alloc::{AllocError, Global};
-use std::cell::RefCell;
 use std::env::Args;
-use std::fmt::Display;
-use std::io;
-use std::process::{ExitCode, Termination};
 use std::test::Fail;
 
 const USAGE: &str = "usage: netlink_frame normalize|show|nlas|canon|frames\n";
@@ -51,28 +48,6 @@ fn one_word_behind_the_name_is_a_command(rt: HostRuntime) -> Result<(), Fail> {
     Ok(())
 }
 
-/// Keeps what is said on standard error.
-#[derive(Drop)]
-struct Said {
-    alloc: Global,
-    text: RefCell<String>,
-}
-
-impl Eprint for Said {
-    fn eprint<D: Display + Drop>(&self, value: D) -> io::Result<()> {
-        let said = value.to_string(self.alloc)?;
-        if let Ok(mut text) = self.text.try_borrow_mut() {
-            text.push_str(said.as_str())?;
-        }
-        Ok(())
-    }
-
-    fn eprintln<D: Display + Drop>(&self, value: D) -> io::Result<()> {
-        self.eprint(value)?;
-        self.eprint("\n")
-    }
-}
-
 #[test]
 fn each_ending_has_its_status_and_its_text(rt: HostRuntime) -> Result<(), Fail> {
     let alloc = rt.alloc();
@@ -90,17 +65,11 @@ fn each_ending_has_its_status_and_its_text(rt: HostRuntime) -> Result<(), Fail> 
             1,
             "out of memory\n",
         ),
-        (Ending::Usage, 2, USAGE),
+        (Ending::Usage(Usage), 2, USAGE),
     ];
     for (ending, status, text) in rows {
         assert_eq!(rt; ending.status(), status);
         assert_eq!(rt; ending.to_string(alloc)?.as_str(), text);
-        let said = Said {
-            alloc,
-            text: RefCell::new(String::new(alloc)),
-        };
-        assert!(rt; ending.report(&said) == ExitCode::from(status));
-        assert_eq!(rt; said.text.into_inner().as_str(), text);
     }
 
     faults_equal();

@@ -1,5 +1,5 @@
 use Rattle.std.specs.Io.KnownBytes.{Consumes}
-use Rattle.netlink_links.proofs.run.read_all.Given as goal
+use Rattle.netlink_program.proofs.reading.read_all.Given as goal
 
 -- what was taken in so far is what the reader lost
 abbrev pub invariant-loop : goal.invariant-loop

@@ -1,0 +1,11 @@
+//! What a program does around its own work: it reads its input whole, and ends with a status and a
+//! text.
+#![tactic(auto)]
+
+mod ending;
+mod reading;
+#[cfg(test)]
+mod tests;
+
+pub use crate::ending::Ending;
+pub use crate::reading::{ReadFault, read_all};

@@ -1,0 +1,5 @@
+//! Inputs, and ends of programs.
+
+mod endings;
+mod inputs;
+mod memory_refused;

@@ -1,0 +1,21 @@
+//! Calls that ask for memory.
+//!
+//! `tests/memory` runs each test once for each of its requests, with that one refused. Then it
+//! passes as ever, or it ends with want of memory, which it hands on by `?`.
+
+use crate::read_all;
+use std::test::Fail;
+
+/// Two chunks and a byte.
+const INPUT: [u8; 8193] = [7; 8193];
+
+#[test]
+fn inputs_are_read(rt: HostRuntime) -> Result<(), Fail> {
+    let mut reader: &[u8] = &INPUT;
+    let read = read_all(rt.alloc(), &mut reader)?;
+    assert!(rt; read.as_slice() == INPUT.as_slice());
+    assert!(rt; reader.is_empty());
+    let read = read_all(rt.alloc(), &mut reader)?;
+    assert!(rt; read.is_empty());
+    Ok(())
+}
