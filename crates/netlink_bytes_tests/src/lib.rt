@@ -1,4 +1,4 @@
-//! Numbers, causes, texts and storages: the tests of `netlink_bytes`, over its public calls.
+//! The tests of `netlink_bytes`, over its public calls: numbers, causes, texts, storages.
 //!
 //! They are a crate of their own, since a crate that has tests is proved twice, with them and
 //! without.

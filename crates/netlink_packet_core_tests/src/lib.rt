@@ -1,4 +1,4 @@
-//! Messages, their views and bodies, and frames: the tests of `netlink_packet_core`, over its public calls.
+//! The tests of `netlink_packet_core`, over its public calls: messages, views, bodies, frames.
 //!
 //! They are a crate of their own, since a crate that has tests is proved twice, with them and
 //! without.
