@@ -209,11 +209,12 @@ def is_of(function, path):
     """Whether the path of a function, without its crate, is this one's.
 
     A member of a type's own impl has the path of the type, wherever the impl stands. One of a trait's impl has that of
-    the module, then the type and the trait in one word. What either is given stands behind, or between, with signs.
+    the module, then the type and the trait in one word, where a number's type begins with a capital. What either is
+    given stands behind, or between, with signs.
     """
     module, trait, owner, name = function
     *front, member, last = ["", *path.split("::")]
-    if last != name or not member.startswith(owner) or trait not in member:
+    if last != name or not member.lower().startswith(owner.lower()) or trait not in member:
         return False
     inside = "::".join(filter(None, front if owner or trait else [*front, member]))
     return bool(owner and not trait) or inside == module
