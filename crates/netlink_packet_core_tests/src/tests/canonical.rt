@@ -6,7 +6,7 @@ use std::alloc::{AllocError, Global};
 use std::test::Fail;
 
 /// A header of this length and type and zeros, with these bytes behind it.
-pub fn bytes_of(
+pub(crate) fn bytes_of(
     alloc: Global,
     length: u8,
     message_type: u8,

@@ -142,7 +142,7 @@ fn frames_are_refused(rt: HostRuntime) -> Result<(), Fail> {
 }
 
 /// What an answer is refused for.
-pub fn refusal_of<T: Drop>(answer: Result<T, DecodeError>) -> Result<DecodeError, Fail> {
+pub(crate) fn refusal_of<T: Drop>(answer: Result<T, DecodeError>) -> Result<DecodeError, Fail> {
     match answer {
         Ok(_) => Err(Fail::from("the bytes are read")),
         Err(refusal) => Ok(refusal),
