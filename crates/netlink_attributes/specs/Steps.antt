@@ -1,10 +1,8 @@
 -- What calls of `next` do.
-use Rattle.std.specs.Prelude.{ℕ, ◌+◌, ◌/◌, ◌≤◌, List, Option, length}
+use Rattle.std.specs.Prelude.{ℕ, ◌+◌, ◌/◌, List, Option, length}
 use denote.Ref.{Bor}
-use Rattle.std.specs.Iterator.{Drains}
-use Rattle.netlink_bytes.specs.declared.error.DecodeError.{DecodeError}
-use Rattle.netlink_attributes.specs.Attribute.{Attribute}
-use Rattle.netlink_attributes.specs.Walk.{Walk, Item, Gives, AreItems}
+use Rattle.netlink_bytes.specs.WalkItems.{GivesAll}
+use Rattle.netlink_attributes.specs.Walk.{Starts, IsFault, Item, Gives, ShowsAttribute}
 use Rattle.netlink_attributes.specs.declared.iterator.NlasIterator.{NlasIterator}
 
 -- the bytes that are still to be walked
@@ -19,9 +17,8 @@ steps before item after = Gives (unread before) item (unread after)
 abbrev pub item_bound : List ℕ → ℕ
 item_bound bytes = (length bytes + 3) / 4
 
--- The unread bytes have a walk, and calls of `next` until it gives `None` give exactly that walk.
+-- The unread bytes have a walk, and calls of `next` until it gives `None` give exactly that walk:
+-- some attributes and some fault of which `Walk` holds, and any items that are all that the calls
+-- give are these (`AreItems`), `item_bound` of them at most.
 abbrev pub GivesWalk : NlasIterator (Bor (List ℕ)) → Type 0
-GivesWalk walk =
-    (all : List Attribute) × (fault : Option DecodeError) × Walk (unread walk) all fault
-    × ((items : List Item) → Drains steps walk items
-    → AreItems items all fault × (length items ≤ item_bound (unread walk)))
+GivesWalk = GivesAll Starts IsFault ShowsAttribute unread steps item_bound

@@ -1,6 +1,7 @@
 -- What bytes are as attributes one after another.
-use Rattle.std.specs.Prelude.{ℕ, ◌<◌, ◌≤◌, ◌≡◌, ◌≢◌, ◌⊎◌, List, [], ◌∷◌, ◌++◌, length, Option, Some, None, Result, Ok, Err}
+use Rattle.std.specs.Prelude.{ℕ, ◌<◌, ◌≤◌, ◌≡◌, ◌≢◌, ◌⊎◌, List, [], ◌++◌, length, Option, Some, None, Result, Ok, Err}
 use denote.Ref.{Bor}
+use Rattle.netlink_bytes.specs.WalkItems.{ItemsShow}
 use Rattle.netlink_bytes.specs.Walks.{WalksAs}
 use Rattle.netlink_bytes.specs.declared.error.DecodeError.{DecodeError}
 use Rattle.netlink_bytes.specs.declared.error.DecodeError.TheVariants.{NlaBufferTooSmall, NlaLengthMismatch, NlaInvalidLength}
@@ -44,14 +45,10 @@ Gives bytes (Some (Err fault)) rest = (bytes ≢ []) × IsFault bytes fault × (
 Gives bytes (Some (Ok view)) rest =
     (shown view ≡ bytes) × HoldsAttribute (shown view) × Starts bytes (attribute_of bytes) rest
 
+-- a view begins with the attribute
+abbrev pub ShowsAttribute : NlaBuffer (Bor (List ℕ)) → Attribute → Type 0
+ShowsAttribute view a = attribute_of (shown view) ≡ a
+
 -- the items are views that begin with these attributes, and then the fault, if there is one
 abbrev pub AreItems : List Item → List Attribute → Option DecodeError → Type 0
-AreItems [] [] None = Unit {0}
-AreItems [] [] (Some fault) = ⊥
-AreItems [] (a ∷ more) fault = ⊥
-AreItems (Err found ∷ items) [] (Some fault) = (found ≡ fault) × (items ≡ [])
-AreItems (Err found ∷ items) [] None = ⊥
-AreItems (Err found ∷ items) (a ∷ more) fault = ⊥
-AreItems (Ok view ∷ items) [] fault = ⊥
-AreItems (Ok view ∷ items) (a ∷ more) fault =
-    (attribute_of (shown view) ≡ a) × AreItems items more fault
+AreItems = ItemsShow ShowsAttribute

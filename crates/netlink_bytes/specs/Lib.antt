@@ -10,4 +10,5 @@ pub mod Storage
 pub mod StorageLaws
 pub mod Text
 pub mod Traits
+pub mod WalkItems
 pub mod Walks

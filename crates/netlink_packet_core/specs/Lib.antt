@@ -40,6 +40,7 @@ pub use Rattle.netlink_bytes.specs.Storage
 pub use Rattle.netlink_bytes.specs.StorageLaws
 pub use Rattle.netlink_bytes.specs.Text
 pub use Rattle.netlink_bytes.specs.Traits
+pub use Rattle.netlink_bytes.specs.WalkItems
 pub use Rattle.netlink_bytes.specs.Walks
 pub use Rattle.netlink_bytes.specs.declared.error.DecodeError
 pub use Rattle.netlink_ethernet.specs.Table

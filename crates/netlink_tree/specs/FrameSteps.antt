@@ -1,11 +1,11 @@
 -- What calls of `next` do.
-use Rattle.std.specs.Prelude.{◌≡◌, ◌≢◌, ◌≤◌, ◌+◌, ◌/◌, ℕ, List, [], ◌∷◌, false, length, Option, Some, None, Result, Ok, Err}
+use Rattle.std.specs.Prelude.{◌≡◌, ◌≢◌, ◌+◌, ◌/◌, ℕ, List, [], false, length, Option, Some, None, Result, Ok, Err}
 use denote.Ref.{Bor}
-use Rattle.std.specs.Iterator.{Drains}
+use Rattle.netlink_packet_core.specs.WalkItems.{GivesAll, ItemsShow}
 use Rattle.netlink_packet_core.specs.DecodeError.{DecodeError}
 use Rattle.netlink_packet_core.specs.Header.{HoldsFrame}
 use Rattle.netlink_packet_core.specs.Refusal.{IsFrameFault}
-use Rattle.netlink_packet_core.specs.FrameWalk.{FrameWalk, StartsFrame}
+use Rattle.netlink_packet_core.specs.FrameWalk.{StartsFrame}
 use Rattle.netlink_tree.specs.declared.frames.Frames.{Frames}
 
 -- the bytes that are still to be walked
@@ -28,25 +28,21 @@ GivesFrame bytes (Some (Ok frame)) rest = HoldsFrame frame.now × StartsFrame by
 abbrev pub frame_steps : Frames (Bor (List ℕ)) → Option FrameItem → Frames (Bor (List ℕ)) → Type 0
 frame_steps before item after = GivesFrame (unread_frames before) item (unread_frames after)
 
+-- an item is the frame
+abbrev pub ShowsFrame : Bor (List ℕ) → List ℕ → Type 0
+ShowsFrame item frame = item.now ≡ frame
+
 -- the items are these frames, and then the fault, if there is one
 abbrev pub AreFrames : List FrameItem → List (List ℕ) → Option DecodeError → Type 0
-AreFrames [] [] None = Unit {0}
-AreFrames [] [] (Some fault) = ⊥
-AreFrames [] (f ∷ more) fault = ⊥
-AreFrames (Err found ∷ items) [] (Some fault) = (found ≡ fault) × (items ≡ [])
-AreFrames (Err found ∷ items) [] None = ⊥
-AreFrames (Err found ∷ items) (f ∷ more) fault = ⊥
-AreFrames (Ok frame ∷ items) [] fault = ⊥
-AreFrames (Ok frame ∷ items) (f ∷ more) fault = (frame.now ≡ f) × AreFrames items more fault
+AreFrames = ItemsShow ShowsFrame
 
 -- the most items that bytes can have
 abbrev pub frame_bound : List ℕ → ℕ
 frame_bound bytes = (length bytes + 15) / 16
 
 -- The unread bytes are frames one after another, and calls of `next` until it gives `None` give
--- exactly those.
+-- exactly those: some frames and some fault of which `FrameWalk` holds, and any items that are all
+-- that the calls give are these (`AreFrames`), `frame_bound` of them at most.
 abbrev pub GivesFrames : Frames (Bor (List ℕ)) → Type 0
-GivesFrames walk =
-    (all : List (List ℕ)) × (fault : Option DecodeError) × FrameWalk (unread_frames walk) all fault
-    × ((items : List FrameItem) → Drains frame_steps walk items
-    → AreFrames items all fault × (length items ≤ frame_bound (unread_frames walk)))
+GivesFrames =
+    GivesAll StartsFrame (IsFrameFault false) ShowsFrame unread_frames frame_steps frame_bound
