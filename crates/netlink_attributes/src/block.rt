@@ -11,6 +11,7 @@ ghost use Rattle.netlink_attributes.specs.Walk.{Walk};
 use crate::align::nla_align;
 use crate::canonical::is_canonical_nlas;
 use crate::constants::NLA_HEADER_SIZE;
+use crate::fault::nlas_fault;
 use crate::iterator::NlasIterator;
 use netlink_bytes::{DecodeError, copy_of};
 use std::alloc::{AllocError, Global};
@@ -46,22 +47,10 @@ pub fn normalize_nlas(alloc: Global, bytes: &[u8]) -> Result<Vec<u8>, DecodeErro
     if is_canonical_nlas(bytes) {
         return Ok(copy_of(alloc, bytes)?);
     }
-    check_walk(bytes)?;
-    rewritten(alloc, bytes)
-}
-
-/// The fault of a walk.
-fn check_walk(bytes: &[u8]) -> Result<(), DecodeError>
-    ensures { MatchResult result (λ _. (all : List Attribute) × Walk bytes.now all None)
-        (λ e. (all : List Attribute) × Walk bytes.now all (Some e)) }
-{
-    for item in NlasIterator::new(bytes) {
-        match item {
-            Ok(_) => {}
-            Err(fault) => return Err(fault),
-        }
+    match nlas_fault(bytes) {
+        Some(fault) => Err(fault),
+        None => rewritten(alloc, bytes),
     }
-    Ok(())
 }
 
 /// The attributes of a walk as they are written, in one request for memory.

@@ -7,6 +7,7 @@ mod buffer;
 mod canonical;
 mod constants;
 mod default;
+mod fault;
 mod find;
 mod fitting;
 mod iterator;
@@ -23,6 +24,7 @@ pub use crate::constants::{
     NLA_ALIGNTO, NLA_F_NESTED, NLA_F_NET_BYTEORDER, NLA_HEADER_SIZE, NLA_TYPE_MASK, NLA_VALUE_MAX,
 };
 pub use crate::default::DefaultNla;
+pub use crate::fault::nlas_fault;
 pub use crate::find::{nla_find, nla_find_raw};
 pub use crate::fitting::{NLA_BLOCK_MAX, NlaBlock};
 pub use crate::iterator::NlasIterator;

@@ -26,17 +26,6 @@ pub fn frames_text(alloc: Global, datagram: &[u8]) -> Result<String, DecodeError
     Ok(shown_frames(alloc, datagram)?)
 }
 
-/// The fault that the frames of a datagram end with (`FrameShort`, `FrameCut` or `FrameLength`), or
-/// `None` where they end without one. Asks for no memory.
-pub fn frames_fault(datagram: &[u8]) -> Option<DecodeError>
-    ensures fault { (all : List (List ℕ)) × FrameWalk datagram.now all result }
-    ensures each { (all : List (List ℕ)) (fault : Option DecodeError)
-        → FrameWalk datagram.now all fault → result ≡ fault }
-{
-    frames_unique();
-    last_fault(datagram)
-}
-
 /// The lines of frames.
 fn shown_frames(alloc: Global, datagram: &[u8]) -> Result<String, AllocError>
     ensures { IfOk result
@@ -51,19 +40,6 @@ fn shown_frames(alloc: Global, datagram: &[u8]) -> Result<String, AllocError>
         }
     }
     Ok(text)
-}
-
-/// The fault that frames end with.
-fn last_fault(datagram: &[u8]) -> Option<DecodeError>
-    ensures { (all : List (List ℕ)) × FrameWalk datagram.now all result }
-{
-    for item in Frames::new(datagram) {
-        match item {
-            Ok(_) => {}
-            Err(fault) => return Some(fault),
-        }
-    }
-    None
 }
 
 /// The line of a frame.

@@ -32,18 +32,6 @@ pub fn nlas_text(alloc: Global, block: &[u8]) -> Result<String, DecodeError>
     Ok(walked_text(alloc, block)?)
 }
 
-/// The fault that the walk of a block ends with (`NlaBufferTooSmall`, `NlaLengthMismatch` or
-/// `NlaInvalidLength`), or `None` where it ends without one.
-/// Asks for no memory.
-pub fn nlas_fault(block: &[u8]) -> Option<DecodeError>
-    ensures fault { (all : List Attribute) × Walk block.now all result }
-    ensures each { (all : List Attribute) (fault : Option DecodeError) → Walk block.now all fault
-        → result ≡ fault }
-{
-    walk_unique();
-    walked_fault(block)
-}
-
 /// The lines of a walk.
 fn walked_text(alloc: Global, block: &[u8]) -> Result<String, AllocError>
     ensures { IfOk result
@@ -58,19 +46,6 @@ fn walked_text(alloc: Global, block: &[u8]) -> Result<String, AllocError>
         }
     }
     Ok(text)
-}
-
-/// The fault of a walk.
-fn walked_fault(block: &[u8]) -> Option<DecodeError>
-    ensures { (all : List Attribute) × Walk block.now all result }
-{
-    for item in NlasIterator::new(block) {
-        match item {
-            Ok(_) => {}
-            Err(fault) => return Some(fault),
-        }
-    }
-    None
 }
 
 /// Adds the line of an attribute.

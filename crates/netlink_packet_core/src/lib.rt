@@ -73,6 +73,7 @@ pub use netlink_attributes::nla_find;
 pub use netlink_attributes::nla_find_raw;
 pub use netlink_attributes::nla_fits;
 pub use netlink_attributes::nla_place;
+pub use netlink_attributes::nlas_fault;
 pub use netlink_attributes::nlas_value_mut;
 pub use netlink_attributes::normalize_nlas;
 pub use netlink_attributes::write_nla_value;

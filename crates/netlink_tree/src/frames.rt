@@ -1,7 +1,8 @@
 //! The frames of a datagram, one after another.
 
-ghost use Rattle.std.specs.Prelude.{◌≡◌, ◌+◌, ◌%◌, ◌^◌, ◌<◌, ◌≤◌, ◌++◌, ◌⊎◌, ◌∷◌, [], List, ℕ, None, false, IfErr, IfOk, IsOk, OnErr, OnOk, length, replicate, vec_len, vec_capacity};
+ghost use Rattle.std.specs.Prelude.{◌≡◌, ◌+◌, ◌%◌, ◌^◌, ◌<◌, ◌≤◌, ◌++◌, ◌⊎◌, ◌∷◌, [], List, ℕ, None, false, IfErr, IfOk, IsOk, OnErr, OnOk, Option, length, replicate, vec_len, vec_capacity};
 ghost use Rattle.std.specs.Iterator.{at_most};
+ghost use Rattle.netlink_packet_core.specs.DecodeError.{DecodeError};
 ghost use Rattle.netlink_packet_core.specs.Header.{field, HoldsFrame};
 ghost use Rattle.netlink_packet_core.specs.Refusal.{IsFrameFault};
 ghost use Rattle.netlink_tree.specs.FrameSteps.{unread_frames, frame_steps, frame_bound, GivesFrames};
@@ -55,6 +56,24 @@ impl<'a> Iterator for Frames<&'a [u8]> {
             }
         }
     }
+}
+
+/// The fault that the frames of a datagram end with (`FrameShort`, `FrameCut` or `FrameLength`), or
+/// `None` where they end without one.
+///
+/// So `None` says that the bytes are frames from their first byte to their last. Asks for no memory.
+pub fn frames_fault(datagram: &[u8]) -> Option<DecodeError>
+    ensures fault { (all : List (List ℕ)) × FrameWalk datagram.now all result }
+    ensures each { (all : List (List ℕ)) (fault : Option DecodeError)
+        → FrameWalk datagram.now all fault → result ≡ fault }
+{
+    for item in Frames::new(datagram) {
+        match item {
+            Ok(_) => {}
+            Err(fault) => return Some(fault),
+        }
+    }
+    None
 }
 
 /// The frame that the bytes start with, or their fault.

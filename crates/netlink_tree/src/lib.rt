@@ -13,7 +13,7 @@ mod tree;
 mod write;
 
 pub use crate::fault::TreeFault;
-pub use crate::frames::{Frames, append_frame};
+pub use crate::frames::{Frames, append_frame, frames_fault};
 pub use crate::read::read_tree;
 pub use crate::tree::{NlaTree, is_well_formed};
 pub use crate::write::write_tree;

@@ -1,7 +1,7 @@
 //! Walks, what is normalised, and where a value lies.
 
 use super::TWO;
-use netlink_attributes::{NlasIterator, nla_place, normalize_nlas};
+use netlink_attributes::{NlasIterator, nla_place, nlas_fault, normalize_nlas};
 use std::alloc::{AllocError, Global};
 use std::test::Fail;
 
@@ -51,6 +51,10 @@ fn walks_give_attributes_and_then_the_fault(rt: HostRuntime) -> Result<(), Fail>
         assert!(rt; found.as_slice() == kinds);
         assert!(rt; found_values.as_slice() == values);
         assert_eq!(rt; found_fault.as_str(), fault);
+        match nlas_fault(bytes) {
+            Some(cause) => assert_eq!(rt; cause.to_string(rt.alloc())?.as_str(), fault),
+            None => assert!(rt; fault.is_empty()),
+        }
     }
     Ok(())
 }

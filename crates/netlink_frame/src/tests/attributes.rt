@@ -1,7 +1,6 @@
 //! The commands over attributes.
 
 use crate::command::Command;
-use crate::nlas::nlas_fault;
 use crate::run::{Fault, run};
 use netlink_packet_core::DecodeError;
 use std::test::Fail;
@@ -26,7 +25,6 @@ fn lines_of_attributes(rt: HostRuntime) -> Result<(), Fail> {
         assert!(rt; answer.is_ok());
         assert_eq!(rt; output.as_slice(), lines.as_bytes());
     }
-    assert!(rt; nlas_fault(&TWO).is_none());
     Ok(())
 }
 

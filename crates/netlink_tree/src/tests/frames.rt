@@ -1,6 +1,6 @@
 //! Datagrams walked, and added to.
 
-use crate::{Frames, append_frame};
+use crate::{Frames, append_frame, frames_fault};
 use std::alloc::{AllocError, Global};
 use std::test::Fail;
 
@@ -54,6 +54,10 @@ fn datagrams_are_frames_and_then_the_fault(rt: HostRuntime) -> Result<(), Fail> 
         assert!(rt; found_sizes.as_slice() == sizes);
         assert!(rt; found.as_slice() == frames);
         assert_eq!(rt; found_fault.as_str(), fault);
+        match frames_fault(&datagram) {
+            Some(cause) => assert_eq!(rt; cause.to_string(rt.alloc())?.as_str(), fault),
+            None => assert!(rt; fault.is_empty()),
+        }
     }
     Ok(())
 }

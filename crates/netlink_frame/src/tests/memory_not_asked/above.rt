@@ -1,13 +1,12 @@
 //! Datagrams and trees.
 
-use crate::frames::frames_fault;
 use crate::tests::attributes::SHORT;
 use crate::tests::datagrams::DATAGRAM;
 use crate::tests::mark::refuse_from_here;
 use crate::tests::messages::PING;
 use crate::tests::refusals::refuses;
 use netlink_tree::{
-    Frames, NlaTree, TreeFault, append_frame, is_well_formed, read_tree, write_tree,
+    Frames, NlaTree, TreeFault, append_frame, frames_fault, is_well_formed, read_tree, write_tree,
 };
 use std::test::Fail;
 

@@ -2,7 +2,6 @@
 
 ghost use Rattle.std.specs.Prelude.{◌∷◌, []};
 
-use crate::nlas::nlas_fault;
 use crate::overwrite::overwrite;
 use crate::tests::attributes::{FLAGGED, SHORT, TWO};
 use crate::tests::mark::refuse_from_here;
@@ -11,7 +10,7 @@ use netlink_ethernet::{Comparisons, look_up};
 use netlink_packet_core::{
     DefaultNla, Emitable, EthernetProtocol, Nla, NlaBuffer, Nlas, NlasIterator, Parseable,
     append_nla, emit_nla, is_canonical_nlas, nla_align, nla_buffer_len, nla_find, nla_find_raw,
-    nla_fits, nla_place, nlas_value_mut, normalize_nlas, write_nla_value, write_nlas,
+    nla_fits, nla_place, nlas_fault, nlas_value_mut, normalize_nlas, write_nla_value, write_nlas,
 };
 use std::fmt;
 use std::fmt::Write;

@@ -2,8 +2,8 @@ use Rattle.std.proofs.Common.{List}
 use Rattle.netlink_attributes.specs.Attribute.{Attribute}
 use Rattle.netlink_attributes.specs.Steps.{unread}
 use Rattle.netlink_attributes.specs.Progress.{Passes}
-use Rattle.netlink_attributes.proofs.block.check_walk.Given as goal
+use Rattle.netlink_attributes.proofs.fault.nlas_fault.Given as goal
 
 -- some attributes are passed
 abbrev pub invariant-loop-item : goal.invariant-loop-item
-invariant-loop-item l = (done : List Attribute) × Passes l.bytes done (unread l.item-iterator)
+invariant-loop-item l = (done : List Attribute) × Passes l.block done (unread l.item-iterator)

@@ -1,7 +1,7 @@
 use Rattle.std.proofs.Common.{List, ℕ}
 use Rattle.netlink_packet_core.specs.FrameProgress.{PassesFrames}
 use Rattle.netlink_tree.specs.FrameSteps.{unread_frames}
-use Rattle.netlink_frame.proofs.frames.last_fault.Given as goal
+use Rattle.netlink_tree.proofs.frames.frames_fault.Given as goal
 
 -- some frames are passed
 abbrev pub invariant-loop-item : goal.invariant-loop-item
