@@ -102,7 +102,7 @@ fn append_zeros(block: &mut Vec<u8>, count: usize) -> Result<(), AllocError>
 /// The value has at most `NLA_VALUE_MAX` bytes. Where the block has room for the attribute with its
 /// padding the answer is Ok; otherwise its own allocator is asked, and where that refuses the
 /// answer is `OutOfMemory`, and the block is as it was.
-#[inline]
+#[inline(always)]
 #[tactic(auto, using(crate::specs::Sizes::written_sizes))]
 pub fn append_nla(
     _alloc: Global,
