@@ -6,7 +6,7 @@ use Rattle.std.proofs.lemmas.List.Elements.{All-append, All-map, All-nil, All-co
 use Rattle.netlink_attributes.specs.Attribute.{Attribute, FitsAttribute, padded, value_max}
 use Rattle.netlink_attributes.specs.Block.{canonical_block}
 use Rattle.netlink_attributes.specs.BlockLaws.{block_push}
-use Rattle.netlink_attributes.specs.Nla.{attribute_with, attributes_of, AllFit, FitBlock}
+use Rattle.netlink_attributes.specs.Nla.{attribute_with, attributes_of, block_max, AllFit, FitBlock}
 
 abbrev pub of : {T : Type 0} → (T → ℕ) → (T → List ℕ) → T → Attribute
 of kind_of value_of nla = attribute_with (kind_of nla) (value_of nla)
@@ -16,7 +16,7 @@ pub record FitSoFar {T : Type 0} (kind_of : T → ℕ) (value_of : T → List �
   pub each : AllWithin (λ nla. FitsAttribute (of kind_of value_of nla)) list 0 index
   pub counted : size + length (canonical_block (attributes_of kind_of value_of (drop index list)))
       ≡ length (canonical_block (attributes_of kind_of value_of list))
-  pub whole : size ≤ 4294963200
+  pub whole : size ≤ block_max
 
 -- the block of all but the rest has this size
 pub all_counted : {T : Type 0} (kind_of : T → ℕ) (value_of : T → List ℕ) (list : List T) (index size : ℕ) → length list ≤ index
@@ -69,7 +69,7 @@ each_push kind_of value_of list nla each kind value =
 -- attributes that do not fit with one more
 pub too_big : {T : Type 0} (kind_of : T → ℕ) (value_of : T → List ℕ) (list : List T) (nla : T) (size more : ℕ)
     → size ≡ length (canonical_block (attributes_of kind_of value_of list)) → more ≡ length (padded (of kind_of value_of nla))
-    → 4294963200 < size + more
+    → block_max < size + more
     → FitBlock kind_of value_of (list ++ (nla ∷ [])) → ⊥
 too_big kind_of value_of list nla size more counted is big fit =
     omega (arith, fit.1, length-push kind_of value_of list nla, counted, is, big)
@@ -77,7 +77,7 @@ too_big kind_of value_of list nla size more counted is big fit =
 pub fit_push : {T : Type 0} (kind_of : T → ℕ) (value_of : T → List ℕ) (list : List T) (nla : T) (size more : ℕ)
     → All FitsAttribute (attributes_of kind_of value_of list)
     → size ≡ length (canonical_block (attributes_of kind_of value_of list)) → more ≡ length (padded (of kind_of value_of nla))
-    → size + more ≤ 4294963200
+    → size + more ≤ block_max
     → kind_of nla < 2 ^ 16 → length (value_of nla) ≤ value_max → FitBlock kind_of value_of (list ++ (nla ∷ []))
 fit_push kind_of value_of list nla size more each counted is low kind value = (
   values_fit kind_of value_of (list ++ (nla ∷ [])) (each_push kind_of value_of list nla each kind value),

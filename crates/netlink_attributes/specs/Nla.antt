@@ -20,11 +20,16 @@ written_block kind_of value_of nlas = canonical_block (attributes_of kind_of val
 abbrev pub AllFit : {T : Type 0} → (T → List ℕ) → List T → Type 0
 AllFit value_of nlas = All (λ nla. length (value_of nla) ≤ value_max) nlas
 
+-- the most bytes of a block that leaves room for the headers of a message: 4095 below what a length
+-- of 32 bits can say
+abbrev pub block_max : ℕ
+block_max = 4294963200
+
 -- each value is of such a size, and as a block they leave room for the headers of a message
 abbrev pub FitBlock : {T : Type 0} → (T → ℕ) → (T → List ℕ) → List T → Type 0
 FitBlock kind_of value_of nlas =
     AllFit value_of nlas
-    × (length (written_block kind_of value_of nlas) ≤ 4294963200)
+    × (length (written_block kind_of value_of nlas) ≤ block_max)
 
 -- the attribute that a `DefaultNla` keeps
 abbrev pub kept_attribute : DefaultNla → Attribute

@@ -5,7 +5,7 @@ ghost use Rattle.std.specs.Cmp.{on_equiv, on_per};
 ghost use Rattle.std.specs.Cmp.Lexicographic.{lists_equiv, lists_per, pointwise};
 ghost use Rattle.netlink_bytes.specs.declared.error.DecodeError.{DecodeError};
 ghost use Rattle.netlink_attributes.specs.Attribute.{FitsAttribute};
-ghost use Rattle.netlink_attributes.specs.Nla.{attributes_of, written_block, FitBlock};
+ghost use Rattle.netlink_attributes.specs.Nla.{attributes_of, block_max, written_block, FitBlock};
 
 use crate::nla::{Nla, nla_buffer_len, nla_fits};
 use crate::nlas::Nlas;
@@ -25,7 +25,7 @@ pub struct NlaBlock<T: Nla> {
     pub size: usize,
     pub ghost each: { All FitsAttribute (attributes_of T.kind_of T.value_of list.items) },
     pub ghost counted: { size ≡ length (written_block T.kind_of T.value_of list.items) },
-    pub ghost whole: { size ≤ 4294963200 },
+    pub ghost whole: { size ≤ block_max },
 }
 
 impl<T: Nla + Drop> NlaBlock<T> {

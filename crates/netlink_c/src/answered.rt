@@ -15,6 +15,12 @@ use netlink_packet_core::{
     ErrorBuffer, NETLINK_HEADER_LEN, NLM_F_ACK_TLVS, NLM_F_CAPPED, NetlinkBuffer, nlmsg_align,
 };
 
+/// The size in bytes of the code in front of the request.
+const CODE_SIZE: usize = 4;
+
+/// Where what follows the header of the request starts, in bytes from the code on.
+const BEHIND_HEADER: usize = CODE_SIZE + NETLINK_HEADER_LEN;
+
 /// The body of an error message (`struct nlp_error`).
 #[derive(Clone, Copy, Debug, PartialEq, Eq)]
 #[repr(C)]
@@ -81,17 +87,17 @@ fn request_end(payload: &[u8], flags: u16) -> usize
     ensures inside { (4 ≤ result) × (result ≤ length payload.now) }
 {
     let size = payload.len();
-    if flags / NLM_F_ACK_TLVS % 2 == 0 || size < 4 + NETLINK_HEADER_LEN {
+    if flags / NLM_F_ACK_TLVS % 2 == 0 || size < BEHIND_HEADER {
         return size;
     }
     if flags / NLM_F_CAPPED % 2 == 1 {
-        return 4 + NETLINK_HEADER_LEN;
+        return BEHIND_HEADER;
     }
-    let said = NetlinkBuffer::new(&payload[4..]).length() as usize;
+    let said = NetlinkBuffer::new(&payload[CODE_SIZE..]).length() as usize;
     let end = if said < NETLINK_HEADER_LEN {
-        4 + NETLINK_HEADER_LEN
+        BEHIND_HEADER
     } else {
-        4 + nlmsg_align(said)
+        CODE_SIZE + nlmsg_align(said)
     };
     if end < size { end } else { size }
 }

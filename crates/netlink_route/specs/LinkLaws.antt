@@ -5,7 +5,7 @@ use Rattle.std.proofs.Common.{◌≤◌, All, arith, length, ap, sym, ◌∙◌}
 use Rattle.std.proofs.lemmas.Bool.{and_parts, and_from, ltb-true, eqb-true, eq-eqb}
 use Rattle.std.specs.Option.{option_map}
 use Rattle.netlink_packet_core.specs.Block.{canonical_block}
-use Rattle.netlink_packet_core.specs.Nla.{attributes_of}
+use Rattle.netlink_packet_core.specs.Nla.{attributes_of, block_max}
 use Rattle.netlink_packet_core.specs.Attribute.{FitsAttribute}
 use Rattle.netlink_route.specs.Info.{info_itself, info_kind, info_value}
 use Rattle.netlink_route.specs.InfoTable.{info_values}
@@ -30,7 +30,7 @@ use Rattle.netlink_route.specs.contracts.link_header.LinkVerbPartialEq.TheImpl.{
 -- a nest is read as itself
 info_block_itself : (list : List InfoAttribute) (size : ℕ)
     → All FitsAttribute (attributes_of info_kind info_value list)
-    → size ≡ length (info_block_text list) → size ≤ 4294963200
+    → size ≡ length (info_block_text list) → size ≤ block_max
     → info_text (info_block_text list) ≡ Some (info_block_text list)
 info_block_itself list size each counted whole =
     ap (option_map canonical_block)

@@ -13,7 +13,7 @@ use Rattle.netlink_packet_core.specs.Attribute.{Attribute, FitsAttribute}
 use Rattle.netlink_packet_core.specs.Block.{canonical_block}
 use Rattle.netlink_packet_core.specs.BlockLaws.{written_walks}
 use Rattle.netlink_packet_core.specs.FieldLaws.{same_attribute}
-use Rattle.netlink_packet_core.specs.Nla.{attribute_with, attributes_of}
+use Rattle.netlink_packet_core.specs.Nla.{attribute_with, attributes_of, block_max}
 use Rattle.netlink_packet_core.specs.Reading.{attributes_in}
 use Rattle.netlink_packet_core.specs.ReadingLaws.{attributes_in-fit, attributes_in-written}
 use Rattle.netlink_packet_core.specs.Walk.{Walk}
@@ -166,7 +166,7 @@ values_fit (a ∷ all) each =
 pub block_spelled : {T : Type 0} (kind_of : T → ℕ) (value_of : T → List ℕ) (reading : ValueReading)
     → ((a : T) → reading (kind_of a) (value_of a) ≡ Some (value_of a))
     → (list : List T) (size : ℕ) → All FitsAttribute (attributes_of kind_of value_of list)
-    → size ≡ length (canonical_block (attributes_of kind_of value_of list)) → size ≤ 4294963200
+    → size ≡ length (canonical_block (attributes_of kind_of value_of list)) → size ≤ block_max
     → AreSpelled reading (attributes_of kind_of value_of list)
 block_spelled kind_of value_of reading itself list size each counted whole = record {
   again = all_itself kind_of value_of reading itself list;
