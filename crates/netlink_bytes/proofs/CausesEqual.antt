@@ -1,5 +1,7 @@
 -- Two causes are equal by the derived `==` exactly if nobody can tell them apart.
 use Rattle.std.proofs.Common.{◌≡◌, ◌≤◌, ◌↔◌, ◌&&◌, ◌==◌, ℕ, suc, Bool, true, false, List, [], ◌∷◌, get_or, IsTrue, nat_eq, inl, inr, refl, sym, ap, ◌∙◌, arith}
+use Rattle.std.proofs.lemmas.Bool.{and_from, and_parts}
+use Rattle.std.proofs.lemmas.Bool.Decides.{Decides-eqb}
 use Rattle.std.proofs.Math.Bool.{beq}
 use Rattle.std.specs.Cmp.{booleans_Decides}
 use Rattle.std.specs.Cmp.Lexicographic.{bytes_decides, pointwise}
@@ -64,17 +66,6 @@ held text sizes inside = (text, (sizes, inside))
 abbrev size_in : ℕ → Held → ℕ
 size_in i h = get_or h.1.0 i 0
 
-both : (p q : Bool) → IsTrue (p && q) → IsTrue p × IsTrue q
-both true q e = (refl, e)
-both false q e = absurd (cc)
-
-and_so : (p q : Bool) → IsTrue p → IsTrue q → IsTrue (p && q)
-and_so true q e f = f
-and_so false q e f = absurd (cc)
-
-numbers : (k l : ℕ) → IsTrue (k == l) ↔ (k ≡ l)
-numbers k l = (λ h. grind (arith, h), λ e. rw e (grind arith))
-
 -- one size
 abbrev One : Type 0
 One = ℕ × Unit {0}
@@ -87,7 +78,7 @@ one_holds x = held [] (x.0 ∷ []) false
 
 one_tells : (x y : One) → IsTrue (one_same x y) ↔ (one_holds x ≡ one_holds y)
 one_tells x y =
-    let size = numbers x.0 y.0 in
+    let size = Decides-eqb x.0 y.0 in
     (λ e. λ i. held [] (size.0 e i ∷ []) false, λ e. size.1 (ap (size_in 0) e))
 
 -- two sizes
@@ -102,10 +93,10 @@ two_holds x = held [] (x.0 ∷ x.1.0 ∷ []) false
 
 two_tell : (x y : Two) → IsTrue (two_same x y) ↔ (two_holds x ≡ two_holds y)
 two_tell x y =
-    let first = numbers x.0 y.0 in
-    let later = numbers x.1.0 y.1.0 in (
-      λ e. let parts = both _ _ e in λ i. held [] (first.0 parts.0 i ∷ later.0 parts.1 i ∷ []) false,
-      λ e. and_so _ _ (first.1 (ap (size_in 0) e)) (later.1 (ap (size_in 1) e)),
+    let first = Decides-eqb x.0 y.0 in
+    let later = Decides-eqb x.1.0 y.1.0 in (
+      λ e. let parts = and_parts _ _ e in λ i. held [] (first.0 parts.0 i ∷ later.0 parts.1 i ∷ []) false,
+      λ e. and_from _ _ (first.1 (ap (size_in 0) e)) (later.1 (ap (size_in 1) e)),
     )
 
 -- one size, and whether it is inside
@@ -120,10 +111,10 @@ marked_holds x = held [] (x.0 ∷ []) x.1.0
 
 marked_tells : (x y : Marked) → IsTrue (marked_same x y) ↔ (marked_holds x ≡ marked_holds y)
 marked_tells x y =
-    let size = numbers x.0 y.0 in
+    let size = Decides-eqb x.0 y.0 in
     let mark = booleans_Decides x.1.0 y.1.0 in (
-      λ e. let parts = both _ _ e in λ i. held [] (size.0 parts.0 i ∷ []) (mark.0 parts.1 i),
-      λ e. and_so _ _ (size.1 (ap (size_in 0) e)) (mark.1 (ap (λ (h : Held). h.1.1) e)),
+      λ e. let parts = and_parts _ _ e in λ i. held [] (size.0 parts.0 i ∷ []) (mark.0 parts.1 i),
+      λ e. and_from _ _ (size.1 (ap (size_in 0) e)) (mark.1 (ap (λ (h : Held). h.1.1) e)),
     )
 
 -- two sizes, and whether it is inside
@@ -138,13 +129,13 @@ marked_two_holds x = held [] (x.0 ∷ x.1.0 ∷ []) x.1.1.0
 
 marked_two_tell : (x y : MarkedTwo) → IsTrue (marked_two_same x y) ↔ (marked_two_holds x ≡ marked_two_holds y)
 marked_two_tell x y =
-    let first = numbers x.0 y.0 in
-    let later = numbers x.1.0 y.1.0 in
+    let first = Decides-eqb x.0 y.0 in
+    let later = Decides-eqb x.1.0 y.1.0 in
     let mark = booleans_Decides x.1.1.0 y.1.1.0 in (
-      λ e. let parts = both _ _ e in let rest = both _ _ parts.1 in
+      λ e. let parts = and_parts _ _ e in let rest = and_parts _ _ parts.1 in
           λ i. held [] (first.0 parts.0 i ∷ later.0 rest.0 i ∷ []) (mark.0 rest.1 i),
-      λ e. and_so _ _ (first.1 (ap (size_in 0) e))
-          (and_so _ _ (later.1 (ap (size_in 1) e)) (mark.1 (ap (λ (h : Held). h.1.1) e))),
+      λ e. and_from _ _ (first.1 (ap (size_in 0) e))
+          (and_from _ _ (later.1 (ap (size_in 1) e)) (mark.1 (ap (λ (h : Held). h.1.1) e))),
     )
 
 -- a text
@@ -169,12 +160,12 @@ named_holds t x = held t (x.0 ∷ x.1.0 ∷ []) false
 named_tells : (t : List ℕ) (x : Two) (u : List ℕ) (y : Two) → IsTrue (named_same t x u y) ↔ (named_holds t x ≡ named_holds u y)
 named_tells t x u y =
     let text = bytes_decides t u in
-    let first = numbers x.0 y.0 in
-    let later = numbers x.1.0 y.1.0 in (
-      λ e. let parts = both _ _ e in let rest = both _ _ parts.1 in
+    let first = Decides-eqb x.0 y.0 in
+    let later = Decides-eqb x.1.0 y.1.0 in (
+      λ e. let parts = and_parts _ _ e in let rest = and_parts _ _ parts.1 in
           λ i. held (text.0 parts.0 i) (first.0 rest.0 i ∷ later.0 rest.1 i ∷ []) false,
-      λ e. and_so _ _ (text.1 (ap (λ (h : Held). h.0) e))
-          (and_so _ _ (first.1 (ap (size_in 0) e)) (later.1 (ap (size_in 1) e))),
+      λ e. and_from _ _ (text.1 (ap (λ (h : Held). h.0) e))
+          (and_from _ _ (first.1 (ap (size_in 0) e)) (later.1 (ap (size_in 1) e))),
     )
 
 -- ---- the causes, in their order

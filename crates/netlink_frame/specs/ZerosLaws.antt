@@ -2,6 +2,7 @@
 use Rattle.std.specs.Prelude.{◌≡◌, ◌==◌, zero, suc, ◌↔◌, ◌&&◌, ℕ, Bool, true, false, List, [], ◌∷◌, Some, None, length, replicate, nat_eq, refl, if◌then◌else◌}
 use Rattle.std.proofs.Common.{arith, ap, sym, ◌∙◌, subst}
 use Rattle.std.proofs.lemmas.List.{length-replicate}
+use Rattle.std.proofs.lemmas.Bool.{and_parts}
 use Rattle.std.proofs.lemmas.Bool.Decides.{Decides-eqb}
 use Rattle.netlink_packet_core.specs.Numbers.{number_le}
 use Rattle.netlink_packet_core.specs.Protocol.{IsLawful}
@@ -13,15 +14,11 @@ are_zeros-replicate : (n : ℕ) → are_zeros (replicate n 0) ≡ true
 are_zeros-replicate zero = refl
 are_zeros-replicate (suc n) = are_zeros-replicate n
 
-both : (a b : Bool) → (a && b) ≡ true → (a ≡ true) × (b ≡ true)
-both true b e = (refl, e)
-both false b e = cc
-
 -- zeros are as many zeros
 pub all_zeros : (bytes : List ℕ) → are_zeros bytes ≡ true → bytes ≡ replicate (length bytes) 0
 all_zeros [] e = refl
 all_zeros (b ∷ bytes) e =
-    let parts : ((b == 0) ≡ true) × (are_zeros bytes ≡ true) = both (b == 0) (are_zeros bytes) e in
+    let parts : ((b == 0) ≡ true) × (are_zeros bytes ≡ true) = and_parts (b == 0) (are_zeros bytes) e in
     let first : b ≡ 0 = (Decides-eqb b 0).0 parts.0 in
     let more : bytes ≡ replicate (length bytes) 0 = all_zeros bytes parts.1 in
     λ i. first i ∷ more i

@@ -1,5 +1,7 @@
 -- What `==` says of trees.
 use Rattle.std.proofs.Common.{◌≡◌, ◌↔◌, ℕ, Vec, Global, Bool, IsTrue, true, false, refl, sym, subst, ◌∙◌, ◌&&◌, ◌==◌, List, [], ◌∷◌, map, arith}
+use Rattle.std.proofs.lemmas.Bool.{and_from, and_parts}
+use Rattle.std.proofs.lemmas.Bool.Decides.{Decides-eqb}
 use Rattle.std.proofs.lemmas.Cmp.{nat_list_eq_equiv}
 use Rattle.std.specs.Cmp.Lexicographic.{pointwise, same_text}
 use Rattle.netlink_tree.specs.Tree.{Tree, leaf, nest, Forest, view, views, view_step}
@@ -43,17 +45,6 @@ nest_leaf k l ts w = simp out-roll-NlaTree
 
 -- ---- the parts
 
-both : (p q : Bool) → IsTrue (p && q) → IsTrue p × IsTrue q
-both true q e = (refl, e)
-both false q e = absurd (cc)
-
-and_so : (p q : Bool) → IsTrue p → IsTrue q → IsTrue (p && q)
-and_so true q e f = f
-and_so false q e f = absurd (cc)
-
-numbers : (k l : ℕ) → IsTrue (k == l) ↔ (k ≡ l)
-numbers k l = (λ h. grind (arith, h), λ e. rw e (grind arith))
-
 lists : (xs ys : List ℕ) → IsTrue (pointwise ◌==◌ xs ys) ↔ (xs ≡ ys)
 lists xs ys = (λ h. same_text xs ys (sym h), λ e. rw e (nat_list_eq_equiv.refl ys))
 
@@ -82,8 +73,8 @@ same_lists (e ∷ es) [] = (λ h. absurd (cc), λ h. absurd (cc))
 same_lists (e ∷ es) (b ∷ bs) =
     let later = same_lists es bs in
     let here = e.1 b in (
-      λ h. let k = both _ _ h in let i = here.0 k.0 in let j = later.0 k.1 in cc,
-      λ h. let i : view e.0 ≡ view b = cc in let j : views (plain es) ≡ views bs = cc in and_so _ _ (here.1 i) (later.1 j),
+      λ h. let k = and_parts _ _ h in let i = here.0 k.0 in let j = later.0 k.1 in cc,
+      λ h. let i : view e.0 ≡ view b = cc in let j : views (plain es) ≡ views bs = cc in and_from _ _ (here.1 i) (later.1 j),
     )
 
 -- two trees, one level of each, with what is inside the first known
@@ -95,9 +86,9 @@ same_leaves k l v w =
     let e = leaf_leaf k l v w in
     let a = view-leaf k v in
     let b = view-leaf l w in (
-      λ h. let p = both (k == l) (pointwise ◌==◌ v.items w.items) (sym e ∙ h) in let n = (numbers k l).0 p.0 in
+      λ h. let p = and_parts (k == l) (pointwise ◌==◌ v.items w.items) (sym e ∙ h) in let n = (Decides-eqb k l).0 p.0 in
           let i = (lists v.items w.items).0 p.1 in cc,
-      λ h. let p = leaves k l v.items w.items (sym a ∙ h ∙ b) in e ∙ and_so _ _ ((numbers k l).1 p.0) ((lists v.items w.items).1 p.1),
+      λ h. let p = leaves k l v.items w.items (sym a ∙ h ∙ b) in e ∙ and_from _ _ ((Decides-eqb k l).1 p.0) ((lists v.items w.items).1 p.1),
     )
 
 leaf_no_nest : (k l : ℕ) (v : Vec ℕ Global) (us : Vec NlaTree Global) → SameLevel (a_leaf k v) (a_nest l us)
@@ -121,9 +112,9 @@ same_nests k l ts us es from =
     let b = view-nest l us in
     let inside =
     subst (λ (xs : List NlaTree). IsTrue (pointwise equal xs us.items) ↔ (views xs ≡ views us.items)) from (same_lists es us.items) in (
-      λ h. let p = both (k == l) (pointwise equal ts.items us.items) (sym e ∙ h) in let n = (numbers k l).0 p.0 in let i = inside.0 p.1 in
+      λ h. let p = and_parts (k == l) (pointwise equal ts.items us.items) (sym e ∙ h) in let n = (Decides-eqb k l).0 p.0 in let i = inside.0 p.1 in
           cc,
-      λ h. let p = nests k l (views ts.items) (views us.items) (sym a ∙ h ∙ b) in e ∙ and_so _ _ ((numbers k l).1 p.0) (inside.1 p.1),
+      λ h. let p = nests k l (views ts.items) (views us.items) (sym a ∙ h ∙ b) in e ∙ and_from _ _ ((Decides-eqb k l).1 p.0) (inside.1 p.1),
     )
 
 abbrev plain_level : NlaTree-F Known → NlaTree-F NlaTree

@@ -1,5 +1,7 @@
 //! Readers and writers that fail.
 
+ghost use Rattle.std.specs.Prelude.{◌≤◌, length};
+
 use crate::command::Command;
 use crate::run::{Fault, run};
 use crate::tests::attributes::{SHORT, TWO};
@@ -19,6 +21,20 @@ const COMMANDS: [(Command, &[u8]); 5] = [
     (Command::Frames, &DATAGRAM),
 ];
 
+/// Puts the first of the bytes into the buffer, and tells how many it put.
+fn give_one(bytes: &mut &[u8], buf: &mut [u8]) -> usize
+    ensures { result ≤ length buf.old }
+{
+    match (bytes.split_first(), buf.first_mut()) {
+        (Some((first, rest)), Some(place)) => {
+            *place = *first;
+            *bytes = rest;
+            1
+        }
+        _ => 0,
+    }
+}
+
 /// Gives a byte a call, and fails after some.
 #[derive(Drop)]
 struct FailingReader<'a> {
@@ -32,14 +48,7 @@ impl Read for FailingReader<'_> {
             return Err(io::Error::from(io::ErrorKind::BrokenPipe));
         }
         self.good -= 1;
-        match (self.bytes.split_first(), buf.first_mut()) {
-            (Some((first, rest)), Some(place)) => {
-                *place = *first;
-                self.bytes = rest;
-                Ok(1)
-            }
-            _ => Ok(0),
-        }
+        Ok(give_one(&mut self.bytes, buf))
     }
 }
 
@@ -77,14 +86,7 @@ impl Read for Interrupted<'_> {
         if !self.is_due {
             return Err(io::Error::from(io::ErrorKind::Interrupted));
         }
-        match (self.bytes.split_first(), buf.first_mut()) {
-            (Some((first, rest)), Some(place)) => {
-                *place = *first;
-                self.bytes = rest;
-                Ok(1)
-            }
-            _ => Ok(0),
-        }
+        Ok(give_one(&mut self.bytes, buf))
     }
 }
 
