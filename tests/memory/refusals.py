@@ -1,8 +1,9 @@
 #!/usr/bin/env python3
 """Refuses each request for memory in turn, by its number, and looks at what is answered.
 
-The library of refuse.c is preloaded. Run are the program, each command on a dozen inputs, and the
-built tests of the crates, each in a process of its own. What asks for memory is run once for each
+The library of refuse.c is preloaded. Run are the two programs, each command of netlink_frame on a
+dozen inputs and netlink_links on datagrams of a kernel, and the built tests of the crates, each in a
+process of its own. What asks for memory is run once for each
 of its requests, with that one refused: it answers as ever, or with want of memory. What asks for
 none is run with all refused from its mark on: it answers as ever, and makes no request behind it.
 """
@@ -19,10 +20,9 @@ from built import TOP, built, run, side_by_side, tally
 # The other ways to ask for memory: of these the programs take none, so that no request goes past.
 OTHER_WAYS = "aligned_alloc posix_memalign memalign valloc reallocarray mmap mmap64 brk".split()
 
-USAGE = b"usage: netlink_frame normalize|show|nlas|canon|frames\n"
-
-# How a run of the program is answered while its arguments are read, and behind that.
-USAGE_ANSWER = (2, b"", USAGE)
+# How a run of each program is answered while its arguments are read, and of both behind that.
+USAGE_ANSWER = (2, b"", b"usage: netlink_frame normalize|show|nlas|canon|frames\n")
+LINKS_USAGE_ANSWER = (2, b"", b"usage: netlink_links < FILE\n")
 WANT = (1, b"", b"out of memory\n")
 
 # How a test ends that passes, and one that hands on want of memory by `?`.
@@ -54,6 +54,16 @@ INPUTS = {
     "two frames": "1400000012000000000000000000000000010203" + "11000000040000000000000000000000ff",
     "a long datagram": "captured",
     "no bytes": "",
+}
+
+# What netlink_links gets: captured datagrams, and where each ends.
+DATAGRAMS = {
+    "links": ("links-0.bin", None),
+    "links, the last one cut": ("links-0.bin", -1),
+    "addresses": ("addresses-0.bin", None),
+    "an error with its request": ("link-mtu-refused-0.bin", None),
+    "neighbours, of no known type": ("neighbours-0.bin", None),
+    "no bytes": ("links-0.bin", 0),
 }
 
 
@@ -130,8 +140,8 @@ class Sweep:
         return self
 
 
-def of_program(library):
-    """A sweep of each command on each input."""
+def of_frame(library):
+    """A sweep of each command of netlink_frame on each input."""
     program = built("netlink_frame")
     # requests while the arguments are read, by the word's size: those of a word that is unknown
     reading = {}
@@ -150,11 +160,28 @@ def of_program(library):
     return side_by_side(swept, rows)
 
 
-def bytes_of(digits):
-    if digits != "captured":
-        return bytes.fromhex(digits)
-    with open(os.path.join(TOP, "examples", "captured", "links-0.bin"), "rb") as file:
+def of_links(library):
+    """A sweep of netlink_links on each of its datagrams, and on no bytes, for which it asks nothing but to read its
+    arguments."""
+    program = built("netlink_links", "netlink_links")
+    _, reading, _ = run_refused(library, [program], b"", 0)
+
+    def swept(name):
+        file, end = DATAGRAMS[name]
+        given = captured(file)[:end]
+        sweep = Sweep(library, f"netlink_links of {name}", [program], given)
+        return sweep.each_in_turn(run([program], given), [LINKS_USAGE_ANSWER] * reading, [WANT])
+
+    return side_by_side(swept, DATAGRAMS)
+
+
+def captured(name):
+    with open(os.path.join(TOP, "examples", "captured", name), "rb") as file:
         return file.read()
+
+
+def bytes_of(digits):
+    return captured("links-0.bin") if digits == "captured" else bytes.fromhex(digits)
 
 
 def tests_of_crates():
@@ -187,13 +214,13 @@ def of_tests(library):
 def main():
     with tempfile.TemporaryDirectory() as folder:
         library = compiled(folder)
-        commands = of_program(library)
+        commands = of_frame(library) + of_links(library)
         refused, not_asked = of_tests(library)
 
     def count(sweeps):
         return sum(it.runs for it in sweeps)
 
-    print(f"each request refused in turn: {len(commands)} runs of a command in {count(commands)} runs")
+    print(f"each request refused in turn: {len(commands)} runs of a program in {count(commands)} runs")
     print(f"each request refused in turn: {len(refused)} tests in {count(refused)} runs")
     print(f"every request refused: {len(not_asked)} tests, none of which made one")
     sweeps = [*commands, *refused, *not_asked]
