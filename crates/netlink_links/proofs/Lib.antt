@@ -1,1 +1,5 @@
+pub mod AddressSaid
+pub mod LinkSaid
+pub mod Once
 pub mod Passing
+pub mod Said

@@ -1,5 +1,5 @@
 -- The line of a link, in the order of `ip -o link`.
-use Rattle.std.specs.Prelude.{ℕ, ◌==◌, List, [], ◌++◌, Option, Some, codes, decimal, string_bytes, if◌then◌else◌}
+use Rattle.std.specs.Prelude.{ℕ, ◌==◌, ◌%◌, ◌^◌, List, [], ◌++◌, Option, Some, codes, decimal, string_bytes, if◌then◌else◌}
 use Rattle.netlink_route.specs.Info.{info_kind}
 use Rattle.netlink_route.specs.Link.{kind_of}
 use Rattle.netlink_route.specs.declared.info.InfoAttribute.{InfoAttribute}
@@ -22,19 +22,26 @@ abbrev pub link_name : ℕ → Option LinkAttribute → List ℕ
 link_name index (Some (IfName name)) = name_text (string_bytes name.text)
 link_name index _ = codes "if" ++ decimal index
 
--- the link below it; 0 is none
+-- what four bytes hold of a number; one that fits them is held whole
+abbrev pub four_bytes_of : ℕ → ℕ
+four_bytes_of number = number % 2 ^ 32
+
+-- a link by its index; 0 is none
+abbrev pub index_words : ℕ → List ℕ
+index_words index = if index == 0 then codes "@NONE" else codes "@if" ++ decimal index
+
+-- the link below it
 abbrev pub below_words : Option LinkAttribute → List ℕ
-below_words (Some (Link index)) =
-    if index == 0 then codes "@NONE" else codes "@if" ++ decimal index
+below_words (Some (Link index)) = index_words (four_bytes_of index)
 below_words _ = []
 
 abbrev pub mtu_words : Option LinkAttribute → List ℕ
-mtu_words (Some (Mtu mtu)) = codes " mtu " ++ decimal mtu
+mtu_words (Some (Mtu mtu)) = codes " mtu " ++ decimal (four_bytes_of mtu)
 mtu_words _ = []
 
 -- the link that it belongs to
 abbrev pub master_words : Option LinkAttribute → List ℕ
-master_words (Some (Master index)) = codes " master if" ++ decimal index
+master_words (Some (Master index)) = codes " master if" ++ decimal (four_bytes_of index)
 master_words _ = []
 
 abbrev pub state_words : Option LinkAttribute → List ℕ

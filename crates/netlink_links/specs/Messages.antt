@@ -2,7 +2,7 @@
 use Rattle.std.specs.Prelude.{◌≡◌, ◌≢◌, ◌+◌, ◌*◌, ◌/◌, ℕ, List, [], ◌∷◌, Option, Some, None, drop, length}
 use Rattle.netlink_packet_core.specs.DecodeError.TheVariants.{OutOfMemory}
 use Rattle.netlink_packet_core.specs.Frame.{Frame}
-use Rattle.netlink_packet_core.specs.Refusal.{IsRefusal}
+use Rattle.netlink_packet_core.specs.Refusal.{IsRefusal, SameRefusal}
 use Rattle.netlink_packet_core.specs.declared.message.NetlinkMessage.{NetlinkMessage}
 use Rattle.netlink_route.specs.Error.{wants_memory}
 use Rattle.netlink_route.specs.Message.{route_decoding}
@@ -35,3 +35,10 @@ Makes input output None =
 Makes input output (Some refused) =
     (all : List (NetlinkMessage RouteMessage)) × (left : List ℕ) × Messages input all left
     × (output ≡ lines all) × IsRefusedAt input left refused
+
+-- no refusal twice, or one at one byte, but for the words that follow the fixed beginning of a free
+-- text
+abbrev pub SameRefused : Option Refused → Option Refused → Type 0
+SameRefused None None = Unit {0}
+SameRefused (Some r) (Some s) = (r.at ≡ s.at) × SameRefusal r.cause s.cause
+SameRefused _ _ = ⊥

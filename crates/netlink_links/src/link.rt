@@ -95,7 +95,10 @@ fn below_words(alloc: Global, found: Option<&LinkAttribute>) -> Result<String, A
 {
     match found {
         Some(LinkAttribute::Link(0)) => String::from_str(alloc, "@NONE"),
-        Some(LinkAttribute::Link(index)) => format!(in alloc; "@if{index}"),
+        Some(LinkAttribute::Link(index)) => {
+            let index = *index;
+            format!(in alloc; "@if{index}")
+        }
         _ => Ok(String::new(alloc)),
     }
 }
@@ -105,7 +108,10 @@ fn mtu_words(alloc: Global, found: Option<&LinkAttribute>) -> Result<String, All
     ensures { IfOk result (λ text. string_bytes text ≡ mtu_words (option_copied found.entry)) }
 {
     match found {
-        Some(LinkAttribute::Mtu(mtu)) => format!(in alloc; " mtu {mtu}"),
+        Some(LinkAttribute::Mtu(mtu)) => {
+            let mtu = *mtu;
+            format!(in alloc; " mtu {mtu}")
+        }
         _ => Ok(String::new(alloc)),
     }
 }
@@ -115,7 +121,10 @@ fn master_words(alloc: Global, found: Option<&LinkAttribute>) -> Result<String, 
     ensures { IfOk result (λ text. string_bytes text ≡ master_words (option_copied found.entry)) }
 {
     match found {
-        Some(LinkAttribute::Master(index)) => format!(in alloc; " master if{index}"),
+        Some(LinkAttribute::Master(index)) => {
+            let index = *index;
+            format!(in alloc; " master if{index}")
+        }
         _ => Ok(String::new(alloc)),
     }
 }

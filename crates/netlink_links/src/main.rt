@@ -6,6 +6,7 @@ mod address;
 mod ending;
 mod find;
 mod flags;
+pub mod laws;
 mod line;
 mod link;
 mod messages;

@@ -1,5 +1,6 @@
 //! Runs over a reader and a writer, some of which fail.
 
+use crate::laws::makes_once;
 use crate::run::{Fault, run};
 use crate::tests::lines::ADDRESS;
 use std::io;
@@ -24,6 +25,7 @@ fn a_cut_frame_ends_the_lines(rt: HostRuntime) -> Result<(), Fail> {
         Ok(()) => assert!(rt; false),
     }
     assert_eq!(rt; output.as_slice(), LINE.as_bytes());
+    makes_once();
     Ok(())
 }
 
