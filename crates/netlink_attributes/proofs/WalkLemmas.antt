@@ -1,7 +1,7 @@
 -- Calls of `next` give the walk.
-use Rattle.std.proofs.Common.{◌≡◌, ◌≢◌, ℕ, List, [], refl, ap, arith, Option, Some, None, Ok, Err, Bor}
+use Rattle.std.proofs.Common.{◌≡◌, ℕ, List, [], refl, ap, arith, Option, Some, None, Ok, Err, Bor}
 use Rattle.netlink_bytes.specs.Numbers.{IsBytes}
-use Rattle.netlink_bytes.specs.WalkItems.{BoundLaws, NextLaws, gives_all}
+use Rattle.netlink_bytes.specs.WalkItems.{ItemLaws, gives_all}
 use Rattle.netlink_attributes.specs.StartLaws.{starts-length, nothing_starts}
 use Rattle.netlink_attributes.specs.Steps.{unread, steps, item_bound, GivesWalk}
 use Rattle.netlink_attributes.specs.Views.{attribute_of}
@@ -9,24 +9,20 @@ use Rattle.netlink_attributes.specs.Walk.{Starts, IsFault, Item, Gives, ShowsAtt
 use Rattle.netlink_attributes.specs.WalkLaws.{attribute_steps, has_walk}
 use Rattle.netlink_attributes.specs.declared.iterator.NlasIterator.{NlasIterator}
 
-next_laws : NextLaws Starts IsFault ShowsAttribute unread steps
-next_laws =
+-- a walk has an item for each 4 bytes at most, a part of 4 counted as a whole
+item_laws : ItemLaws Starts IsFault ShowsAttribute unread steps item_bound
+item_laws =
     record {
       shows = λ s view t gives. (attribute_of (unread s), gives.2, ap attribute_of gives.0);
       fails = λ s e t gives. gives;
       ends = λ s t gives. gives.0;
-    }
-
--- a walk has an item for each 4 bytes at most, a part of 4 counted as a whole
-bound_laws : BoundLaws Starts item_bound
-bound_laws =
-    record {
       step = λ bytes a rest starts. let size = starts-length bytes a rest starts in omega arith;
       fault = λ bytes some. omega arith;
     }
 
 pub gives_walk : (s : NlasIterator (Bor (List ℕ))) → IsBytes (unread s) → GivesWalk s
-gives_walk s each = gives_all attribute_steps next_laws bound_laws s (has_walk (unread s) each)
+gives_walk s each =
+    gives_all Starts IsFault ShowsAttribute unread steps item_bound attribute_steps item_laws s (has_walk (unread s) each)
 
 -- where nothing is unread, `next` gives `None`, and nothing is unread
 pub nothing_given : (item : Option Item) (rest : List ℕ) → Gives [] item rest → (item ≡ None) × (rest ≡ [])

@@ -1,5 +1,5 @@
 -- Every byte list has one walk.
-use Rattle.std.proofs.Common.{◌≡◌, ◌≢◌, ℕ, ◌+◌, ◌-◌, ◌*◌, ◌/◌, ◌<◌, ◌≤◌, List, [], length, drop, refl, ap, sym, ◌∙◌, inl, inr, arith, Option, length-drop}
+use Rattle.std.proofs.Common.{◌≡◌, ◌≢◌, ℕ, ◌+◌, ◌-◌, ◌*◌, ◌/◌, List, [], length, drop, refl, ap, sym, ◌∙◌, inl, inr, arith, Option, length-drop}
 use Rattle.std.proofs.lemmas.Bool.{cases_lt}
 use Rattle.netlink_bytes.specs.Numbers.{IsBytes}
 use Rattle.netlink_bytes.specs.NumberLaws.{IsBytes-drop}

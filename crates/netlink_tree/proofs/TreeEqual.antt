@@ -1,5 +1,5 @@
 -- What `==` says of trees.
-use Rattle.std.proofs.Common.{◌≡◌, ◌↔◌, ℕ, Vec, Global, Bool, IsTrue, true, false, refl, sym, subst, ◌∙◌, ◌&&◌, ◌==◌, List, [], ◌∷◌, map, arith}
+use Rattle.std.proofs.Common.{◌≡◌, ◌↔◌, ℕ, Vec, Global, Bool, IsTrue, false, refl, sym, subst, ◌∙◌, ◌&&◌, ◌==◌, List, [], ◌∷◌, map}
 use Rattle.std.proofs.lemmas.Bool.{and_from, and_parts}
 use Rattle.std.proofs.lemmas.Bool.Decides.{Decides-eqb}
 use Rattle.std.proofs.lemmas.Cmp.{nat_list_eq_equiv}
@@ -112,7 +112,8 @@ same_nests k l ts us es from =
     let b = view-nest l us in
     let inside =
     subst (λ (xs : List NlaTree). IsTrue (pointwise equal xs us.items) ↔ (views xs ≡ views us.items)) from (same_lists es us.items) in (
-      λ h. let p = and_parts (k == l) (pointwise equal ts.items us.items) (sym e ∙ h) in let n = (Decides-eqb k l).0 p.0 in let i = inside.0 p.1 in
+      λ h. let p = and_parts (k == l) (pointwise equal ts.items us.items) (sym e ∙ h) in
+          let n = (Decides-eqb k l).0 p.0 in let i = inside.0 p.1 in
           cc,
       λ h. let p = nests k l (views ts.items) (views us.items) (sym a ∙ h ∙ b) in e ∙ and_from _ _ ((Decides-eqb k l).1 p.0) (inside.1 p.1),
     )

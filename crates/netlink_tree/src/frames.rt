@@ -61,7 +61,8 @@ impl<'a> Iterator for Frames<&'a [u8]> {
 /// The fault that the frames of a datagram end with (`FrameShort`, `FrameCut` or `FrameLength`), or
 /// `None` where they end without one.
 ///
-/// So `None` says that the bytes are frames from their first byte to their last. Asks for no memory.
+/// So `None` says that the bytes are frames from their first byte to their last. Asks for no
+/// memory.
 pub fn frames_fault(datagram: &[u8]) -> Option<DecodeError>
     ensures fault { (all : List (List ℕ)) × FrameWalk datagram.now all result }
     ensures each { (all : List (List ℕ)) (fault : Option DecodeError)
