@@ -1,5 +1,5 @@
 -- The protocol of zeros is lawful.
-use Rattle.std.specs.Prelude.{◌≡◌, ◌==◌, zero, suc, ◌↔◌, ◌&&◌, ℕ, Bool, true, false, List, [], ◌∷◌, Some, None, length, replicate, nat_eq, refl, if◌then◌else◌}
+use Rattle.std.specs.Prelude.{◌≡◌, ◌==◌, zero, suc, ◌↔◌, ℕ, Bool, true, false, List, [], ◌∷◌, Some, None, length, replicate, nat_eq, refl, if◌then◌else◌}
 use Rattle.std.proofs.Common.{arith, ap, sym, ◌∙◌, subst}
 use Rattle.std.proofs.lemmas.List.{length-replicate}
 use Rattle.std.proofs.lemmas.Bool.{and_parts}
@@ -18,7 +18,7 @@ are_zeros-replicate (suc n) = are_zeros-replicate n
 pub all_zeros : (bytes : List ℕ) → are_zeros bytes ≡ true → bytes ≡ replicate (length bytes) 0
 all_zeros [] e = refl
 all_zeros (b ∷ bytes) e =
-    let parts : ((b == 0) ≡ true) × (are_zeros bytes ≡ true) = and_parts (b == 0) (are_zeros bytes) e in
+    let parts = and_parts (b == 0) (are_zeros bytes) e in
     let first : b ≡ 0 = (Decides-eqb b 0).0 parts.0 in
     let more : bytes ≡ replicate (length bytes) 0 = all_zeros bytes parts.1 in
     λ i. first i ∷ more i

@@ -36,8 +36,8 @@ Makes input output (Some refused) =
     (all : List (NetlinkMessage RouteMessage)) × (left : List ℕ) × Messages input all left
     × (output ≡ lines all) × IsRefusedAt input left refused
 
--- no refusal twice, or one at one byte, but for the words that follow the fixed beginning of a free
--- text
+-- neither is a refusal, or both are the same one at the same byte, but for the words that follow
+-- the fixed beginning of a free text
 abbrev pub SameRefused : Option Refused → Option Refused → Type 0
 SameRefused None None = Unit {0}
 SameRefused (Some r) (Some s) = (r.at ≡ s.at) × SameRefusal r.cause s.cause
