@@ -26,6 +26,16 @@ pub fn frames_text(alloc: Global, datagram: &[u8]) -> Result<String, DecodeError
     Ok(shown_frames(alloc, datagram)?)
 }
 
+/// The fault that the frames of a datagram end with (`FrameShort`, `FrameCut` or `FrameLength`), or
+/// `None` where they end without one: `frames_fault` of `netlink_tree`. Asks for no memory.
+pub fn frames_fault(datagram: &[u8]) -> Option<DecodeError>
+    ensures fault { (all : List (List ℕ)) × FrameWalk datagram.now all result }
+    ensures each { (all : List (List ℕ)) (fault : Option DecodeError)
+        → FrameWalk datagram.now all fault → result ≡ fault }
+{
+    netlink_tree::frames_fault(datagram)
+}
+
 /// The lines of frames.
 fn shown_frames(alloc: Global, datagram: &[u8]) -> Result<String, AllocError>
     ensures { IfOk result

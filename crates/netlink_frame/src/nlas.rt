@@ -32,6 +32,17 @@ pub fn nlas_text(alloc: Global, block: &[u8]) -> Result<String, DecodeError>
     Ok(walked_text(alloc, block)?)
 }
 
+/// The fault that the walk of a block ends with (`NlaBufferTooSmall`, `NlaLengthMismatch` or
+/// `NlaInvalidLength`), or `None` where it ends without one: `nlas_fault` of the library.
+/// Asks for no memory.
+pub fn nlas_fault(block: &[u8]) -> Option<DecodeError>
+    ensures fault { (all : List Attribute) × Walk block.now all result }
+    ensures each { (all : List Attribute) (fault : Option DecodeError) → Walk block.now all fault
+        → result ≡ fault }
+{
+    netlink_packet_core::nlas_fault(block)
+}
+
 /// The lines of a walk.
 fn walked_text(alloc: Global, block: &[u8]) -> Result<String, AllocError>
     ensures { IfOk result

@@ -12,13 +12,12 @@ ghost use Rattle.netlink_frame.specs.declared.ping_pong.PingPongMessage.{PingPon
 ghost use Rattle.netlink_frame.specs.Run.{Answers, IsEarly, Makes, fault_text, read_fault};
 
 use crate::command::Command;
-use crate::frames::frames_text;
-use crate::nlas::nlas_text;
+use crate::frames::{frames_fault, frames_text};
+use crate::nlas::{nlas_fault, nlas_text};
 use crate::ping_pong::PingPongMessage;
 use crate::text::show_text;
-use netlink_packet_core::{DecodeError, NetlinkMessage, nlas_fault, normalize, normalize_nlas};
+use netlink_packet_core::{DecodeError, NetlinkMessage, normalize, normalize_nlas};
 use netlink_program::{ReadFault, read_all};
-use netlink_tree::frames_fault;
 use std::alloc::{AllocError, Global};
 use std::fmt;
 use std::io::{Read, Write};

@@ -1,6 +1,7 @@
 //! The commands over attributes.
 
 use crate::command::Command;
+use crate::nlas::nlas_fault;
 use crate::run::{Fault, run};
 use netlink_packet_core::DecodeError;
 use std::test::Fail;
@@ -25,6 +26,7 @@ fn lines_of_attributes(rt: HostRuntime) -> Result<(), Fail> {
         assert!(rt; answer.is_ok());
         assert_eq!(rt; output.as_slice(), lines.as_bytes());
     }
+    assert!(rt; nlas_fault(&TWO).is_none());
     Ok(())
 }
 

@@ -1,6 +1,7 @@
 //! The command over datagrams.
 
 use crate::command::Command;
+use crate::frames::frames_fault;
 use crate::run::{Fault, run};
 use std::test::Fail;
 
@@ -24,6 +25,7 @@ fn lines_of_frames(rt: HostRuntime) -> Result<(), Fail> {
         assert!(rt; answer.is_ok());
         assert_eq!(rt; output.as_slice(), lines.as_bytes());
     }
+    assert!(rt; frames_fault(&DATAGRAM[..37]).is_none());
     Ok(())
 }
 
