@@ -1,4 +1,7 @@
 //! The line of a link.
+//!
+//! The number of an attribute is read out of its borrow before it is written: only then does the
+//! proof know its range.
 
 ghost use Rattle.std.specs.Prelude.{◌≡◌, IfOk, string_bytes};
 ghost use Rattle.std.specs.Option.{option_copied};
