@@ -7,7 +7,6 @@ use Rattle.std.specs.List.Sorted.{IsStrictlyIncreasing}
 use Rattle.netlink_ethernet.specs.declared.protocol.EthernetProtocol.{EthernetProtocol}
 use Rattle.netlink_ethernet.specs.declared.protocol.EthernetProtocol.TheVariants.{Other}
 use Rattle.netlink_ethernet.specs.declared.comparisons.TheConstants.{NUMBERS}
-use Rattle.netlink_ethernet.specs.declared.table.TheConstants.{PROTOCOLS}
 use Rattle.netlink_ethernet.specs.Table.{named, numbers, number_of, protocol_of, first_with, IsProper}
 
 -- ---- computed over the whole table
@@ -15,10 +14,6 @@ use Rattle.netlink_ethernet.specs.Table.{named, numbers, number_of, protocol_of,
 pub numbers_are : numbers ≡ NUMBERS
 unfolding numbers named
 numbers_are = refl
-
-pub protocols_are : named ≡ PROTOCOLS
-unfolding named
-protocols_are = refl
 
 pub length-numbers : length numbers ≡ 102
 unfolding numbers named
