@@ -1,21 +1,23 @@
 #!/usr/bin/env python3
-"""Tries the must-fail edits of all crates, or of those named: the prover has to refuse each.
+"""Tries the must-fail edits of all crates, or of the crates named: a contract must reject each.
 
-`rt must-fail` tries them one at a time, and each check loads the standard library and the crate anew. Here edits
-of the bodies of different functions are tried in one check, of these functions and what they call. A function is proved
-against the contracts of what it calls, not against their bodies, so one wrong body has no part in what the check says
-of another function's goals. An edit passes there only if the check names a goal of a function that it changes, and no
-goal of anything that was not edited; that a function calls another that is not proved says nothing of it.
-What that does not show is tried alone, as `rt must-fail` does it: edits of a constant, a type, a member of an impl or
-a definition, and those of which a first and a second try together showed nothing. Where an edit names a function, by a
-line `only: NAME`, that function's own contract has to refuse it: no other is checked.
+An edit changes code only (edit.py checks this by reading). It counts as rejected only if the prover reads the edited
+text and fails to prove a goal of an `ensures` of every function that the edit changes, or of the functions that its
+lines `only: NAME` name. A goal of safety alone, a loop's invariant, a compile error, a missing measure or a proof file
+that no longer fits does not count.
 
-    tests/edits.py [--over FOLDER] [--follow] [--lanes N] [CRATE..]
+`rt must-fail` tries the same edits one at a time, accepts any reason, and loads the standard library and the crate each
+time. Here, one check tries edits of many functions. The prover proves a function against the contracts of the functions
+that it calls, not against their bodies, so one broken implementation does not affect the goals of another. An edit that
+such a check does not show to be rejected is tried alone.
 
-It takes the libraries from the folders out/ of FOLDER, a copy of this repository (else from its own), where `rt ci`
-or `rt check` left them, and first proves each crate as it stands: from nothing behind `rt ci`, which keeps no work.
-With --follow it reads from standard input which libraries are proved, a name a line, and begins each crate as soon as
-those below it are. N checks run side by side, as many as there are processors where nothing is said.
+    tests/edits.py [--over FOLDER] [--follow] [--lanes N] [--log FOLDER] [CRATE..]
+
+Uses the libraries that `rt ci` or `rt check` left in the folders out/ of FOLDER, a copy of this repository (default: this
+one). First proves each crate as it is; an edit counts only if the crate is proved without it. With --follow it reads
+from standard input the names of the libraries that are proved, one per line, and starts each crate as soon as the
+libraries below it are there. Runs N checks in parallel (default: one per processor). --log keeps what each check printed.
+Without names it also tries the edits of tests/edits/, each of which says what this script must print of it.
 """
 
 import argparse
@@ -30,113 +32,36 @@ from concurrent.futures import Future
 from queue import PriorityQueue
 from threading import Thread
 
+from edit import BadEdit, edits_of, function_at_line, is_of
 from libraries import TOP, below, dependencies, folder_of, words_over_rlibs
 
-# How many edits one check tries at most.
+# The largest number of edits that one check tries.
 BATCH = 16
 PARTS = ("src", "specs", "proofs")
+# What of a function rejects an edit, the stronger first.
+ENSURES, LOOP = "a goal of its `ensures`", "the invariant of its loop"
 
-FUNCTION = re.compile(r'(?m)^( *)((?:(?:pub(?:\([^)]*\))?|const|unsafe|extern|"C") )*)fn (\w+)(.*)$')
-# What a check of some functions ends with: how many were asked for, and how many of them are proved.
+# The last line of a check of some functions: how many were asked for, and how many of them are proved.
 ONLY = re.compile(r"only=(\d+) proved=(\d+)")
 # A function of the crate that is proved, by its path.
 PROVED = re.compile(r"(?m)^fn ([\w+]+(?:::[\w+]+)*): proved$")
-# Behind a proof by hand that fails stands `not proved` alone: its own error then shows whether it waits for another.
-REFUSED = re.compile(r"(?m)^(\w+) ([\w+]+(?:::[\w+]+)*): (?:not proved(?:; |$)|no proof: )(.*)$")
-# The line that begins the impl or the trait which a function is a member of.
-MEMBER_OF = re.compile(r"(?m)^(?:pub(?:\(\w+\))? )?(?:impl|trait)\b(.*)$")
-# A reason that may lie in another item alone, or in a proof by hand, whose own error then shows it.
-WAITS = re.compile(r"(?:is|are) not proved|waits for the proof|`ensures\*`")
-# The answers of functions that call one another in a cycle, which are proved, or not, together.
-CYCLE = re.compile(r"expected answers in (\S*/\+\S+)")
-AT = re.compile(r"(?m)^(?:note: )?(?:\./)?(src|specs|proofs)/\S+:\d+:\d+: .*$")
-UNREAD = re.compile(r"is not in scope|has no field|is no name|operand is missing|expected the end|cannot continue")
+# A goal that no answer of a proof file was written for, where in the code it arises, and whether it is of an `ensures`
+# or of a loop's invariant.
+OPEN_GOAL = re.compile(
+    r"(?m)^note: (src/\S+?):(\d+):\d+: it is not proved that (what the function ensures|the invariant of the loop) holds"
+)
+# A goal that its answer in a proof file does not prove: the function's folder in proofs/, the goal, and why.
+WRONG_ANSWER = re.compile(r"(?m)^(?:\./)?proofs/(\S+)/Answers\.antt:\d+:\d+: error: `([^`]+)`: (.*)$")
+# Such a goal, by its name; of functions that call one another, the name begins with that of the function.
+GOAL = re.compile(r"(?:(\w+)-)?(returns|loop)(?:-.*)?")
+# An answer that fails because the edit took a name away says little of the contract.
+NAME_GONE = re.compile(r"has no field|is not in scope|has no `|was not admitted|is no name|names nothing")
 ERROR = re.compile(r"^(?:\./)?(\S+?):\d+:\d+: error: (?:(`[^`]*`): )?(.*)$", re.M)
-# What a file says of what stands on a lemma that was refused.
-DEPENDS = re.compile(r"declarations? that depends? on ")
-# What a proof file says where the edit took a name away, which says little of the contract.
-NAME_GONE = re.compile(r"^(?:\./)?proofs/.*(?:has no field|is not in scope|has no `|was not admitted)")
-
-
-class BadEdit(Exception):
-    """An edit that cannot be applied."""
-
-
-class Edit:
-    """One file of a folder must-fail: pairs of texts, old and new, each in a file of the crate, and the functions, if
-    any are named, whose contracts have to refuse it."""
-
-    def __init__(self, crate, path):
-        self.crate, self.name = crate, os.path.basename(path)
-        self.pairs, self.only, file, old = [], [], "", None
-        with open(path, encoding="utf-8") as lines:
-            for line in lines.read().split("\n"):
-                word, _, text = line.partition(":")
-                text = text.removeprefix(" ")
-                if word == "file":
-                    file = text.strip()
-                elif word == "only":
-                    self.only.append(text.strip())
-                elif word == "old":
-                    old = text
-                elif word == "new" and old is not None:
-                    self.pairs.append((file, old, text))
-                    old = None
-
-    def applied(self, texts):
-        """These texts, by file, with the edit's pairs applied in turn; each old text stands there once."""
-        made = dict(texts)
-        if not self.pairs:
-            raise BadEdit("it has no pair of texts")
-        for file, old, new in self.pairs:
-            if made.get(file, "").count(old) != 1:
-                raise BadEdit(f"an old text is in {file} {made.get(file, '').count(old)} times, and not once")
-            made[file] = made[file].replace(old, new)
-        return made
-
-    def functions(self, texts):
-        """The functions that hold all of the edit, or none where a part of it stands elsewhere."""
-        found = {function_at(file, texts.get(file, ""), old) for file, old, _ in self.pairs}
-        return set() if self.only or None in found else found
-
-
-def function_at(file, text, old):
-    """The module of the function in which the text stands, its trait, its type and its name, or none.
-
-    The files are laid out by `rt fmt`: a function ends at the first line that closes a brace at its own indent. A
-    `const fn` may be computed in another function's proof, so it is none.
-    """
-    at = text.find(old)
-    if at < 0 or not file.startswith("src/"):
-        return None
-    starts = [it for it in FUNCTION.finditer(text) if it.start() <= at]
-    if not starts or "const" in starts[-1][2]:
-        return None
-    start = starts[-1]
-    ends = text.find(f"\n{start[1]}}}\n", start.start())
-    opens = text.find(f"\n{start[1]}{{\n", start.start(), ends)
-    if opens < 0 and start[4].endswith("{"):
-        opens = start.end() - 1
-    is_named = at + len(old) <= start.end()
-    if opens < 0 or not (is_named or opens < at and at + len(old) <= ends + 1):
-        return None
-    module = file.removeprefix("src/").removesuffix(".rt").replace("/", "::")
-    trait, owner = owner_of(text[: start.start()]) if start[1] else ("", "")
-    return "" if module in ("lib", "main") else module, trait, owner, start[3]
-
-
-def owner_of(above):
-    """The trait and the type whose impl, or the trait whose body, is the last that begins in this text."""
-    head = ["", *MEMBER_OF.findall(above)][-1]
-    while "<" in (bare := re.sub(r"<[^<>]*>", "", head)) and bare != head:
-        head = bare
-    first, _, second = bare.partition(" for ")
-    owner = re.match(r" *(?:\w+::)*(\w*)", second or first)[1]
-    return re.search(r"(\w*) *$", first)[1] if second else "", owner
+UNREAD = re.compile(r"is not in scope|has no field|is no name|operand is missing|expected the end|cannot continue")
 
 
 def texts_of(crate):
-    """The texts of the crate's files, by their paths in its folder."""
+    """Returns the texts of the crate's files, by their paths in its folder."""
     texts, folder = {}, folder_of(crate)
     for part in PARTS:
         for at, _, names in os.walk(os.path.join(folder, part)):
@@ -148,10 +73,11 @@ def texts_of(crate):
 
 
 class Checked:
-    """What a check of the crate with these texts says, of all or of some functions alone, over a copy of the kept work
-    of another check."""
+    """What a check of the crate with these texts prints, for all its functions or only for some, over a copy of the
+    kept work of another check."""
 
     def __init__(self, words, texts, kept, only=(), keep=False):
+        self.texts = texts
         with tempfile.TemporaryDirectory(prefix="edits-") as room:
             for path, text in texts.items():
                 os.makedirs(os.path.dirname(os.path.join(room, "crate", path)), exist_ok=True)
@@ -170,182 +96,204 @@ class Checked:
         return self.said.rpartition("\n")[2]
 
     def is_refused(self):
+        """Returns whether the check ended because something is not proved."""
         some = ONLY.fullmatch(self.last())
         return self.status == 1 and (some[1] != some[2] if some else self.last().startswith("logic=not-proved"))
 
     def is_proved(self):
         return self.status == 0 and (bool(ONLY.fullmatch(self.last())) or self.last().startswith("logic=proved "))
 
-    def is_unread(self, files):
-        """Whether the prover could not read an edited text, so that no contract was tried."""
-        for file, name, said in ERROR.findall(self.said):
-            if DEPENDS.search(said):
-                continue
-            ours = file in files or file.startswith(("src/", "specs/"))
+    def unread(self):
+        """Returns the line that says that the prover could not read a text, if there is one."""
+        for it in ERROR.finditer(self.said):
+            file, name, said = it.groups()
+            ours = file.startswith(("src/", "specs/"))
             if ours and (not name or UNREAD.search(re.sub(r"`[^`]*`", "", said))):
-                return True
-        return False
+                return it[0]
+        return None
 
-    def refused(self):
-        """What has a goal of its own that is not proved: the kind of each item, its path, without the crate, and
-        the answers that it shares with a cycle of calls, or else this path."""
-        wrong = [it[1] for it in ERROR.finditer(self.said) if not NAME_GONE.match(it[0])]
-        found = []
-        for kind, path, reasons in REFUSED.findall(self.said):
-            own, cycle = path.partition("::")[2], CYCLE.search(reasons)
-            proof = f"proofs/{own.replace('::', '/')}/"
-            is_wrong = kind == "fn" and any(it.startswith(proof) for it in wrong)
-            if is_wrong or (reasons and not all(map(WAITS.search, reasons.split("; ")))):
-                found.append((kind, own, cycle[1] if cycle else own))
+    def broken(self, paths):
+        """Returns which of these functions, by their paths in the crate, have a goal that is not proved: ENSURES if one
+        is of an `ensures`, and else LOOP, if one is of a loop's invariant."""
+        found = {}
+        for it in OPEN_GOAL.finditer(self.said):
+            function = function_at_line(it[1], self.texts.get(it[1], ""), int(it[2]))
+            goal = ENSURES if it[3].endswith("ensures") else LOOP
+            for path in paths:
+                if function and is_of(function, path):
+                    found[path] = min(goal, found.get(path, goal))
+        for it in WRONG_ANSWER.finditer(self.said):
+            goal, path = GOAL.fullmatch(it[2]), re.sub(r"(^|::)\+", r"\1", it[1].replace("/", "::"))
+            if goal and not NAME_GONE.search(re.sub(r"`[^`]*`", "`", it[3])):
+                path = "::".join([*path.split("::")[:-1], goal[1]]) if goal[1] else path
+                kind = ENSURES if goal[2] == "returns" else LOOP
+                if path in paths:
+                    found[path] = min(kind, found.get(path, kind))
         return found
 
     def why(self):
-        """The first line that says where it was refused, but for one on a name that the edit took away."""
-        told = [it[0] for it in AT.finditer(self.said) if ": error" in it[0] or it[0].startswith("note: ")]
-        return next((it for it in told if not NAME_GONE.match(it)), None)
-
-
-def is_of(function, path):
-    """Whether the path of a function, without its crate, is this one's.
-
-    A member of a type's own impl has the path of the type, wherever the impl stands. One of a trait's impl has that of
-    the module, then the type and the trait in one word, where a number's type begins with a capital. What either is
-    given stands behind, or between, with signs.
-    """
-    module, trait, owner, name = function
-    *front, member, last = ["", *path.split("::")]
-    if last != name or not member.lower().startswith(owner.lower()) or trait not in member:
-        return False
-    inside = "::".join(filter(None, front if owner or trait else [*front, member]))
-    return bool(owner and not trait) or inside == module
-
-
-def refused_of(edits, checked):
-    """Which of these edits, each with its functions, the check refuses; none where it refuses anything else.
-
-    A cycle of calls is refused whole, so of two of these edits in one cycle nothing is said.
-    """
-    owners, others = {}, []
-    for kind, path, cycle in checked.refused():
-        found = {edit for edit, own in edits if kind == "fn" and any(is_of(it, path) for it in own)}
-        owners.setdefault(cycle, set()).update(found)
-        others += [cycle] * (not found)
-    if not all(owners.get(cycle) for cycle in others):
-        return set()
-    return {next(iter(found)) for found in owners.values() if len(found) == 1}
+        """Returns the first line that says what was not proved or not read."""
+        lines = [it for it in self.said.split("\n") if re.match(r"(note: )?\S+:\d+:\d+: (error|it is not)", it)]
+        return lines[0][:300] if lines else self.said[:300]
 
 
 class Batch:
-    """Edits of different functions, and the crate's texts as all of them make them."""
+    """Edits of different functions, and the crate's texts with all of them applied."""
 
     def __init__(self, texts):
         self.texts, self.edits, self.functions = texts, [], set()
 
     def takes(self, edit, functions):
-        """Whether the edit can stand beside those of the batch; then it does."""
+        """Adds the edit if it changes none of the functions that the batch changes; returns whether it did."""
         if len(self.edits) == BATCH or self.functions & functions:
             return False
         try:
             self.texts = edit.applied(self.texts)
         except BadEdit:
             return False
-        self.edits.append((edit, functions))
+        self.edits.append(edit)
         self.functions |= functions
         return True
 
 
-def batches(edits, texts):
-    """The edits in batches, and those that are to be tried alone.
+def batches(edits, functions, texts):
+    """Returns the edits in batches, and those that must be tried alone.
 
-    They are dealt out in turn, so that neighbours, which often call one another, are tried apart.
+    Deals them out in turn, so that neighbors, which often call one another, are tried apart.
     """
-    whole = [(it, it.functions(texts)) for it in edits]
-    held = [it for _, functions in whole for it in functions]
-    wide = sum(bool(functions) for _, functions in whole)
-    made = [Batch(texts) for _ in range(max([-(-wide // BATCH), *map(held.count, set(held))]))]
-    alone = []
-    for at, (edit, functions) in enumerate(whole):
-        turn = [*made[at % max(len(made), 1):], *made[: at % max(len(made), 1)]]
-        if not functions or not any(it.takes(edit, functions) for it in turn):
+    wide = [it for it in edits if not it.only]
+    held = [it for edit in wide for it in functions[edit]]
+    made = [Batch(texts) for _ in range(max([-(-len(wide) // BATCH), *map(held.count, set(held))]))]
+    alone = [it for it in edits if it.only]
+    for at, edit in enumerate(wide):
+        turn = [*made[at % len(made) :], *made[: at % len(made)]]
+        if not any(it.takes(edit, functions[edit]) for it in turn):
             alone.append(edit)
-    return made, alone
+    return [it for it in made if it.edits], alone
 
 
 class Crate:
-    """A crate's edits, what they are tried over, and what was found."""
+    """A crate's edits, the libraries that they are tried over, and the kept work of its proof."""
 
-    def __init__(self, name, top, folder):
+    def __init__(self, name, top, folder, log=None):
         self.name, self.words, self.texts = name, words_over_rlibs(name, "check", top), texts_of(name)
         self.kept, self.earlier = os.path.join(folder, name), os.path.join(folder_of(name, top), "out", "incremental")
-        self.edits, self.proved = edits_of(name), []
+        self.edits = edits_of(name, os.path.join(folder_of(name), "must-fail"))
+        self.log, self.proved, self.functions = log, [], {}
 
     def is_proved(self):
-        """Proves the crate as it stands, over what an earlier check kept if one did, and keeps that work."""
+        """Proves the crate as it is, over what an earlier check kept, if one did, and keeps that work."""
         if os.path.isdir(self.earlier):
             shutil.copytree(self.earlier, self.kept)
         os.makedirs(self.kept, exist_ok=True)
         checked = Checked(self.words, self.texts, self.kept, keep=True)
-        self.proved = PROVED.findall(checked.said)
+        self.proved = [it.partition("::")[2] for it in PROVED.findall(checked.said)]
         return checked.is_proved()
 
-    def paths(self, functions):
-        """The paths of these functions as a check prints them, or none where one of them is not found."""
-        found = [[it for it in self.proved if is_of(own, it.partition("::")[2])] for own in functions]
-        return [path for paths in found for path in paths] if all(found) else []
+    def targets(self, edit):
+        """Returns the functions whose contracts must reject the edit, each by its paths: two impls of one trait for a
+        type have the same. Raises BadEdit if one is not found."""
+        if edit.only:
+            wanted = [(it, [path for path in self.proved if f"::{path}".endswith(f"::{it}")]) for it in edit.only]
+        else:
+            wanted = [(it, [path for path in self.proved if is_of(it, path)]) for it in self.functions[edit]]
+        for it, paths in wanted:
+            if not paths:
+                raise BadEdit(f"no proved function of the crate is {it}")
+        return [paths for _, paths in wanted]
 
     def tries(self):
-        """What is to be tried: functions that give the edits with what is said of each; first the longest."""
-        together, alone = batches(self.edits, self.texts)
-        return [lambda it=it: self.batch(it) for it in together] + [lambda it=it: [self.alone(it)] for it in alone]
+        """Returns what is to be tried, the longest first: functions that return edits, each with whether it passes and
+        what to print."""
+        bad = []
+        for edit in self.edits:
+            try:
+                edit.applied(self.texts)
+                self.functions[edit] = edit.functions(self.texts)
+                self.targets(edit)
+            except BadEdit as why:
+                bad.append((edit, False, f"BAD EDIT: {why}"))
+        together, alone = batches([it for it in self.edits if it not in {it for it, _, _ in bad}], self.functions, self.texts)
+        tries = [lambda it=it: self.batch(it) for it in together] + [lambda it=it: [self.alone(it)] for it in alone]
+        return [*tries, lambda: bad]
 
     def batch(self, batch):
-        """Tries a batch, then once more those of its edits of which it shows nothing, and the rest of these alone."""
+        """Tries a batch, then once more those of its edits that it does not show to be rejected, and the rest alone."""
         shown, rest = self.together(batch)
-        again, alone = batches(rest, self.texts) if 1 < len(rest) < len(batch.edits) else ([], rest)
+        again, alone = batches(rest, self.functions, self.texts) if 1 < len(rest) < len(batch.edits) else ([], rest)
         for it in again:
             more, left = self.together(it)
             shown, alone = shown + more, alone + left
         return shown + [self.alone(it) for it in alone]
 
+    def checked(self, texts, kept, paths, name):
+        """Checks these functions in these texts."""
+        checked = Checked(self.words, texts, kept, [f"{self.name}::{it}" for it in paths])
+        if self.log:
+            with open(os.path.join(self.log, f"{self.name}.{name}.txt"), "w", encoding="utf-8") as file:
+                file.write(checked.said)
+        return checked
+
     def together(self, batch):
-        """Which edits of the batch are refused, with what to say, and those of which the check shows nothing."""
-        checked = Checked(self.words, batch.texts, self.kept, self.paths(batch.functions))
-        files = {file for edit, _ in batch.edits for file, _, _ in edit.pairs}
-        refused = set()
-        if checked.is_refused() and not checked.is_unread(files):
-            refused = refused_of(batch.edits, checked)
+        """Returns the edits of the batch that the check shows to be rejected, with what to print, and the others."""
+        groups = {edit: self.targets(edit) for edit in batch.edits}
+        asked = sorted({path for it in groups.values() for paths in it for path in paths})
+        checked = self.checked(batch.texts, self.kept, asked, f"batch-{batch.edits[0].name}")
+        broken = checked.broken(asked) if checked.is_refused() and not checked.unread() else {}
         shown, rest = [], []
-        for edit, functions in batch.edits:
-            if edit in refused:
-                names = " ".join(sorted("::".join(filter(None, it)) for it in functions))
-                shown.append((edit, True, f"refused, beside {len(batch.edits) - 1} others: {names}"))
+        for edit in batch.edits:
+            if said := rejected(groups[edit], broken):
+                shown.append((edit, True, f"rejected, next to {len(batch.edits) - 1} others, by {said}"))
             else:
                 rest.append(edit)
         return shown, rest
 
     def alone(self, edit):
-        """The edit with whether the prover refuses it, and what to say."""
+        """Returns the edit, whether a contract rejects it, and what to print."""
+        groups, edited = self.targets(edit), edit.applied(self.texts)
+        paths = [path for it in groups for path in it]
+        for kept in (self.kept, None):
+            checked = self.checked(edited, kept, paths, edit.name)
+            if checked.is_refused() and not checked.unread() and (said := rejected(groups, checked.broken(paths))):
+                return edit, True, f"rejected, alone, by {said}"
+            if checked.is_proved():
+                return edit, False, f"NOT REJECTED: {' '.join(paths)} is proved with this edit"
+            if checked.is_refused():
+                break
+        if line := checked.unread():
+            return edit, False, f"BAD EDIT: the prover cannot read the edited text: {line[:300]}"
+        left = sorted(set(paths) - checked.broken(paths).keys())
+        return edit, False, f"BAD EDIT: no goal of an `ensures` of {' '.join(left)} fails: {checked.why()}"
+
+
+def rejected(groups, broken):
+    """Returns what rejects an edit, if each of these functions has a goal that is not proved."""
+    found = [{it: broken[it] for it in paths if it in broken} for paths in groups]
+    weakest = max((min(it.values()) for it in found if it), default="")
+    return f"{' '.join(path for it in found for path in it)}: {weakest}" if all(found) else None
+
+
+class SelfTest(Crate):
+    """The edits of tests/edits/ that apply to a crate: they test this script, which must print of each what its line
+    `expect:` says."""
+
+    def __init__(self, name, top, folder, log=None):
+        super().__init__(name, top, os.path.join(folder, "selftest"), log)
+        self.edits = [it for it in edits_of("tests/edits", os.path.join(TOP, "tests", "edits")) if it.base == name]
+
+    def tries(self):
+        return [lambda it=it: [self.expected(it)] for it in self.edits]
+
+    def expected(self, edit):
+        """Returns the edit, whether what is printed of it is what it expects, and what to print."""
         try:
-            edited = edit.applied(self.texts)
+            edit.applied(self.texts)
+            self.functions[edit] = edit.functions(self.texts)
+            _, _, said = self.alone(edit)
         except BadEdit as why:
-            return edit, False, f"BAD EDIT: {why}"
-        only = edit.only or self.paths(edit.functions(self.texts))
-        tries = [(self.kept, only)] * bool(only) + [(self.kept, ()), (None, ())] * (not edit.only)
-        for kept, some in tries:
-            checked = Checked(self.words, edited, kept, some)
-            if checked.is_refused() and not checked.is_unread({file for file, _, _ in edit.pairs}):
-                why = checked.why()
-                gone = "only because a proof names what the edit took away, which says little of the contract"
-                return edit, True, f"refused, alone: {why[:160] if why else gone}"
-        if checked.is_proved():
-            return edit, False, f"NOT REFUSED: {' '.join(edit.only) or 'the crate'} is proved with this edit"
-        return edit, False, f"BAD EDIT: it did not reach the prover: {checked.said[:300]}"
-
-
-def edits_of(crate):
-    folder = os.path.join(folder_of(crate), "must-fail")
-    names = sorted(os.listdir(folder)) if os.path.isdir(folder) else []
-    return [Edit(crate, os.path.join(folder, it)) for it in names if it.endswith(".edit")]
+            said = f"BAD EDIT: {why}"
+        is_well = said.startswith(edit.expect)
+        return edit, is_well, f"as expected: {said}" if is_well else f"expected {edit.expect}, not: {said}"
 
 
 class Lanes:
@@ -373,7 +321,7 @@ class Lanes:
 
 
 def begun(crate, lanes):
-    """The tries of a crate that is proved as it stands, or none."""
+    """Starts the tries of a crate if it is proved as it is; else returns None."""
     return [lanes.submit(1, lambda it=it: shown(it)) for it in crate.tries()] if crate.is_proved() else None
 
 
@@ -392,6 +340,7 @@ def asked(words):
     parser.add_argument("--over", default=TOP, help="the copy of the repository whose libraries are taken")
     parser.add_argument("--follow", action="store_true", help="read the proved libraries' names from standard input")
     parser.add_argument("--lanes", type=int, default=len(os.sched_getaffinity(0)), help="how many checks run at once")
+    parser.add_argument("--log", help="write what each check prints to a file in this folder")
     parser.add_argument("crates", nargs="*", help="the crates, else all")
     return parser.parse_args(words)
 
@@ -400,7 +349,9 @@ def main(words):
     how, names = asked(words), dependencies()
     top, lanes, bases, proved = os.path.abspath(how.over), Lanes(how.lanes), {}, set() if how.follow else {*names}
     with tempfile.TemporaryDirectory(prefix="edits-kept-") as folder:
-        crates = [it for it in (Crate(name, top, folder) for name in how.crates or names) if it.edits]
+        kinds = [Crate] if how.crates else [Crate, SelfTest]
+        crates = [kind(name, top, folder, how.log) for kind in kinds for name in how.crates or names]
+        crates = [it for it in crates if it.edits]
         for library in itertools.chain([""], map(str.strip, sys.stdin) if how.follow else []):
             proved.add(library)
             for crate in crates:

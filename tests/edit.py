@@ -1,0 +1,140 @@
+"""A must-fail edit: a file that makes the same mistake in one or more places of a crate's code."""
+
+import os
+import re
+
+from regions import CODE, kind_between
+
+FUNCTION = re.compile(r'(?m)^( *)((?:(?:pub(?:\([^)]*\))?|const|unsafe|extern|"C") )*)fn (\w+)(.*)$')
+# The line that begins the impl or the trait that a function is a member of.
+MEMBER_OF = re.compile(r"(?m)^(?:pub(?:\(\w+\))? )?(?:impl|trait)\b(.*)$")
+
+
+class BadEdit(Exception):
+    """An edit that cannot be applied, or that changes something other than code."""
+
+
+class Edit:
+    """The pairs of texts of a file, old and new, each in a file of the crate, and the functions, if any are named,
+    whose contracts must reject the edit. An edit that tests the script names its crate and what it expects."""
+
+    def __init__(self, crate, path):
+        self.crate, self.name = crate, os.path.basename(path)
+        self.pairs, self.only, self.base, self.expect, file, old = [], [], crate, "", "", None
+        with open(path, encoding="utf-8") as lines:
+            for line in lines.read().split("\n"):
+                word, _, text = line.partition(":")
+                text = text.removeprefix(" ")
+                if word == "file":
+                    file = text.strip()
+                elif word == "only":
+                    self.only.append(text.strip())
+                elif word == "crate":
+                    self.base = text.strip()
+                elif word == "expect":
+                    self.expect = text.strip()
+                elif word == "old":
+                    old = text
+                elif word == "new" and old is not None:
+                    self.pairs.append((file, old, text))
+                    old = None
+
+    def applied(self, texts):
+        """Returns the crate's texts, by file, after each pair in turn. Raises BadEdit if a pair cannot be applied or
+        changes something other than code."""
+        made = dict(texts)
+        if not self.pairs:
+            raise BadEdit("it has no pair of texts")
+        for file, old, new in self.pairs:
+            found = made.get(file, "").count(old)
+            if found != 1:
+                raise BadEdit(f"`old` must occur exactly once in {file}, but occurs {found} times")
+            before = made[file]
+            made[file] = before.replace(old, new)
+            if kind := changed_kind(file, before, made[file]):
+                raise BadEdit(f"it changes {kind} in {file}, and an edit must change code only")
+        return made
+
+    def functions(self, texts):
+        """Returns the functions that the edit changes. Raises BadEdit if it changes code outside of a function and
+        names no function that must reject it."""
+        found = {function_at(file, texts[file], texts[file].find(old), len(old)) for file, old, _ in self.pairs}
+        if None in found and not self.only:
+            raise BadEdit("it changes code outside of a function, so a line `only:` must name the function that rejects it")
+        return found - {None}
+
+
+def changed_kind(file, before, after):
+    """Returns what a pair changes that is not code, or nothing."""
+    if not file.startswith("src/"):
+        return "a file that is not below src/,"
+    start = len(os.path.commonprefix([before, after]))
+    rest = min(len(before), len(after)) - start
+    same = len(os.path.commonprefix([before[::-1][:rest], after[::-1][:rest]]))
+    for text in (before, after):
+        kind = kind_between(text, start, len(text) - same)
+        if kind != CODE:
+            return kind
+    return "nothing" if before == after else None
+
+
+def function_at(file, text, at, size=0):
+    """Returns the module, trait, type and name of the function that contains this stretch of the text, or None.
+
+    The files are laid out by `rt fmt`: a function ends at the first line that closes a brace at its own indent.
+    """
+    starts = [it for it in FUNCTION.finditer(text) if it.start() <= at]
+    if at < 0 or not starts:
+        return None
+    start = starts[-1]
+    end = text.find(f"\n{start[1]}}}\n", start.start())
+    one_line = start[4].endswith("}") and start.end()
+    if at + size > max(end + len(start[1]) + 2, one_line or 0):
+        return None
+    module = file.removeprefix("src/").removesuffix(".rt").replace("/", "::")
+    trait, owner = owner_of(text[: start.start()]) if start[1] else ("", "")
+    return "" if module in ("lib", "main") else module, trait, owner, start[3]
+
+
+def function_at_line(file, text, number):
+    """Returns the function that contains the line with this number, or whose attributes begin there."""
+    lines = text.splitlines(True)
+    while lines[number - 1].lstrip().startswith("#["):
+        number += 1
+    line = lines[number - 1]
+    return function_at(file, text, sum(map(len, lines[: number - 1])) + len(line) - len(line.lstrip()))
+
+
+def owner_of(above):
+    """Returns the trait and the type whose impl, or the trait whose body, is the last that begins in this text, as far
+    as the prover's path for a member shows them: `From<AllocError>` is `FromAllocError`, and `&mut [u8]` is
+    `RefMutSliceU8`."""
+    head = re.sub(r"'\w+", "", ["", *MEMBER_OF.findall(above)][-1])
+    head = re.sub(r"From<(?:\w+::)*([\w]+)[^ ]*>", r"From\1", head)
+    head = re.sub(r"& *mut *\[(\w+)\]", r"RefMutSlice\1", head)
+    head = re.sub(r"& *\[(\w+)\]", r"RefSlice\1", head)
+    while "<" in (bare := re.sub(r"<[^<>]*>", "", head)) and bare != head:
+        head = bare
+    first, _, second = bare.partition(" for ")
+    owner = re.match(r" *(?:\w+::)*(\w*)", second or first)[1]
+    return re.search(r"(\w*) *$", first)[1] if second else "", owner
+
+
+def is_of(function, path):
+    """Returns whether the path of a function, without its crate, is this function's.
+
+    A member of a type's own impl has the path of the type, wherever the impl is. A member of a trait's impl has the
+    path of the module, then the type and the trait in one word, in which a number's type begins with a capital.
+    """
+    module, trait, owner, name = function
+    *front, member, last = ["", *path.split("::")]
+    if last != name or not member.lower().startswith(owner.lower()) or trait.lower() not in member.lower():
+        return False
+    inside = "::".join(filter(None, front if owner or trait else [*front, member]))
+    return bool(owner and not trait) or inside == module
+
+
+def edits_of(crate, folder):
+    """Returns the crate's edits, from this folder."""
+    names = sorted(os.listdir(folder)) if os.path.isdir(folder) else []
+    return [Edit(crate, os.path.join(folder, it)) for it in names if it.endswith(".edit")]
