@@ -1,15 +1,16 @@
 #!/usr/bin/env python3
-"""Runs the built program `netlink_links`: what a kernel sent, each fault, and wrong arguments.
+"""Runs the built program `netlink_links`: captured datagrams, each error, wrong arguments, and inputs and outputs that
+fail.
 
-The lines of the captured datagrams are made here, by Python's struct and ipaddress from the numbers
-of linux/if.h, if_link.h and if_addr.h. The texts of faults are those of docs/FORMAT.md.
+This script makes the lines of the captured datagrams itself, with Python's struct and ipaddress, from the numbers of
+linux/if.h, if_link.h and if_addr.h. The error texts are those of docs/FORMAT.md.
 """
 
 import ipaddress
 import os
 import struct
 
-from built import TOP, built, run, side_by_side, tally
+from built import TOP, FailingDevices, built, error_of, row, side_by_side, silent, tally
 
 CAPTURED = ["links-0", "links-1", "links-2", "addresses-0", "addresses-1", "link-by-name-0"]
 CAPTURED += ["link-unknown-0", "link-mtu-0", "event-0", "event-1", "event-2"]
@@ -21,7 +22,7 @@ DEVICES = {1: "ether", 772: "loopback"}
 FAMILIES = {2: "inet", 10: "inet6"}
 SCOPES = {0: "global", 253: "link", 254: "host"}
 
-USAGE = (2, b"", b"usage: netlink_links < FILE\n")
+USAGE = (2, b"", "usage: netlink_links < FILE")
 LINE = b"7: a: <> link/[0]\n"
 
 
@@ -130,33 +131,47 @@ FAULTS = [
 
 
 def rows():
-    """A run: its name, its arguments, its input, and its status, output and error."""
+    """The runs over inputs that can be read, to an output that can be written."""
     folder = os.path.join(TOP, "examples", "captured")
     datagrams = [open(os.path.join(folder, f"{name}.bin"), "rb").read() for name in CAPTURED]
     for name, data in zip(CAPTURED, datagrams):
-        yield name, [], data, (0, lines_of(data), b"")
+        yield row(name, [], (0, lines_of(data), ""), data)
     whole = b"".join(datagrams)
-    yield "all of them", [], whole, (0, lines_of(whole), b"")
-    yield "nothing", [], b"", (0, b"", b"")
+    yield row("all of them", [], (0, lines_of(whole), ""), whole)
+    yield row("nothing", [], (0, b"", ""))
     for given, fault in FAULTS:
-        yield given.hex(), [], given, (1, b"", f"byte 0: {fault}\n".encode())
+        yield row(given.hex(), [], (1, b"", f"byte 0: {fault}"), given)
         behind = link(NAMED) + given
-        yield behind.hex(), [], behind, (1, LINE, f"byte 40: {fault}\n".encode())
+        yield row(behind.hex(), [], (1, LINE, f"byte 40: {fault}"), behind)
     for words in (["links"], [""], ["-h"], ["a", "b"], [b"\xff"]):
-        yield f"arguments {words}", words, link(NAMED), USAGE
+        yield row(f"arguments {words}", words, USAGE, link(NAMED))
+
+
+def failing_rows(devices):
+    """Inputs that cannot be read, outputs that cannot be written, and a closed standard error.
+
+    The whole output is written before an error of the input is printed, so `write failed` comes first. Output that is
+    empty is not written, so no device can fail. Wrong arguments come before any input and output.
+    """
+    given, (rejected, error) = link(NAMED), FAULTS[0]
+    yield from devices.unread("netlink_links", [])
+    yield from devices.unwritten("a link", [], given)
+    yield from devices.unwritten("a link and an error", [], given + rejected)
+    yield from devices.unwritten("an error alone", [], rejected, (1, b"", f"byte 0: {error}"))
+    yield from devices.unwritten("nothing", [], b"", (0, b"", ""))
+    yield from devices.unwritten("an argument", ["links"], given, USAGE)
+    yield row("an argument and a closed input", ["links"], USAGE, closed="0<&-")
+    yield silent("a link", [], (0, LINE), given)
+    yield silent("a link and an error", [], (1, LINE), given + rejected)
+    yield silent("an argument", ["links"], USAGE, given)
+    yield row("a directory, no standard error", [], (1, b"", ""), stdin=devices.folder, closed="2>&-")
 
 
 def main():
     program = built("netlink_links", "netlink_links")
-
-    def fault_of(row):
-        name, words, given, wanted = row
-        answer = run([program, *words], given)
-        return None if answer == wanted else f"{name}: answered {answer} and not {wanted}"
-
-    all_rows = list(rows())
-    faults = [it for it in side_by_side(fault_of, all_rows) if it]
-    tally("links", faults, len(all_rows) - len(faults))
+    all_rows = [*rows(), *failing_rows(FailingDevices())]
+    errors = [it for it in side_by_side(lambda it: error_of(program, it), all_rows) if it]
+    tally("links", errors, len(all_rows) - len(errors))
 
 
 main()

@@ -5,9 +5,7 @@ Each cause that a command can give, each wrong list of arguments, and inputs and
 The expected texts are those of docs/FORMAT.md, and the lines are made by hand.
 """
 
-import os
-
-from built import built, run, side_by_side, tally
+from built import FailingDevices, built, error_of, row, side_by_side, silent, tally
 
 COMMANDS = ["normalize", "show", "nlas", "canon", "frames"]
 
@@ -99,12 +97,6 @@ WRONG_ARGUMENTS = [
 ]
 
 
-def row(name, words, wanted, given=b"", **how):
-    """A run: its name, its arguments, its status, output and error, its input, and how it is run."""
-    status, output, said = wanted
-    return name, words, (status, output, said.encode() + b"\n" if said else b""), given, how
-
-
 def good_rows():
     for command, (given, output) in GOOD.items():
         yield row(f"{command} of what it takes", [command], (0, output, ""), given)
@@ -137,63 +129,37 @@ def usage_rows():
         yield row(f"arguments {str(words)[:80]}", words, (2, b"", USAGE), PING)
 
 
-def failing_rows(folder, full, broken):
+def failing_rows(devices):
     """Inputs that cannot be read, and outputs that cannot be written."""
-    unread, unwritten = (1, b"", "read failed"), (1, b"", "write failed")
-    for command, (given, output) in GOOD.items():
-        yield row(f"{command} of a directory", [command], unread, stdin=folder)
-        yield row(f"{command} of a closed input", [command], unread, closed="0<&-")
-        yield row(f"{command} to a full output", [command], unwritten, given, stdout=full)
-        yield row(f"{command} to a closed output", [command], unwritten, given, closed="1>&-")
-        yield row(f"{command} to a pipe without a reader", [command], unwritten, given, stdout=broken)
+    for command, (given, _) in GOOD.items():
+        yield from devices.unread(command, [command])
+        yield from devices.unwritten(command, [command], given)
     for command, given in (("nlas", BLOCK + b"\5"), ("frames", PING + b"\0")):
-        name = f"{command} with a fault behind its lines"
-        yield row(f"{name}, to a full output", [command], unwritten, given, stdout=full)
-        yield row(f"{name}, to a closed output", [command], unwritten, given, closed="1>&-")
+        yield from devices.unwritten(f"{command} with an error after its lines", [command], given)
     for command in ("nlas", "canon", "frames"):
-        name = f"{command} of nothing"
-        yield row(f"{name}, to a full output", [command], (0, b"", ""), stdout=full)
-        yield row(f"{name}, to a closed output", [command], (0, b"", ""), closed="1>&-")
-    cut = (1, b"", f"{INSIDE}{FRAME}length is 4 but {LEAST}")
-    yield row("a cut frame, to a full output", ["normalize"], cut, PING[:4], stdout=full)
-    yield row("a cut frame, to a closed output", ["normalize"], cut, PING[:4], closed="1>&-")
-    yield row("a wrong word and a closed input", ["help"], (2, b"", USAGE), closed="0<&-")
-    yield row("a wrong word and a closed output", ["help"], (2, b"", USAGE), PING, closed="1>&-")
+        yield from devices.unwritten(f"{command} of nothing", [command], b"", (0, b"", ""))
+    truncated = (1, b"", f"{INSIDE}{FRAME}length is 4 but {LEAST}")
+    yield from devices.unwritten("a truncated frame", ["normalize"], PING[:4], truncated)
+    usage = (2, b"", USAGE)
+    yield from devices.unwritten("a wrong word", ["help"], PING, usage)
+    yield row("a wrong word and a closed input", ["help"], usage, closed="0<&-")
 
 
 def silent_rows():
     """Runs whose standard error is closed: the status tells."""
-    for words, given, status, output in (
-        (["normalize"], PING, 0, PING),
-        (["normalize"], PING[:4], 1, b""),
-        (["nlas"], BLOCK + b"\5", 1, b"0001 1 aa\n"),
-        (["help"], PING, 2, b""),
-    ):
-        name = f"{words[0]} of {given.hex()}, no standard error"
-        yield row(name, words, (status, output, ""), given, closed="2>&-")
+    yield silent("normalize", ["normalize"], (0, PING), PING)
+    yield silent("normalize of a truncated frame", ["normalize"], (1, b""), PING[:4])
+    yield silent("nlas with an error after its lines", ["nlas"], (1, b"0001 1 aa\n"), BLOCK + b"\5")
+    yield silent("a wrong word", ["help"], (2, b""), PING)
 
 
 def main():
     program = built("netlink_frame")
-
-    def fault_of(row):
-        name, words, wanted, given, how = row
-        closed = how.pop("closed", None)
-        words = [program, *words]
-        if closed:
-            words = ["sh", "-c", f'exec "$@" {closed}', "sh", *words]
-        answer = run(words, given, **how)
-        return None if answer == wanted else f"{name}: answered {answer} and not {wanted}"
-
-    here, broken = os.pipe()
-    os.close(here)
-    full = os.open("/dev/full", os.O_WRONLY)
-    folder = os.open("/", os.O_RDONLY)
-    failing = failing_rows(folder, full, broken)
+    failing = failing_rows(FailingDevices())
     rows = [*good_rows(), *refused_rows(), *usage_rows(), *failing, *silent_rows()]
-    faults = [it for it in side_by_side(fault_of, rows) if it]
+    errors = [it for it in side_by_side(lambda it: error_of(program, it), rows) if it]
     print(f"{len(rows)} ends of the program were looked at")
-    tally("statuses", faults, len(rows) - len(faults))
+    tally("statuses", errors, len(rows) - len(errors))
 
 
 main()

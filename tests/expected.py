@@ -1,0 +1,135 @@
+"""Reads expected.txt, the numbers that the gate requires, and compares the repository and the steps with them."""
+
+import glob
+import hashlib
+import os
+import re
+
+TOP = os.path.dirname(os.path.dirname(os.path.abspath(__file__)))
+FILE = "tests/expected.txt"
+
+# The step that tries the edits, and the folder of edits that test this step itself.
+EDITS, OWN_EDITS = "tests/edits.py", "tests/edits"
+
+# The form of each line, by its first word: its name, and its number or digest.
+POSITIVE = r"[1-9]\d*"
+FORMS = {
+    "edits": rf"(\S+) ({POSITIVE})",
+    "measures": r"(\w+)()",
+    "tests": rf"(\w+) ({POSITIVE})",
+    "passes": rf"(\S.*) ({POSITIVE})",
+    "passes-at-least": rf"(\S.*) ({POSITIVE})",
+    "skippable": r"([\w-]+ \S.*) (\d+)",
+    "digest": r"(\S+) ([0-9a-f]{64})",
+}
+
+
+class BadLine(Exception):
+    """A line of expected.txt that cannot be read."""
+
+
+def digest_of(path):
+    """Returns the sha256 digest of a file, in hexadecimal."""
+    with open(path, "rb") as file:
+        return hashlib.sha256(file.read()).hexdigest()
+
+
+def differs(what, number, stated, is_exact=True):
+    """Returns how a number differs from the stated one, or None if it does not."""
+    if number < stated:
+        return f"{what}: {number}, fewer than the {stated} that {FILE} states"
+    if number > stated and is_exact:
+        return f"{what}: {number}, more than the {stated} that {FILE} states; raise the number there"
+    return None
+
+
+class Expected:
+    """The lines of expected.txt: for each first word, the number or digest of each name."""
+
+    def __init__(self, top=TOP):
+        self.top, self.lines = top, {word: {} for word in FORMS}
+        with open(os.path.join(top, FILE), encoding="utf-8") as file:
+            for at, line in enumerate(file, 1):
+                self.read(at, line.partition("#")[0].split())
+        self.lines["passes"][EDITS] = sum(self.lines["edits"].values())
+
+    def read(self, at, words):
+        """Reads the words of one line, without its comment."""
+        if not words:
+            return
+        word, rest = words[0], " ".join(words[1:])
+        form = re.fullmatch(FORMS[word], rest) if word in FORMS else None
+        if not form:
+            raise BadLine(f"{FILE}, line {at} cannot be read: {word} {rest}")
+        name, value = form.groups()
+        if name in self.lines[word]:
+            raise BadLine(f"{FILE}, line {at} states `{word} {name}` once more")
+        self.lines[word][name] = value if word == "digest" else int(value or 0)
+
+    def crates(self):
+        """Returns the names of the crates, which are the folders of crates/."""
+        folder = os.path.join(self.top, "crates")
+        return sorted(it for it in os.listdir(folder) if os.path.isdir(os.path.join(folder, it)))
+
+    def edits_of(self, name):
+        """Returns how many edits the crate has, or the folder of edits that test the script."""
+        folder = name if name == OWN_EDITS else os.path.join("crates", name, "must-fail")
+        return len(glob.glob(os.path.join(glob.escape(self.top), folder, "*.edit")))
+
+    def wrong_edits(self):
+        """Yields each difference in the numbers of edits."""
+        stated, names = self.lines["edits"], [*self.crates(), OWN_EDITS]
+        for name in names:
+            number = self.edits_of(name)
+            is_exempt = name.endswith("_tests") or name in self.lines["measures"]
+            if not number and not is_exempt:
+                yield f"{name} has no edits, and {FILE} does not exempt it"
+            elif why := differs(f"edits of {name}", number, stated.get(name, 0)):
+                yield why
+        for name in sorted({*stated, *self.lines["measures"]} - {*names}):
+            yield f"{FILE} names the crate {name}, which does not exist"
+
+    def wrong_tests(self, counted):
+        """Yields each difference in the numbers of tests that ran and passed, by crate."""
+        stated = self.lines["tests"]
+        for crate in sorted({*stated, *counted, *(it for it in self.crates() if it.endswith("_tests"))}):
+            if not counted.get(crate):
+                yield f"tests of {crate}: none ran and passed"
+            elif why := differs(f"tests of {crate}", counted[crate], stated.get(crate, 0)):
+                yield why
+
+    def wrong_digest(self, path):
+        """Returns how the digest of the file differs from the stated one, or None."""
+        found, stated = digest_of(os.path.join(self.top, path)), self.lines["digest"].get(path)
+        return None if found == stated else f"{path} has the sha256 digest {found}; {FILE} states {stated}"
+
+    def wrong_files(self):
+        """Returns the differences that are known before any step has run: those of edits and digests."""
+        return [*self.wrong_edits(), *filter(None, map(self.wrong_digest, self.lines["digest"]))]
+
+    def wrong_names(self, steps):
+        """Yields each line that names a step other than these, and each of these without a line."""
+        named = {*self.lines["passes"], *self.lines["passes-at-least"]}
+        for name in sorted({*named, *(it.partition(" ")[2] for it in self.lines["skippable"])} - {*steps}):
+            yield f"{FILE} names the step {name}, which does not exist"
+        for name in steps:
+            if name not in named:
+                yield f"{FILE} does not state how many pass in the step {name}"
+
+    def wrong_skips(self, step, skips):
+        """Yields each skip of a step that is not listed. A skip is a name and a reason."""
+        for name, reason in skips:
+            if f"{name} {step}" not in self.lines["skippable"]:
+                yield f"{step} skipped {name} ({reason}), which {FILE} does not list as skippable"
+
+    def wrong_number(self, step, number, skips):
+        """Returns how the number that passed in a step differs, or None. Each listed skip allows fewer."""
+        fewer = sum(self.lines["skippable"].get(f"{name} {step}", 0) for name, _ in skips)
+        is_exact = step in self.lines["passes"]
+        stated = self.lines["passes" if is_exact else "passes-at-least"].get(step, 1) - fewer
+        return differs(f"passed in {step}", number, stated, is_exact)
+
+    def note(self, step, number):
+        """Returns a line that asks to raise a number that need not be exact, or None."""
+        stated = self.lines["passes-at-least"].get(step)
+        return differs(f"passed in {step}", number, stated) if stated and number > stated else None

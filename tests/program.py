@@ -1,0 +1,168 @@
+"""Runs a program of this repository: ./netlink_frame and ./netlink_links call `main`.
+
+The program gets the arguments, standard input and standard output unchanged, and its exit status is the script's.
+Before that, the script proves and builds the program and the crates below it, if they changed, and says on standard
+error which crate it proves. `--quick` or `--verbose` changes this if it is the first argument. The program does not
+get that word:
+
+--verbose  also shows what the toolchain says, for each crate when its proof ends. Without it, only a failure is shown.
+--quick    runs the program without proofs, by `rt try`. The input is at most 64 MiB, ends when nothing arrives for
+           two seconds, and cannot be a terminal. The output is at most 1 MiB. The program has 60 seconds and no
+           environment.
+
+Status 3: there is no answer, because the toolchain is missing or is another one, a crate is not proved, or `rt try`
+did not run the program to its end. Standard output is then empty.
+"""
+
+import hashlib
+import os
+import re
+import signal
+import subprocess
+import sys
+import tempfile
+import time
+
+from libraries import below, dependencies, folder_of
+from toolchain import NO_ANSWER, kit_named, need_kit
+
+# What `rt try` says after the program's own standard error, if the program ended.
+ENDED = re.compile(rb"(interpreter: .*\n)?(checked: .*\n)?(races: .*\n)?run=ended .*\n\Z")
+
+
+def say(text):
+    print(text, file=sys.stderr, flush=True)
+
+
+def write(stream, said):
+    stream.buffer.write(said)
+    stream.flush()
+
+
+def quick(program, words):
+    """Runs the program by `rt try` and returns its status. Writes its output only if it ended."""
+    say(f"{program}: this build is not proved")
+    how = {"cwd": folder_of(program), "stdout": subprocess.PIPE, "stderr": subprocess.PIPE}
+    with subprocess.Popen(["rt", "try", "--", *words], **how) as run:
+        try:
+            output, said = run.communicate()
+        finally:
+            run.terminate()
+    ended = ENDED.search(said)
+    if not ended:
+        write(sys.stderr, said)
+        say(f"{program}: no answer, for the reason above")
+        return NO_ANSWER
+    said = said[: ended.start()]
+    if output[-1:] not in (b"", b"\n"):
+        # `rt try` then ends the line on standard error, before the program's own lines.
+        said = re.sub(rb"\A((?:rt: .*\n)*)\n", rb"\1", said)
+    write(sys.stderr, said)
+    write(sys.stdout, output)
+    return run.returncode
+
+
+def bytes_of(path):
+    with open(path, "rb") as file:
+        return file.read()
+
+
+def sums_of(crates, names):
+    """Returns for each crate a hash of all that it is built from: the kit, its sources and the crates below it."""
+    sums = {}
+    for crate in crates:
+        made = hashlib.sha256(repr([kit_named(), crate, [sums[it] for it in names[crate]]]).encode())
+        for part in ("src", "specs", "proofs"):
+            for at, folders, files in os.walk(f"{folder_of(crate)}/{part}"):
+                folders.sort()
+                for path in (f"{at}/{it}" for it in sorted(files)):
+                    made.update(repr((os.path.relpath(path, folder_of(crate)), bytes_of(path))).encode())
+        sums[crate] = made.hexdigest()
+    return sums
+
+
+def kept_at(crate):
+    return f"{folder_of(crate)}/out/{crate}.sum"
+
+
+def kept_text(crate, sum):
+    """Returns what the file `kept_at` holds if `rt` proved what has this sum and a program is still as it was built."""
+    path = f"{folder_of(crate)}/out/{crate}"
+    return f"{sum} {hashlib.sha256(bytes_of(path)).hexdigest() if os.path.isfile(path) else ''}".encode()
+
+
+def is_kept(crate, sum):
+    return os.path.isfile(kept_at(crate)) and bytes_of(kept_at(crate)) == kept_text(crate, sum)
+
+
+def chain(crate, names):
+    """Returns the longest chain of crates, each the next one's library, that ends in this one."""
+    return [*max((chain(it, names) for it in names[crate]), key=len, default=[]), crate]
+
+
+def start(crate, program, names):
+    """Starts the proof of a crate, after the libraries below it; returns the run and the file of what it says.
+
+    `rt` locks the crate and those below it, so crates that do not use each other are proved at the same time. A crate
+    has to wait for the libraries below it, because `rt` proves only over libraries that are built. The longest chain
+    therefore decides how long all takes, and the other crates get only the processor time that it leaves.
+    """
+    is_in_chain = crate in chain(program, names)
+    words = [] if is_in_chain else ["nice", "-n", "19"]
+    # No command of `rt` builds a program without running it.
+    words += ["rt", "run" if crate == program else "lib", "--jobs", "4" if is_in_chain else "2"]
+    said = tempfile.TemporaryFile()
+    how = {"stdin": subprocess.DEVNULL, "stdout": said, "stderr": subprocess.STDOUT}
+    return subprocess.Popen(words, cwd=folder_of(crate), **how), said
+
+
+def prove(program, is_verbose):
+    """Proves the crates that changed and builds the program. Returns whether all are proved."""
+    names = dependencies()
+    crates = [*below(program, names), program]
+    sums = sums_of(crates, names)
+    stale = [it for it in crates if not is_kept(it, sums[it])]
+    waiting, running = [*stale], {}
+    try:
+        while waiting or running:
+            for crate in [it for it in waiting if not {*waiting, *running} & {*below(it, names)}]:
+                waiting.remove(crate)
+                running[crate] = start(crate, program, names)
+                say(f"proving {crate} ({len(stale) - len(waiting)} of {len(stale)})")
+            time.sleep(0.05)
+            for crate in [it for it, (run, _) in running.items() if run.poll() is not None]:
+                run, said = running.pop(crate)
+                said.seek(0)
+                # `rt run` says this right before it runs the program.
+                said, line, _ = said.read().partition(b"rt: running out/")
+                is_proved = bool(line) if crate == program else not run.returncode
+                if is_verbose or not is_proved:
+                    write(sys.stderr, said)
+                if not is_proved:
+                    say(f"{program}: no answer, because {crate} is not proved")
+                    return False
+                if sums_of(crates, names)[crate] == sums[crate]:
+                    with open(kept_at(crate), "wb") as file:
+                        file.write(kept_text(crate, sums[crate]))
+    finally:
+        for run, _ in running.values():
+            run.terminate()
+    return True
+
+
+def main(program):
+    words = sys.argv[1:]
+    # Python ignores these two, and the program would inherit that.
+    for it in (signal.SIGPIPE, signal.SIGXFSZ):
+        signal.signal(it, signal.SIG_DFL)
+    for it in (signal.SIGINT, signal.SIGTERM, signal.SIGHUP):
+        if signal.getsignal(it) != signal.SIG_IGN:
+            signal.signal(it, lambda number, _: sys.exit(128 + number))
+    option = words.pop(0) if words[:1] in (["--quick"], ["--verbose"]) else None
+    need_kit(program)
+    if option == "--quick":
+        return quick(program, words)
+    if not prove(program, option == "--verbose"):
+        return NO_ANSWER
+    path = f"{folder_of(program)}/out/{program}"
+    os.execv(path, [path, *words])
