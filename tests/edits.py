@@ -38,22 +38,17 @@ from libraries import TOP, below, dependencies, folder_of, words_over_rlibs
 # The largest number of edits that one check tries.
 BATCH = 16
 PARTS = ("src", "specs", "proofs")
-# What of a function rejects an edit, the stronger first.
-ENSURES, LOOP = "a goal of its `ensures`", "the invariant of its loop"
 
 # The last line of a check of some functions: how many were asked for, and how many of them are proved.
 ONLY = re.compile(r"only=(\d+) proved=(\d+)")
 # A function of the crate that is proved, by its path.
 PROVED = re.compile(r"(?m)^fn ([\w+]+(?:::[\w+]+)*): proved$")
-# A goal that no answer of a proof file was written for, where in the code it arises, and whether it is of an `ensures`
-# or of a loop's invariant.
-OPEN_GOAL = re.compile(
-    r"(?m)^note: (src/\S+?):(\d+):\d+: it is not proved that (what the function ensures|the invariant of the loop) holds"
-)
+# A goal of an `ensures` that no answer of a proof file was written for, and where in the code it arises.
+OPEN_GOAL = re.compile(r"(?m)^note: (src/\S+?):(\d+):\d+: it is not proved that what the function ensures holds")
 # A goal that its answer in a proof file does not prove: the function's folder in proofs/, the goal, and why.
 WRONG_ANSWER = re.compile(r"(?m)^(?:\./)?proofs/(\S+)/Answers\.antt:\d+:\d+: error: `([^`]+)`: (.*)$")
-# Such a goal, by its name; of functions that call one another, the name begins with that of the function.
-GOAL = re.compile(r"(?:(\w+)-)?(returns|loop)(?:-.*)?")
+# The name of a goal of an `ensures`; of functions that call one another, it begins with the function's name.
+ENSURES = re.compile(r"(?:(\w+)-)?returns(?:-.*)?")
 # An answer that fails because the edit took a name away says little of the contract.
 NAME_GONE = re.compile(r"has no field|is not in scope|has no `|was not admitted|is no name|names nothing")
 ERROR = re.compile(r"^(?:\./)?(\S+?):\d+:\d+: error: (?:(`[^`]*`): )?(.*)$", re.M)
@@ -113,23 +108,16 @@ class Checked:
         return None
 
     def broken(self, paths):
-        """Returns which of these functions, by their paths in the crate, have a goal that is not proved: ENSURES if one
-        is of an `ensures`, and else LOOP, if one is of a loop's invariant."""
-        found = {}
+        """Returns those of these functions, by their paths in the crate, of which a goal of an `ensures` is not proved."""
+        found = set()
         for it in OPEN_GOAL.finditer(self.said):
             function = function_at_line(it[1], self.texts.get(it[1], ""), int(it[2]))
-            goal = ENSURES if it[3].endswith("ensures") else LOOP
-            for path in paths:
-                if function and is_of(function, path):
-                    found[path] = min(goal, found.get(path, goal))
+            found |= {path for path in paths if function and is_of(function, path)}
         for it in WRONG_ANSWER.finditer(self.said):
-            goal, path = GOAL.fullmatch(it[2]), re.sub(r"(^|::)\+", r"\1", it[1].replace("/", "::"))
+            goal, path = ENSURES.fullmatch(it[2]), re.sub(r"(^|::)\+", r"\1", it[1].replace("/", "::"))
             if goal and not NAME_GONE.search(re.sub(r"`[^`]*`", "`", it[3])):
-                path = "::".join([*path.split("::")[:-1], goal[1]]) if goal[1] else path
-                kind = ENSURES if goal[2] == "returns" else LOOP
-                if path in paths:
-                    found[path] = min(kind, found.get(path, kind))
-        return found
+                found.add("::".join([*path.split("::")[:-1], goal[1]]) if goal[1] else path)
+        return found.intersection(paths)
 
     def why(self):
         """Returns the first line that says what was not proved or not read."""
@@ -239,7 +227,7 @@ class Crate:
         groups = {edit: self.targets(edit) for edit in batch.edits}
         asked = sorted({path for it in groups.values() for paths in it for path in paths})
         checked = self.checked(batch.texts, self.kept, asked, f"batch-{batch.edits[0].name}")
-        broken = checked.broken(asked) if checked.is_refused() and not checked.unread() else {}
+        broken = checked.broken(asked) if checked.is_refused() and not checked.unread() else set()
         shown, rest = [], []
         for edit in batch.edits:
             if said := rejected(groups[edit], broken):
@@ -262,15 +250,14 @@ class Crate:
                 break
         if line := checked.unread():
             return edit, False, f"BAD EDIT: the prover cannot read the edited text: {line[:300]}"
-        left = sorted(set(paths) - checked.broken(paths).keys())
+        left = sorted(set(paths) - checked.broken(paths))
         return edit, False, f"BAD EDIT: no goal of an `ensures` of {' '.join(left)} fails: {checked.why()}"
 
 
 def rejected(groups, broken):
-    """Returns what rejects an edit, if each of these functions has a goal that is not proved."""
-    found = [{it: broken[it] for it in paths if it in broken} for paths in groups]
-    weakest = max((min(it.values()) for it in found if it), default="")
-    return f"{' '.join(path for it in found for path in it)}: {weakest}" if all(found) else None
+    """Returns which functions reject an edit, if each of these has a goal that is not proved."""
+    found = [[path for path in paths if path in broken] for paths in groups]
+    return " ".join(path for it in found for path in it) if all(found) else None
 
 
 class SelfTest(Crate):

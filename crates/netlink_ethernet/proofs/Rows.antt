@@ -24,12 +24,12 @@ pub protocols_of_numbers : map protocol_of numbers ≡ named
 unfolding numbers named protocol_of first_with
 protocols_of_numbers = refl
 
-abbrev is_rising : List ℕ → Bool
+abbrev pub is_rising : List ℕ → Bool
 is_rising [] = true
 is_rising (x ∷ []) = true
 is_rising (x ∷ (y ∷ ys)) = nat_lt x y && is_rising (y ∷ ys)
 
-rises : (xs : List ℕ) → is_rising xs ≡ true → IsStrictlyIncreasing xs
+pub rises : (xs : List ℕ) → is_rising xs ≡ true → IsStrictlyIncreasing xs
 rises [] t k h = absurd (omega arith)
 rises (x ∷ []) t k h = absurd (omega arith)
 rises (x ∷ (y ∷ ys)) t zero h = grind (arith, nat_tests)
