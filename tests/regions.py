@@ -1,4 +1,4 @@
-"""Tells the parts of a Rattle source file apart: code, comments, contracts, ghost items and attributes."""
+"""Finds the parts of a Rattle source file: code, comments, contracts, ghost items and attributes."""
 
 import re
 
