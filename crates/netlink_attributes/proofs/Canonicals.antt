@@ -15,7 +15,7 @@ use Rattle.netlink_attributes.specs.StartLaws.{starts-attribute_of, starts-fault
 abbrev pub IsZeroPadded : List ℕ → ℕ → Type 0
 IsZeroPadded bytes size = take (padding size) (drop size bytes) ≡ replicate (padding size) 0
 
--- not so where the bytes end before it
+-- not if the bytes end before it
 pub short_padding : (bytes : List ℕ) (size : ℕ) → length bytes - size < padding size → IsZeroPadded bytes size → ⊥
 short_padding bytes size short zeros =
     let taken : length (take (padding size) (drop size bytes)) ≡ min (padding size) (length bytes - size) =
@@ -23,7 +23,7 @@ short_padding bytes size short zeros =
     let whole : length (take (padding size) (drop size bytes)) ≡ padding size = ap length zeros ∙ length-replicate (padding size) 0 in
     omega arith
 
--- behind the text of an attribute stand its gap and the rest
+-- the encoding of an attribute is followed by its gap and the rest
 behind_text : (bytes : List ℕ) (a : Attribute) (rest : List ℕ) (starts : Starts bytes a rest)
     → drop (length_field bytes) bytes ≡ starts.gap ++ rest
 behind_text bytes a rest starts =
@@ -35,7 +35,7 @@ same_padding : (bytes : List ℕ) (a : Attribute) (rest : List ℕ) → Starts b
     → padding (length_field bytes) ≡ padding (length a.value)
 same_padding bytes a rest starts = let field = starts-length_field bytes a rest starts in omega arith
 
--- padding of zeros is the whole gap
+-- if the padding is zeros, it is the whole gap
 zero_gap : (bytes : List ℕ) (a : Attribute) (rest : List ℕ) (starts : Starts bytes a rest) → IsZeroPadded bytes (length_field bytes)
     → starts.gap ≡ replicate (padding (length a.value)) 0
 zero_gap bytes a rest starts zeros =
@@ -52,7 +52,7 @@ zero_gap bytes a rest starts zeros =
           absurd (omega (arith, short.0, ap length short.1))
     ]
 
--- an attribute with its padding of zeros, and a canonical block behind it
+-- an attribute with padding of zeros and then a canonical block are a canonical block
 pub canonical_cons : (bytes : List ℕ) (a : Attribute) (rest : List ℕ) → Starts bytes a rest → IsZeroPadded bytes (length_field bytes)
     → IsCanonicalBlock rest → IsCanonicalBlock bytes
 canonical_cons bytes a rest starts zeros (more, block) = (
@@ -83,7 +83,7 @@ block_rest bytes a rest (b ∷ more) starts (then, fits, whole, block) =
           (λ (k : ℕ). take k (drop (length_field bytes) bytes) ≡ replicate k 0) (sym (same_padding bytes b then begins)) padded,
     )
 
--- and that is what a canonical block is
+-- and every canonical block has this form
 pub canonical_rest : (bytes : List ℕ) (a : Attribute) (rest : List ℕ) → Starts bytes a rest → IsCanonicalBlock bytes
     → IsCanonicalBlock rest × IsZeroPadded bytes (length_field bytes)
 canonical_rest bytes a rest starts (all, block) = block_rest bytes a rest all starts block
@@ -96,7 +96,7 @@ block_fault bytes fault (a ∷ more) some is block = let walk = block_walks byte
 pub canonical_fault : (bytes : List ℕ) (fault : DecodeError) → bytes ≢ [] → IsFault bytes fault → IsCanonicalBlock bytes → ⊥
 canonical_fault bytes fault some is (all, block) = block_fault bytes fault all some is block
 
--- the same padding by other names of the bytes and of their length field
+-- the same padding, with other names for the bytes and their length field
 pub same_zeros : (bytes other shown : List ℕ) (size : ℕ) → shown ≡ bytes → other ≡ shown → size ≡ length_field shown
     → IsZeroPadded other size ↔ IsZeroPadded bytes (length_field bytes)
 same_zeros bytes other shown size first second field =

@@ -1,4 +1,4 @@
--- What is left of a walk where its bytes are cut.
+-- What is left of a walk if its bytes are truncated.
 use Rattle.std.proofs.Common.{◌≡◌, ◌≢◌, ℕ, zero, suc, Bool, false, cond, ltb, ◌+◌, ◌-◌, ◌<◌, ◌≤◌, ◌⊎◌, List, [], ◌∷◌, ◌++◌, length, take, drop, refl, ap, sym, subst, ◌∙◌, inl, inr, arith, Option, Some, None, append-nil}
 use Rattle.std.proofs.lemmas.Bool.{cases_lt, lt-ltb, le-ltb, le-leb, lt-leb}
 use Rattle.std.proofs.lemmas.List.{length-take-le, take-take, drop-drop, take-append-le}
@@ -18,13 +18,13 @@ use Rattle.netlink_attributes.specs.WalkLaws.{walk_once}
 
 -- ---- lists
 
--- so many bytes from behind a front
+-- the first `size` bytes of a front and what follows it, if they include the front
 take_behind : (front rest : List ℕ) (k size : ℕ) → size ≡ length front + k → take size (front ++ rest) ≡ front ++ take k rest
 take_behind front rest k size is = ap (λ (n : ℕ). take n (front ++ rest)) is ∙ take-append-add front rest k
 
--- ---- an attribute that ends by the cut
+-- ---- an attribute that ends at or before the cut
 
--- the gap and the rest of an attribute, cut
+-- the gap and the rest of an attribute, truncated
 gap_cut : (a : Attribute) (gap rest : List ℕ) (k : ℕ)
     → (length gap ≡ padding (length a.value)) ⊎ ((length gap < padding (length a.value)) × (rest ≡ []))
     → (new : List ℕ) × (take k (gap ++ rest) ≡ new ++ take (k - padding (length a.value)) rest)
@@ -54,7 +54,7 @@ gap_cut a gap rest k size =
       ]
     ]
 
--- starts the cut bytes too
+-- the truncated bytes start with the attribute too
 starts_cut : (bytes : List ℕ) (a : Attribute) (rest : List ℕ) (k : ℕ) → Starts bytes a rest → 4 + length a.value ≤ k
     → Starts (take k bytes) a (take (k - padded_size a) rest)
 starts_cut bytes a rest k starts inside =
@@ -97,7 +97,7 @@ fault_is bytes k inside damaged =
 not_empty : (k : ℕ) (bytes : List ℕ) → 0 < k → k ≤ length bytes → take k bytes ≢ []
 not_empty k bytes some inside none = let size = length-take-le k bytes inside in omega (arith, ap length none)
 
--- bytes with a fault have one wherever they are cut
+-- bytes with an error have one wherever they are truncated
 fault_cut : (bytes : List ℕ) (fault : DecodeError) (k : ℕ) → IsFault bytes fault → k ≤ length bytes → 4 ≤ k
     → (length_field bytes < 4) ⊎ (k < length_field bytes)
 fault_cut bytes (NlaBufferTooSmall m n) k is inside long = absurd (omega arith)
@@ -107,7 +107,7 @@ fault_cut bytes _ k is inside long = absurd is
 
 -- ---- offsets
 
--- `IsCutAt`, of attributes from an offset on
+-- `IsCutAt`, for attributes that start at an offset
 abbrev pub IsCutFrom : ℕ → List Attribute → Option DecodeError → ℕ → ℕ → Type 0
 IsCutFrom at all fault cut start =
     ((index : ℕ) × (end : ℕ) × (slice_get (ends_from at all) index ≡ Some (start, end)) × (start < cut) × (cut < end))
@@ -121,7 +121,7 @@ end_or : Option (ℕ × ℕ) → ℕ → ℕ
 end_or None at = at
 end_or (Some place) at = place.1
 
--- each attribute starts at the offset or behind it
+-- each attribute starts at or after the offset
 place_behind : (at : ℕ) (all : List Attribute) (index start end : ℕ) → slice_get (ends_from at all) index ≡ Some (start, end) → at ≤ start
 unfolding start_or
 place_behind at [] index start end is = cc
@@ -137,7 +137,7 @@ none_cut at all fault cut start low (inl (index, end, is, before, inside)) = let
     omega arith
 none_cut at all fault cut start low (inr (some, is, before)) = let behind = fault_behind at all in omega arith
 
--- no attribute that starts at the cut or behind it ends by it
+-- no attribute that starts at or after the cut is kept
 none_kept : (at cut : ℕ) (all : List Attribute) → cut ≤ at → kept_from at cut all ≡ []
 none_kept at cut [] low = refl
 none_kept at cut (a ∷ more) low =
@@ -145,7 +145,7 @@ none_kept at cut (a ∷ more) low =
     (sym (lt-leb (at + (4 + length a.value)) cut (omega arith)))
     (none_kept (at + padded_size a) cut more (omega arith))
 
--- a cut of attributes is one of the first, or of those behind it
+-- a cut falls in the first attribute, or in those that follow it
 cut_first : (at : ℕ) (a : Attribute) (more : List Attribute) (fault : Option DecodeError) (cut start : ℕ)
     → IsCutFrom at (a ∷ more) fault cut start
     → ((start ≡ at) × (cut < at + (4 + length a.value))) ⊎ IsCutFrom (at + padded_size a) more fault cut start
@@ -170,17 +170,17 @@ only_fault : (at : ℕ) (fault : DecodeError) (cut start : ℕ) → IsCutFrom at
 only_fault at fault cut start (inl (index, end, is, before, inside)) = cc
 only_fault at fault cut start (inr (some, is, before)) = is
 
--- ---- the walk of the cut bytes
+-- ---- the walk of the truncated bytes
 
--- it has the attributes that end by the cut, and a fault exactly where the cut falls inside an
--- attribute or past the start of a fault
+-- it has the attributes that end at or before the cut, and an error if and only if the cut falls
+-- inside an attribute or past the start of an error
 abbrev pub IsLeft : ℕ → List ℕ → List Attribute → Option DecodeError → ℕ → Option DecodeError → Type 0
 IsLeft at bytes all fault cut end =
     Walk (take (cut - at) bytes) (kept_from at cut all) end
     × ((start : ℕ) → IsCutFrom at all fault cut start → end ≡ Some (fault_of (drop (start - at) bytes) (cut - start)))
     × (((start : ℕ) → IsCutFrom at all fault cut start → ⊥) → end ≡ None)
 
--- a cut at the offset or in front of it leaves nothing
+-- a cut at or before the offset leaves nothing
 nothing_left : (at : ℕ) (bytes : List ℕ) (all : List Attribute) (fault : Option DecodeError) (cut : ℕ) → cut ≤ at
     → IsLeft at bytes all fault cut None
 nothing_left at bytes all fault cut same = (
@@ -190,7 +190,7 @@ nothing_left at bytes all fault cut same = (
   λ none. refl,
 )
 
--- a cut of what is at the front leaves a fault
+-- a cut in what comes first leaves an error
 front_left : (at : ℕ) (bytes : List ℕ) (all : List Attribute) (fault : Option DecodeError) (cut : ℕ) → at < cut → cut ≤ at + length bytes
     → kept_from at cut all ≡ []
     → (4 ≤ cut - at → (length_field bytes < 4) ⊎ (cut - at < length_field bytes)) → IsCutFrom at all fault cut at
@@ -206,7 +206,7 @@ front_left at bytes all fault cut past inside none damaged here alone = (
   λ never. absurd (never at here),
 )
 
--- what is kept of attributes whose first ends by the cut, and of others
+-- what is kept of attributes if the first ends at or before the cut, and if it does not
 kept_first : (at cut : ℕ) (a : Attribute) (more : List Attribute) → at + (4 + length a.value) ≤ cut
     → kept_from at cut (a ∷ more) ≡ a ∷ kept_from (at + padded_size a) cut more
 kept_first at cut a more ends =
@@ -219,7 +219,7 @@ not_kept at cut a more inside =
     (lt-leb (at + (4 + length a.value)) cut inside)
     ∙ none_kept (at + padded_size a) cut more (omega arith)
 
--- the first attribute ends by the cut, and what is left of the rest is known
+-- the first attribute ends at or before the cut, and what is left of the rest is known
 behind_left : (at : ℕ) (bytes rest : List ℕ) (a : Attribute) (more : List Attribute) (fault end : Option DecodeError) (cut : ℕ)
     → Starts bytes a rest → at + (4 + length a.value) ≤ cut
     → IsLeft (at + padded_size a) rest more fault cut end → IsLeft at bytes (a ∷ more) fault cut end

@@ -10,7 +10,7 @@ use Rattle.netlink_attributes.specs.Progress.{Passes, passes_walk}
 use Rattle.netlink_attributes.specs.Walk.{Starts, Walk}
 use Rattle.netlink_attributes.specs.WalkLaws.{walk_once}
 
--- one attribute more is of another kind
+-- one more attribute is of another kind
 pub none_push : (part : ℕ → ℕ) (done : List Attribute) (a : Attribute) (kind : ℕ) → HasNone part done kind → part a.kind ≢ kind
     → HasNone part (done ++ (a ∷ [])) kind
 none_push part done a kind none other =
@@ -37,7 +37,7 @@ found_first part bytes done middle a rest kind index passes starts none is size 
     let whole = passes_walk bytes done middle a rest all fault passes starts walk in
     subst (λ (x : List Attribute). IsFirst part x kind index) (sym whole.1) (first_in part done a whole.0 kind index none is size)
 
--- all attributes are passed
+-- all attributes have been passed
 pub none_found : (part : ℕ → ℕ) (bytes : List ℕ) (done : List Attribute) (end : Option DecodeError) (kind : ℕ) → Walk bytes done end
     → HasNone part done kind
     → (all : List Attribute) (fault : Option DecodeError) → Walk bytes all fault → HasNone part all kind

@@ -1,4 +1,4 @@
--- What a block written from a walk says of any walk of the same bytes.
+-- What a block encoded from a walk implies about any walk of the same bytes.
 use Rattle.std.proofs.Common.{◌≡◌, ◌↔◌, ◌⊎◌, ◌+◌, ℕ, List, [], ◌∷◌, ◌++◌, length, take, refl, ap, sym, ◌∙◌, inl, inr, Some, None, Result, Ok, Err, Vec, Global, MatchResult, IfOk, IfErr, arith}
 use Rattle.std.proofs.lemmas.List.{take_at}
 use Rattle.std.specs.Prelude.{replicate}
@@ -13,19 +13,19 @@ use Rattle.netlink_attributes.specs.BlockLaws.{walked_canonical, written_fixed, 
 use Rattle.netlink_attributes.specs.StartLaws.{starts-length_field}
 use Rattle.netlink_attributes.specs.WalkLaws.{walk_once}
 
--- bytes with a walk without fault have none with one
+-- bytes with a walk without an error have no walk with one
 pub no_fault : (bytes : List ℕ) (x y : List Attribute) (fault : DecodeError) → Walk bytes x None → Walk bytes y (Some fault) → ⊥
 no_fault bytes x y fault sound damaged = let same = (walk_once bytes x y None (Some fault) sound damaged).1 in cc
 
 pub same_fault : (bytes : List ℕ) (x y : List Attribute) (f g : DecodeError) → Walk bytes x (Some f) → Walk bytes y (Some g) → f ≡ g
 same_fault bytes x y f g p q = let same = (walk_once bytes x y (Some f) (Some g) p q).1 in cc
 
--- a canonical block has no walk with a fault
+-- a canonical block has no walk with an error
 pub no_canonical_fault : (bytes : List ℕ) (all : List Attribute) (fault : DecodeError)
     → Walk bytes all (Some fault) → IsCanonicalBlock bytes → ⊥
 no_canonical_fault bytes all fault walk canonical = let none = (canonical_walked bytes all (Some fault) canonical walk).0 in cc
 
--- a block was written of a walk, or memory was refused, or there is a fault
+-- the result is the encoding of a walk, or `OutOfMemory`, or the error that ends a walk
 abbrev pub IsAnswer : List ℕ → Result (Vec ℕ Global) DecodeError → Type 0
 IsAnswer bytes result = MatchResult result
     (λ v. (all : List Attribute) × Walk bytes all None × (v.items ≡ canonical_block all))
@@ -48,17 +48,17 @@ answer_writes bytes (Ok v) (x, walk, items) all other = items ∙ ap canonical_b
 answer_writes bytes (Err e) (inl memory) all other = memory
 answer_writes bytes (Err e) (inr (x, walk)) all other = absurd (no_fault bytes all x e other walk)
 
--- a copy of a canonical block is such an answer
+-- a copy of a canonical block is such a result
 pub answer_copied : (bytes : List ℕ) (result : Result (Vec ℕ Global) DecodeError) → IsCanonicalBlock bytes
     → IfOk result (λ v. v.items ≡ bytes) → IfErr result (λ e. e ≡ OutOfMemory) → IsAnswer bytes result
 answer_copied bytes (Ok v) canonical same memory = let walk = canonical_walk bytes canonical in (walk.0, walk.1, same ∙ sym walk.2)
 answer_copied bytes (Err e) canonical same memory = inl memory
 
--- no bytes are a canonical block
+-- the empty list is a canonical block
 pub empty_canonical : (bytes : List ℕ) → bytes ≡ [] → IsCanonicalBlock bytes
 empty_canonical bytes none = ([], none)
 
--- a canonical block is answered by itself
+-- for a canonical block, the result is the block itself
 pub answer_fixed : (bytes : List ℕ) (result : Result (Vec ℕ Global) DecodeError) → IsAnswer bytes result → IsCanonicalBlock bytes
     → MatchResult result (λ v. v.items ≡ bytes) (λ e. e ≡ OutOfMemory)
 answer_fixed bytes (Ok v) (x, walk, items) canonical = items ∙ (canonical_walked bytes x None canonical walk).1
@@ -75,21 +75,21 @@ pub answer_unchanged : (bytes : List ℕ) (result : Result (Vec ℕ Global) Deco
 answer_unchanged bytes (Ok v) (x, walk, items) = rw items (written_fixed bytes x walk)
 answer_unchanged bytes (Err e) answer = tt
 
--- the text of the attribute that bytes start with
+-- the encoding of the attribute that bytes start with
 pub starts-text : (bytes : List ℕ) (a : Attribute) (rest : List ℕ) → Starts bytes a rest
     → take (length_field bytes) bytes ≡ attribute_bytes a
 starts-text bytes a rest starts =
     let size : length (attribute_bytes a) ≡ length_field bytes = length-attribute_bytes a ∙ sym (starts-length_field bytes a rest starts) in
     ap (take (length_field bytes)) starts.whole ∙ take_at (attribute_bytes a) (starts.gap ++ rest) (length_field bytes) size
 
--- a text and the padding of its size are the attribute as it is written
+-- an encoding and the padding for its size are the attribute as it is written
 pub padded-text : (a : Attribute) (text : List ℕ) → text ≡ attribute_bytes a → text ++ replicate (padding (length text)) 0 ≡ padded a
 padded-text a text is =
     let size : length text ≡ 4 + length a.value = ap length is ∙ length-attribute_bytes a in
     let same : padding (length text) ≡ padding (length a.value) = omega arith in
     rw (same, is) refl
 
--- one attribute more is written
+-- one more attribute is written
 pub written_push : (done : List Attribute) (old new bytes storage : List ℕ) (rest : List ℕ) (size : ℕ)
     → Starts bytes (attribute_of bytes) rest → storage ≡ bytes → size ≡ length_field storage
     → old ≡ canonical_block done → new ≡ old ++ (take size storage ++ replicate (padding (length (take size storage))) 0)

@@ -1,4 +1,4 @@
--- What was canonical while an attribute with both flag bits lost one is so still.
+-- What was canonical while an attribute with both flag bits lost one is still canonical.
 use Rattle.std.proofs.Common.{◌≡◌, ℕ, Bool, cond, ◌-◌, ◌<◌, ◌^◌, List, [], ◌∷◌, ◌++◌, refl, ap, sym, ◌∙◌, Option, None}
 use Rattle.std.proofs.lemmas.Bool.{lt-leb}
 use Rattle.netlink_bytes.specs.declared.error.DecodeError.{DecodeError}
@@ -14,11 +14,11 @@ older_block : (bytes : List ℕ) (all : List Attribute) → IsOlderBlockOf bytes
 older_block bytes [] none = none
 older_block bytes (a ∷ more) (rest, fits, one_flag, whole, block) = (rest, fits, whole, older_block rest more block)
 
--- a kind without both flag bits was written as it is
+-- a kind without both flag bits was written unchanged
 older_kind : (kind : ℕ) → kind < both_flags → older_written_kind kind ≡ kind
 older_kind kind one_flag = ap (λ (b : Bool). cond b (kind - 2 ^ 14) kind) (lt-leb both_flags kind one_flag)
 
--- and a block of such kinds as it is written now
+-- and a block of such kinds was encoded as it is now
 older_text : (bytes : List ℕ) (all : List Attribute) → IsOlderBlockOf bytes all → older_canonical_block all ≡ canonical_block all
 older_text bytes [] none = refl
 older_text bytes (a ∷ more) (rest, fits, one_flag, whole, block) =

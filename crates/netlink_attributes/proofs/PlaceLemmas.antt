@@ -1,4 +1,4 @@
--- Where an attribute lies, found by what is left of the bytes.
+-- The location of an attribute, found from what is left of the bytes.
 use Rattle.std.proofs.Common.{◌≡◌, ℕ, zero, suc, ◌+◌, ◌-◌, ◌<◌, ◌≤◌, ◌⊎◌, List, [], ◌∷◌, length, drop, refl, sym, ap, subst, ◌∙◌, inl, inr, arith, Option, Some, None}
 use Rattle.std.specs.Prelude.{slice_get}
 use Rattle.netlink_bytes.specs.declared.error.DecodeError.{DecodeError}
@@ -8,13 +8,13 @@ use Rattle.netlink_attributes.specs.Views.{length_field}
 use Rattle.netlink_attributes.specs.Walk.{Starts, Walk}
 use Rattle.netlink_attributes.specs.StartLaws.{nothing_starts, starts-length_field, starts-rest, starts-length, starts-fault, starts-attribute_of}
 
--- where no attribute starts, none is left
+-- if no attribute starts, none is left
 pub none_left : (rest : List ℕ) (more : List Attribute) (fault : Option DecodeError) (at left : ℕ) → Walk rest more fault
     → ((a : Attribute) (r : List ℕ) → Starts rest a r → ⊥) → slice_get (ends_from at more) left ≡ None
 none_left rest [] fault at left walk never = refl
 none_left rest (a ∷ more) fault at left walk never = absurd (never a walk.0 walk.1)
 
--- the places of what is left do not rest on an offset where nothing is left
+-- if nothing is left, the locations do not depend on the offset
 same_places : (at other : ℕ) (rest : List ℕ) (more : List Attribute) (fault : Option DecodeError) → Walk rest more fault
     → (at ≡ other) ⊎ (rest ≡ []) → ends_from at more ≡ ends_from other more
 same_places at other rest [] fault walk e = refl
@@ -31,7 +31,7 @@ second : (x : ℕ × ℕ) (xs : List (ℕ × ℕ)) (left : ℕ) → 0 < left →
 second x xs zero some = absurd (omega arith)
 second x xs (suc n) some = ap (slice_get xs) (let e : n ≡ suc n - 1 = omega arith in e)
 
--- one attribute on, the same place is sought with one index less
+-- one attribute further on, the same location is sought with an index that is one less
 pub place_step : (whole : ℕ) (rest next : List ℕ) (a : Attribute) (more : List Attribute) (fault : Option DecodeError) (left : ℕ)
     → length rest ≤ whole → Starts rest a next → Walk rest more fault → 0 < left
     → (later : List Attribute) × Walk next later fault
@@ -50,7 +50,7 @@ place_step whole rest next a (b ∷ later) fault left inside starts (then, begin
           ∙ ap (λ (r : List ℕ). ends_from (whole - length r) later) rests),
     )
 
--- and so is a place that is known to be that one
+-- and so is a location that is known to be that one
 pub place_next : (whole : ℕ) (rest next : List ℕ) (a : Attribute) (more : List Attribute) (fault : Option DecodeError) (left : ℕ)
     (sought : Option (ℕ × ℕ)) → length rest ≤ whole → Starts rest a next → Walk rest more fault → 0 < left
     → sought ≡ slice_get (ends_from (whole - length rest) more) left
@@ -59,7 +59,7 @@ place_next whole rest next a more fault left sought inside starts walk some is =
     let step = place_step whole rest next a more fault left inside starts walk some in
     (step.0, step.1, is ∙ step.2)
 
--- the attribute at the front is the one that is sought
+-- the first attribute is the one that is sought
 pub place_here : (at : ℕ) (rest next : List ℕ) (a : Attribute) (more : List Attribute) (fault : Option DecodeError) (left : ℕ)
     → Starts rest a next → Walk rest more fault → left ≡ 0 → slice_get (ends_from at more) left ≡ Some (at, at + length_field rest)
 place_here at rest next a [] None left starts walk first = absurd (nothing_starts rest a next walk starts)
@@ -67,7 +67,7 @@ place_here at rest next a [] (Some fault) left starts walk first = absurd (start
 place_here at rest next a (b ∷ later) fault left starts walk first =
     ap (slice_get (ends_from at (b ∷ later))) first ∙ ap (λ (j : ℕ). Some (at, at + j)) (sym (starts-length_field rest b walk.0 walk.1))
 
--- the place of a value, from what is left and from the length field
+-- the range of a value, from what is left and from the length field
 pub same_place : (whole : ℕ) (n m : List ℕ) (size field : ℕ) → n ≡ m → size ≡ field
     → ◌≡◌ {A = Option (ℕ × ℕ)} (Some (whole - length n + 4, whole - length n + size))
     (Some (whole - length m + 4, whole - length m + field))

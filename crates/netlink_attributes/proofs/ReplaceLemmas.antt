@@ -1,4 +1,4 @@
--- A value replaced by one of its size.
+-- A value replaced by one of the same size.
 use Rattle.std.proofs.Common.{◌≡◌, ◌≢◌, ◌⊎◌, ℕ, zero, suc, ◌+◌, ◌<◌, List, [], ◌∷◌, ◌++◌, length, take, drop, refl, ap, sym, subst, ◌∙◌, inl, inr, arith, Option, Some, None, append_assoc, length-append}
 use Rattle.std.proofs.Math.Seq.{take-append-add, drop-append-add}
 use Rattle.std.proofs.lemmas.List.{drop_at}
@@ -14,7 +14,7 @@ use Rattle.netlink_attributes.specs.Places.{ends_from, ends_of, value_part, valu
 use Rattle.netlink_attributes.specs.Walk.{Starts, Walk}
 use Rattle.netlink_attributes.specs.StartLaws.{nothing_starts}
 
--- what is put behind a front
+-- bytes written after a front
 put_behind : (front rest text : List ℕ) (at n : ℕ) → at ≡ length front + n → put_at (front ++ rest) at text ≡ front ++ put_at rest n text
 put_behind front rest text at n far =
     let end : at + length text ≡ length front + (n + length text) = omega arith in
@@ -24,7 +24,7 @@ put_behind front rest text at n far =
     ∙ ap (λ (x : List ℕ). (front ++ take n rest) ++ (text ++ x)) (drop-append-add front rest (n + length text))
     ∙ append_assoc front (take n rest) (text ++ drop (n + length text) rest)
 
--- what is put in front, in place of as many bytes
+-- bytes written at the start, over the same number of bytes
 put_front : (old rest text : List ℕ) → length text ≡ length old → put_at (old ++ rest) 0 text ≡ text ++ rest
 put_front old rest text same = ap (λ (x : List ℕ). text ++ x) (drop_at old rest (0 + length text) (omega (arith, same)))
 
@@ -40,7 +40,7 @@ attribute_bytes-append a rest =
     let grouped : (x y v r : List ℕ) → (x ++ (y ++ v)) ++ r ≡ (x ++ y) ++ (v ++ r) = λ x y v r. simp append_assoc in
     grouped (bytes_le (4 + length a.value) 2) (bytes_le a.kind 2) a.value rest
 
--- the value at the front replaced
+-- the value of the first attribute, replaced
 first_replaced : (bytes : List ℕ) (a : Attribute) (rest value : List ℕ) → Starts bytes a rest → length value ≡ length a.value
     → Starts (put_at bytes 4 value) (record { kind = a.kind; value = value }) rest
 first_replaced bytes a rest value starts same =
@@ -58,7 +58,7 @@ first_replaced bytes a rest value starts same =
           subst (λ (n : ℕ). (length starts.gap ≡ padding n) ⊎ ((length starts.gap < padding n) × (rest ≡ []))) (sym same) starts.gap_size;
     }
 
--- where an attribute has a place, something is left
+-- if an attribute has a location, something is left
 some_left : (at : ℕ) (rest : List ℕ) (more : List Attribute) (fault : Option DecodeError) (index : ℕ) (place : ℕ × ℕ) → Walk rest more fault
     → slice_get (ends_from at more) index ≡ Some place → rest ≢ []
 some_left at rest [] fault index place walk is = absurd (let never : None ≡ Some place = is in cc)
@@ -102,7 +102,7 @@ replaced_from at bytes (a ∷ more) fault (suc index) value place (rest, starts,
       ),
     )
 
--- from a fact of a value's place to another, where the place is known
+-- from one fact about a value's range to another, if the range is known
 on_place : (o : Option (ℕ × ℕ)) (P Q : ℕ × ℕ → Type 0) → ((place : ℕ × ℕ) → o ≡ Some place → P (value_part place) → Q (value_part place))
     → IsSomeAnd (option_map value_part o) P → IsSomeAnd (option_map value_part o) Q
 on_place None P Q then given = given
@@ -119,7 +119,7 @@ walk_replaced bytes index value all fault walk has =
     let far : found.0 ≡ place.0 = omega (arith, found.1) in
     subst (λ (k : ℕ). Walk (put_at bytes (k + 4) value) (replaced all index value) fault) far found.2) has
 
--- there is an attribute with this index, and its value has this size, in each walk
+-- in each walk, there is an attribute with this index, and its value has this size
 abbrev pub IsSized : List ℕ → ℕ → ℕ → Type 0
 IsSized bytes index size = (all : List Attribute) (fault : Option DecodeError) → Walk bytes all fault → HasValueOf all index size
 
@@ -128,7 +128,7 @@ pub value_replaced : (bytes : List ℕ) (index : ℕ) (value : List ℕ) → IsS
     → IsSomeAnd (value_place all index) (λ place. Walk (put_at bytes place.0 value) (replaced all index value) fault)
 value_replaced bytes index value sized all fault walk = walk_replaced bytes index value all fault walk (sized all fault walk)
 
--- what is said of the text at a place holds of what is that text
+-- what holds for the bytes at a range holds for bytes that are equal to them
 at_place : (o : Option (ℕ × ℕ)) (new : List ℕ) (text : ℕ × ℕ → List ℕ) (P : List ℕ → Type 0) → IsSomeAnd o (λ place. new ≡ text place)
     → IsSomeAnd o (λ place. P (text place)) → P new
 at_place None new text P is holds = absurd holds

@@ -1,4 +1,4 @@
--- Whether attributes fit a message, one after another.
+-- Whether attributes fit in a message, one after another.
 use Rattle.std.proofs.Common.{◌≡◌, ℕ, ◌+◌, ◌<◌, ◌≤◌, ◌^◌, List, [], ◌∷◌, ◌++◌, length, drop, refl, suc, ap, sym, subst, ◌∙◌, arith, All, length-append}
 use Rattle.std.specs.List.{AllWithin}
 use Rattle.std.proofs.lemmas.List.{drop_all}
@@ -11,14 +11,14 @@ use Rattle.netlink_attributes.specs.Nla.{attribute_with, attributes_of, block_ma
 abbrev pub of : {T : Type 0} → (T → ℕ) → (T → List ℕ) → T → Attribute
 of kind_of value_of nla = attribute_with (kind_of nla) (value_of nla)
 
--- so far each fits, in so many bytes
+-- so far each fits, and they have `size` bytes
 pub record FitSoFar {T : Type 0} (kind_of : T → ℕ) (value_of : T → List ℕ) (list : List T) (index size : ℕ) : Type 0 where
   pub each : AllWithin (λ nla. FitsAttribute (of kind_of value_of nla)) list 0 index
   pub counted : size + length (canonical_block (attributes_of kind_of value_of (drop index list)))
       ≡ length (canonical_block (attributes_of kind_of value_of list))
   pub whole : size ≤ block_max
 
--- the block of all but the rest has this size
+-- at the end of the list, that is the size of the block
 pub all_counted : {T : Type 0} (kind_of : T → ℕ) (value_of : T → List ℕ) (list : List T) (index size : ℕ) → length list ≤ index
     → size + length (canonical_block (attributes_of kind_of value_of (drop index list)))
     ≡ length (canonical_block (attributes_of kind_of value_of list))
@@ -47,7 +47,7 @@ attributes-push kind_of value_of [] nla = refl
 attributes-push kind_of value_of (first ∷ list) nla =
     ap (λ (x : List Attribute). of kind_of value_of first ∷ x) (attributes-push kind_of value_of list nla)
 
--- the size of a block with one attribute more
+-- the size of a block with one more attribute
 pub length-push : {T : Type 0} (kind_of : T → ℕ) (value_of : T → List ℕ) (list : List T) (nla : T)
     → length (canonical_block (attributes_of kind_of value_of (list ++ (nla ∷ []))))
     ≡ length (canonical_block (attributes_of kind_of value_of list)) + length (padded (of kind_of value_of nla))
@@ -56,7 +56,7 @@ length-push kind_of value_of list nla =
     ∙ ap length (block_push (attributes_of kind_of value_of list) (of kind_of value_of nla))
     ∙ length-append (canonical_block (attributes_of kind_of value_of list)) (padded (of kind_of value_of nla))
 
--- what holds of the attributes of a list and of one more
+-- what holds for the attributes of a list and for one more
 pub each_push : {T : Type 0} (kind_of : T → ℕ) (value_of : T → List ℕ) (list : List T) (nla : T)
     → All FitsAttribute (attributes_of kind_of value_of list)
     → kind_of nla < 2 ^ 16 → length (value_of nla) ≤ value_max → All FitsAttribute (attributes_of kind_of value_of (list ++ (nla ∷ [])))

@@ -1,4 +1,4 @@
--- What a range that was found says of the value there.
+-- What a range that was found implies about the value there.
 use Rattle.std.proofs.Common.{◌≡◌, ◌↔◌, ℕ, suc, ◌+◌, ◌<◌, ◌≤◌, List, [], ◌∷◌, length, Option, Some, None, refl, ap, sym, subst, ◌∙◌, inl, inr, arith, MutBor}
 use Rattle.std.proofs.lemmas.Bool.{le-leb, lt-leb}
 use Rattle.std.proofs.lemmas.Option.{none-some, slice_get_past, slice_get_cases}
@@ -10,14 +10,14 @@ use Rattle.netlink_attributes.specs.Attribute.{Attribute, padded_size}
 use Rattle.netlink_attributes.specs.Places.{ends_from, ends_of, value_part, value_place, IsPlace, IsRange, IsValue, IsWritten}
 use Rattle.netlink_attributes.specs.Walk.{Walk}
 
--- the place that a range tells
+-- the location that a range gives
 range_place : (bytes : List ℕ) (index start end : ℕ) → IsRange bytes index start end → start ≤ end → IsPlace bytes index (Some (start, end))
 range_place bytes index start end range order = let test = le-leb start end order in λ all fault walk. rw test at range all fault walk
 
 range_no_place : (bytes : List ℕ) (index start end : ℕ) → IsRange bytes index start end → end < start → IsPlace bytes index None
 range_no_place bytes index start end range falls = let test = lt-leb start end falls in λ all fault walk. rw test at range all fault walk
 
--- ---- there is a place exactly for an index of the list
+-- ---- there is a location if and only if the list has the index
 
 length-ends_from : (at : ℕ) (all : List Attribute) → length (ends_from at all) ≡ length all
 length-ends_from at [] = refl
@@ -32,7 +32,7 @@ past_place all index none = elim (slice_get_cases (ends_of all) index).1 [
   | inr past ↦ omega (arith, past.0, length-ends_from 0 all)
 ]
 
--- ---- what the clauses say at a range
+-- ---- what the clauses state about a range
 
 -- there is no such attribute
 pub no_value : (bytes : List ℕ) (index start end : ℕ) → IsRange bytes index start end → end < start
@@ -48,14 +48,14 @@ some_value bytes index start end value range order all fault walk = (
   λ past. absurd (none-some _ (sym (place_past all index past) ∙ sym (range_place bytes index start end range order all fault walk))),
 )
 
--- what lies there is its value
+-- the bytes there are its value
 pub value_held : (bytes : List ℕ) (index start end : ℕ) → IsRange bytes index start end → start ≤ end
     → IsValue bytes index (slice_range bytes start end)
 value_held bytes index start end range order = λ all fault walk.
     subst (λ (o : Option (ℕ × ℕ)). IsSomeAnd o (λ place. slice_range bytes start end ≡ slice_range bytes place.0 place.1))
     (range_place bytes index start end range order all fault walk) refl
 
--- and what is put there is written as its value
+-- and bytes written there are written as its value
 pub value_written : (bytes : List ℕ) (index start end : ℕ) → IsRange bytes index start end → start ≤ end → (value : List ℕ)
     → IsWritten bytes index value (put_at bytes start value)
 value_written bytes index start end range order value = λ all fault walk.

@@ -1,4 +1,4 @@
--- Calls of `next` give the walk.
+-- Calls of `next` yield the walk.
 use Rattle.std.proofs.Common.{◌≡◌, ℕ, List, [], refl, ap, arith, Option, Some, None, Ok, Err, Bor}
 use Rattle.netlink_bytes.specs.Numbers.{IsBytes}
 use Rattle.netlink_bytes.specs.WalkItems.{ItemLaws, gives_all}
@@ -9,7 +9,7 @@ use Rattle.netlink_attributes.specs.Walk.{Starts, IsFault, Item, Gives, ShowsAtt
 use Rattle.netlink_attributes.specs.WalkLaws.{attribute_steps, has_walk}
 use Rattle.netlink_attributes.specs.declared.iterator.NlasIterator.{NlasIterator}
 
--- a walk has an item for each 4 bytes at most, a part of 4 counted as a whole
+-- a walk has at most one item for each 4 bytes, counting a part of 4 as a whole
 item_laws : ItemLaws Starts IsFault ShowsAttribute unread steps item_bound
 item_laws =
     record {
@@ -24,7 +24,7 @@ pub gives_walk : (s : NlasIterator (Bor (List ℕ))) → IsBytes (unread s) → 
 gives_walk s each =
     gives_all Starts IsFault ShowsAttribute unread steps item_bound attribute_steps item_laws s (has_walk (unread s) each)
 
--- where nothing is unread, `next` gives `None`, and nothing is unread
+-- if nothing is unread, `next` returns `None`, and nothing is unread after it
 pub nothing_given : (item : Option Item) (rest : List ℕ) → Gives [] item rest → (item ≡ None) × (rest ≡ [])
 nothing_given None rest (none, end) = (refl, end)
 nothing_given (Some (Ok view)) rest (shows, holds, starts) = absurd (nothing_starts _ _ _ refl starts)

@@ -1,4 +1,4 @@
--- The sizes and the pieces of what is written.
+-- The sizes and the parts of what is written.
 use Rattle.std.proofs.Common.{◌≡◌, ℕ, ◌+◌, ◌-◌, ◌<◌, ◌^◌, List, [], ◌++◌, length, get_or, take, drop, ap, sym, ◌∙◌, arith, All, None, append_assoc, append-nil, length-append, length-drop}
 use Rattle.std.proofs.lemmas.List.{drop-drop, drop_more, drop_all, take_all, take_rest, take_at, drop_at, length-replicate}
 use borrow.Rule.Slice.PartMut.{put_mid}
@@ -12,7 +12,7 @@ use Rattle.netlink_attributes.specs.Walk.{Walk}
 use Rattle.netlink_attributes.specs.BlockLaws.{written_walks}
 use Rattle.netlink_attributes.specs.Sizes.{length-written}
 
--- the pieces of an attribute, and the rest of the buffer
+-- the parts of an attribute, and the rest of the buffer
 pub pieces : (kind size missing : ℕ) (value buffer header written zeros behind more rest : List ℕ)
     → size ≡ length value + 4 → missing ≡ padding (length value)
     → header ≡ bytes_le size 2 ++ bytes_le kind 2 → written ≡ value → zeros ≡ replicate missing 0
@@ -44,7 +44,7 @@ block-cons {T} kind_of value_of nlas i nla inside is =
     ∙ ap (λ (x : T). padded (attribute_with (kind_of x) (value_of x))
     ++ canonical_block (attributes_of kind_of value_of (drop (i + 1) nlas))) (sym is)
 
--- the size of what is left of a list is that of an attribute and of what is left then
+-- the size of what is left of a list is that of its first attribute plus that of the others
 pub length-cons : {T : Type 0} (kind_of : T → ℕ) (value_of : T → List ℕ) (nlas : List T) (i : ℕ) (nla : T) → i < length nlas
     → nla ≡ get_or nlas i nla
     → length (canonical_block (attributes_of kind_of value_of (drop i nlas)))
@@ -55,7 +55,7 @@ length-cons kind_of value_of nlas i nla inside is =
     ∙ length-append (padded (attribute_with (kind_of nla) (value_of nla)))
     (canonical_block (attributes_of kind_of value_of (drop (i + 1) nlas)))
 
--- a text is written behind the front of a buffer, up to its end
+-- an encoding is written after the front of a buffer, and the rest is unchanged
 pub put_behind : (at n : ℕ) (front first buffer text new : List ℕ) → at ≡ length front → buffer ≡ front ++ drop at first → n ≡ length text
     → new ≡ text ++ drop (length text) (take (length buffer - at) (drop at buffer))
     → put_mid at (length buffer - at) buffer new ≡ (front ++ text) ++ drop (at + n) first
@@ -74,7 +74,7 @@ put_behind at n front first buffer text new start is size written =
     ∙ ap (λ (x : List ℕ). front ++ (x ++ [])) part
     ∙ grouped front text (drop (at + n) first)
 
--- a text is written in the room that was made for it behind the items of a vector
+-- an encoding is written in the room that was made for it after the items of a vector
 pub put_last : (old whole text new : List ℕ) (at n size : ℕ) → at ≡ size → size ≡ length old → n ≡ length text
     → whole ≡ take (at + n) old ++ replicate (at + n - size) 0
     → new ≡ text ++ drop (length text) (take (length whole - at) (drop at whole)) → put_mid at (length whole - at) whole new ≡ old ++ text
@@ -90,11 +90,11 @@ put_last old whole text new at n size start counted long grown written =
     ∙ ap (λ (x : List ℕ). (old ++ text) ++ x) (drop_all (at + n) whole (omega (arith, total, room, start, counted)))
     ∙ append-nil (old ++ text)
 
--- a list is written up to one attribute more
+-- a list is written up to one more attribute
 pub moved_on : (front text whole block rest : List ℕ) → front ++ block ≡ whole → block ≡ text ++ rest → (front ++ text) ++ rest ≡ whole
 moved_on front text whole block rest before next = append_assoc front text rest ∙ ap (λ (x : List ℕ). front ++ x) (sym next) ∙ before
 
--- what is written of values walks as their attributes
+-- walking the encoding of values yields their attributes
 pub list_walks : {T : Type 0} (kind_of : T → ℕ) (value_of : T → List ℕ) (nlas : List T) → All (λ nla. kind_of nla < 2 ^ 16) nlas
     → AllFit value_of nlas
     → Walk (canonical_block (attributes_of kind_of value_of nlas)) (attributes_of kind_of value_of nlas) None

@@ -1,14 +1,13 @@
--- Blocks of attributes: the one that is written of a list, and a grammar of its own for what is
--- canonical.
+-- Blocks of attributes: the one that encodes a list, and a separate grammar for what is canonical.
 use Rattle.std.specs.Prelude.{ℕ, ◌≡◌, List, [], ◌∷◌, ◌++◌, length, replicate}
 use Rattle.netlink_attributes.specs.Attribute.{Attribute, FitsAttribute, attribute_bytes, padded, padding}
 
--- the attributes as they are written, one after another, each with its kind as it is
+-- the attributes as they are written, one after another, each with its kind unchanged
 abbrev pub canonical_block : List Attribute → List ℕ
 canonical_block [] = []
 canonical_block (a ∷ more) = padded a ++ canonical_block more
 
--- the bytes are these attributes, each with the whole of its padding, of zeros
+-- the bytes are these attributes, each with all of its padding, as zeros
 abbrev pub IsBlockOf : List ℕ → List Attribute → Type 0
 IsBlockOf bytes [] = bytes ≡ []
 IsBlockOf bytes (a ∷ more) =

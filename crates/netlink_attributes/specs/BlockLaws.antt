@@ -1,4 +1,4 @@
--- What is written of a list, and what is canonical.
+-- Facts about the encoding of a list, and about canonical blocks.
 use Rattle.std.proofs.Common.{◌≡◌, ◌↔◌, ℕ, suc, List, [], ◌∷◌, ◌++◌, length, refl, ap, sym, subst, ◌∙◌, inl, arith, Option, None, All, append_assoc, append-nil}
 use Rattle.std.proofs.lemmas.List.{length-replicate}
 use Rattle.std.specs.Prelude.{replicate}
@@ -11,7 +11,7 @@ use Rattle.netlink_attributes.specs.FieldLaws.{attribute_of-text}
 use Rattle.netlink_attributes.specs.StartLaws.{starts-length_field, starts-length}
 use Rattle.netlink_attributes.specs.WalkLaws.{walk_once}
 
--- bytes that are a padded attribute and the rest start with it
+-- bytes that are a padded attribute and then a rest start with the attribute
 starts_padded : (bytes : List ℕ) (a : Attribute) (rest : List ℕ) → FitsAttribute a
     → bytes ≡ attribute_bytes a ++ (replicate (padding (length a.value)) 0 ++ rest)
     → Starts bytes a rest
@@ -34,7 +34,7 @@ attribute_of-padded a rest fits =
     ap attribute_of (padded-append a rest)
     ∙ attribute_of-text a (replicate (padding (length a.value)) 0 ++ rest) fits
 
--- and holds the attribute
+-- and they hold the attribute
 pub holds_padded : (a : Attribute) (rest : List ℕ) → FitsAttribute a
     → HoldsAttribute (padded a ++ rest)
 holds_padded a rest fits =
@@ -48,14 +48,14 @@ holds_padded a rest fits =
           (arith, field, size);
     }
 
--- a block of attributes walks as them
+-- walking a block of attributes yields them
 pub block_walks : (bytes : List ℕ) (all : List Attribute) → IsBlockOf bytes all
     → Walk bytes all None
 block_walks bytes [] none = none
 block_walks bytes (a ∷ more) (rest, fits, whole, block) =
     (rest, starts_padded bytes a rest fits whole, block_walks rest more block)
 
--- and is what is written of them
+-- and the block is their encoding
 pub block_bytes : (bytes : List ℕ) (all : List Attribute) → IsBlockOf bytes all
     → bytes ≡ canonical_block all
 block_bytes bytes [] none = none
@@ -63,7 +63,7 @@ block_bytes bytes (a ∷ more) (rest, fits, whole, block) =
     whole ∙ sym (padded-append a rest)
     ∙ ap (λ (x : List ℕ). padded a ++ x) (block_bytes rest more block)
 
--- what is written of attributes that fit is a block of them
+-- the encoding of attributes that fit is a block of them
 pub written_block : (all : List Attribute) → All FitsAttribute all
     → IsBlockOf (canonical_block all) all
 written_block [] each = refl
@@ -78,7 +78,7 @@ pub written_walks : (all : List Attribute) → All FitsAttribute all
     → Walk (canonical_block all) all None
 written_walks all each = block_walks (canonical_block all) all (written_block all each)
 
--- what is written of a walk without fault is a block of its attributes
+-- the encoding of a walk without an error is a block of its attributes
 pub walked_block : (bytes : List ℕ) (all : List Attribute) → Walk bytes all None
     → IsBlockOf (canonical_block all) all
 walked_block bytes [] none = refl
@@ -94,7 +94,7 @@ pub walked_canonical : (bytes : List ℕ) (all : List Attribute) → Walk bytes 
     → IsCanonicalBlock (canonical_block all)
 walked_canonical bytes all walk = (all, walked_block bytes all walk)
 
--- and is the bytes themselves exactly if they are canonical
+-- and it is the bytes themselves if and only if they are canonical
 pub written_fixed : (bytes : List ℕ) (all : List Attribute) → Walk bytes all None
     → (canonical_block all ≡ bytes) ↔ IsCanonicalBlock bytes
 written_fixed bytes all walk = (
@@ -127,7 +127,7 @@ block_joined bytes (a ∷ block) more after fault (rest, fits, whole, is) later 
           block more after fault is later,
     )
 
--- behind a block of attributes any bytes walk as they do alone
+-- bytes after a block of attributes are walked as they are alone
 pub walk_joined : (bytes : List ℕ) (block all more : List Attribute) (after : List ℕ)
     (end fault : Option DecodeError)
     → IsBlockOf bytes block → Walk bytes all end → Walk after more fault
@@ -137,7 +137,7 @@ walk_joined bytes block all more after end fault is walk later =
     subst (λ (x : List Attribute). Walk (bytes ++ after) (x ++ more) fault) same
     (block_joined bytes block more after fault is later)
 
--- a canonical block walks without fault, and what is written of its walk is the block
+-- a canonical block is walked without an error, and encoding its walk gives the block
 pub canonical_walk : (bytes : List ℕ) → IsCanonicalBlock bytes
     → (all : List Attribute) × Walk bytes all None × (canonical_block all ≡ bytes)
 canonical_walk bytes (all, block) =
@@ -150,7 +150,7 @@ canonical_walked bytes all fault (block, is) walk =
     let same = walk_once bytes all block fault None walk (block_walks bytes block is) in
     (same.1, ap canonical_block same.0 ∙ sym (block_bytes bytes block is))
 
--- blocks are written alike exactly of the same attributes
+-- two blocks have the same encoding if and only if they have the same attributes
 pub written_alike : (a b : List ℕ) (x y : List Attribute) → Walk a x None → Walk b y None
     → (canonical_block x ≡ canonical_block y) ↔ (x ≡ y)
 written_alike a b x y walk other = (

@@ -1,5 +1,5 @@
--- The fields of an attribute's bytes: by item, in a text, and as the text of what the bytes begin
--- with.
+-- The fields of an attribute's bytes: by item, in an encoding, and as the encoding of what the
+-- bytes begin with.
 use Rattle.std.proofs.Common.{◌≡◌, ℕ, ◌+◌, ◌-◌, ◌*◌, ◌<◌, ◌≤◌, ◌^◌, List, [], ◌∷◌, ◌++◌, length, get_or, take, drop, refl, ap, sym, ◌∙◌, arith, append_assoc, length-drop}
 use Rattle.std.proofs.lemmas.List.{take-append-drop, length-take, take_at, drop-drop}
 use Rattle.netlink_bytes.specs.Numbers.{IsBytes, number_le, bytes_le}
@@ -25,10 +25,10 @@ raw_kind-items (a ∷ b ∷ []) long = absurd (omega arith)
 raw_kind-items (a ∷ b ∷ c ∷ []) long = absurd (omega arith)
 raw_kind-items (a ∷ b ∷ c ∷ d ∷ more) long = omega arith
 
--- what a proof of a reader needs
+-- what a proof about a reader needs
 pub ruleset by_item = (length_field-items, raw_kind-items)
 
--- ---- in a text
+-- ---- in an encoding
 
 pub length_field-text : (a : Attribute) (more : List ℕ) → FitsAttribute a
     → length_field (attribute_bytes a ++ more) ≡ 4 + length a.value
@@ -49,7 +49,7 @@ drop-text a more = refl
 pub same_attribute : (a b : Attribute) → a.kind ≡ b.kind → a.value ≡ b.value → a ≡ b
 same_attribute a b p q = λ i. record { kind = p i; value = q i }
 
--- an attribute reads back from its text, whatever follows
+-- an attribute reads back from its encoding, whatever follows
 pub attribute_of-text : (a : Attribute) (more : List ℕ) → FitsAttribute a
     → attribute_of (attribute_bytes a ++ more) ≡ a
 attribute_of-text a more fits =
@@ -61,7 +61,7 @@ attribute_of-text a more fits =
     ∙ ap (take (length a.value)) (drop-text a more)
     ∙ take_at a.value more (length a.value) refl)
 
--- ---- of bytes
+-- ---- in bytes
 
 after_two : (bytes : List ℕ) → 4 ≤ length bytes → 2 ≤ length (drop 2 bytes)
 after_two bytes long = omega (arith, length-drop 2 bytes)
@@ -74,7 +74,7 @@ pub length_field-fits : (bytes : List ℕ) → IsBytes bytes → 4 ≤ length by
     → length_field bytes < 2 ^ 16
 length_field-fits bytes each long = front-fits 2 bytes each (omega (arith, long))
 
--- a list from one place on is a part and the rest
+-- a list from an offset is a part and the rest
 pub part_and_rest : (start end : ℕ) (bytes : List ℕ) → start ≤ end
     → drop start bytes ≡ take (end - start) (drop start bytes) ++ drop end bytes
 part_and_rest start end bytes order =
@@ -97,7 +97,7 @@ length-value bytes most =
     let left = length-drop 4 bytes in
     omega arith
 
--- bytes that hold an attribute are its text, and what follows
+-- bytes that hold an attribute are its encoding and what follows
 pub text-attribute_of : (bytes : List ℕ) → IsBytes bytes → 4 ≤ length bytes → 4 ≤ length_field bytes
     → length_field bytes ≤ length bytes
     → bytes ≡ attribute_bytes (attribute_of bytes) ++ drop (length_field bytes) bytes

@@ -3,11 +3,11 @@ use Rattle.std.specs.Prelude.{ℕ, ◌≡◌, ◌≢◌, Bool, List, All, IsSome
 use Rattle.netlink_attributes.specs.Attribute.{Attribute}
 use Rattle.netlink_attributes.specs.Views.{masked}
 
--- no attribute is of this kind, by what is looked at of a kind
+-- no attribute is of this kind, comparing kinds by `part`
 abbrev pub HasNone : (ℕ → ℕ) → List Attribute → ℕ → Type 0
 HasNone part all kind = All (λ a. part a.kind ≢ kind) all
 
--- the attribute with this index is of this kind, and none in front of it is
+-- the attribute with this index is of this kind, and none before it is
 abbrev pub IsFirst : (ℕ → ℕ) → List Attribute → ℕ → ℕ → Type 0
 IsFirst part all kind index =
     IsSomeAnd (slice_get all index) (λ a. part a.kind ≡ kind) × HasNone part (take index all) kind

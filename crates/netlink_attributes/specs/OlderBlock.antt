@@ -1,14 +1,14 @@
--- What was written, and what was canonical, while an attribute with both flag bits lost the one for
--- byte order.
+-- How attributes were encoded, and what was canonical, while an attribute with both flag bits lost
+-- the one for byte order.
 use Rattle.std.specs.Prelude.{ℕ, ◌≡◌, ◌+◌, ◌-◌, ◌<◌, ◌^◌, List, [], ◌∷◌, ◌++◌, length, replicate, if◌then◌else◌, nat_le}
 use Rattle.netlink_attributes.specs.Attribute.{Attribute, FitsAttribute, attribute_bytes, padded, padding}
 use Rattle.netlink_attributes.specs.Nla.{attribute_with}
 
--- a kind has both flag bits exactly from 0xc000 on
+-- a kind has both flag bits if and only if it is at least 0xc000
 abbrev pub both_flags : ℕ
 both_flags = 2 ^ 15 + 2 ^ 14
 
--- the kind without the bit for byte order where both flag bits stand
+-- the kind, without the bit for byte order if it has both flag bits
 abbrev pub older_written_kind : ℕ → ℕ
 older_written_kind kind = if nat_le both_flags kind then kind - 2 ^ 14 else kind
 
@@ -17,8 +17,7 @@ older_canonical_block [] = []
 older_canonical_block (a ∷ more) =
     padded (attribute_with (older_written_kind a.kind) a.value) ++ older_canonical_block more
 
--- the bytes are these attributes, none with both flag bits, each with the whole of its padding, of
--- zeros
+-- the bytes are these attributes, none with both flag bits, each with all of its padding, as zeros
 abbrev pub IsOlderBlockOf : List ℕ → List Attribute → Type 0
 IsOlderBlockOf bytes [] = bytes ≡ []
 IsOlderBlockOf bytes (a ∷ more) =

@@ -8,21 +8,21 @@ use Rattle.netlink_attributes.specs.StartLaws.{starts_bytes}
 use Rattle.netlink_attributes.specs.Walk.{Starts, Walk, IsFault}
 use Rattle.netlink_attributes.specs.WalkLaws.{attribute_steps}
 
--- the bytes are these attributes one after another, and then the rest
+-- walking the bytes yields these attributes, and the rest is still to be walked
 abbrev pub Passes : List ℕ → List Attribute → List ℕ → Type 0
 Passes = Passed Starts
 
--- at the start none is passed
+-- at the start none has been passed
 pub passes_none : (bytes rest : List ℕ) → rest ≡ bytes → Passes bytes [] rest
 passes_none = passed_none Starts
 
--- a turn passes one more
+-- each turn passes one more
 pub passes_push : (bytes : List ℕ) (done : List Attribute) (middle : List ℕ) (a : Attribute)
     (rest : List ℕ)
     → Passes bytes done middle → Starts middle a rest → Passes bytes (done ++ (a ∷ [])) rest
 passes_push = passed_push Starts
 
--- the end, and a fault
+-- a loop that reached the end has the whole walk, and so does one that reached an error
 pub passes_ends : (bytes : List ℕ) (done : List Attribute) (rest : List ℕ) → Passes bytes done rest
     → rest ≡ [] → Walk bytes done None
 passes_ends = passed_ends Starts IsFault
@@ -31,27 +31,27 @@ pub passes_faults : (bytes : List ℕ) (done : List Attribute) (rest : List ℕ)
     → Passes bytes done rest → rest ≢ [] → IsFault rest fault → Walk bytes done (Some fault)
 passes_faults = passed_faults Starts IsFault
 
--- what the rest walks as is what the bytes walk as behind these attributes
+-- the walk of the bytes is these attributes and then the walk of the rest
 pub passes_walks : (bytes : List ℕ) (done : List Attribute) (rest : List ℕ) (more : List Attribute)
     (fault : Option DecodeError)
     → Passes bytes done rest → Walk rest more fault → Walk bytes (done ++ more) fault
 passes_walks = passed_walks Starts IsFault
 
--- and these attributes are the front of any walk of the bytes
+-- and these attributes come first in any walk of the bytes
 pub passes_rest : (bytes : List ℕ) (done : List Attribute) (rest : List ℕ) (all : List Attribute)
     (fault : Option DecodeError)
     → Passes bytes done rest → Walk bytes all fault
     → (more : List Attribute) × (all ≡ done ++ more) × Walk rest more fault
 passes_rest = passed_rest attribute_steps
 
--- the walk of bytes that were passed up to an attribute has this attribute next
+-- an attribute that the rest starts with comes next in the walk of the bytes
 pub passes_walk : (bytes : List ℕ) (done : List Attribute) (middle : List ℕ) (a : Attribute)
     (rest : List ℕ) (all : List Attribute) (fault : Option DecodeError)
     → Passes bytes done middle → Starts middle a rest → Walk bytes all fault
     → (more : List Attribute) × (all ≡ done ++ (a ∷ more))
 passes_walk = passed_next attribute_steps
 
--- the rest of bytes is bytes
+-- the rest of a list of bytes is a list of bytes
 pub passes_bytes : (bytes : List ℕ) (done : List Attribute) (rest : List ℕ) → Passes bytes done rest
     → IsBytes bytes → IsBytes rest
 passes_bytes = passed_keeps Starts IsBytes starts_bytes

@@ -1,5 +1,5 @@
--- The function that reads a block gives the attributes of its walk, exactly where that has no
--- fault.
+-- The function that reads a block returns the attributes of its walk, if and only if the walk has
+-- no error.
 use Rattle.std.proofs.Common.{◌≡◌, ◌↔◌, ℕ, zero, suc, ◌<◌, ◌≤◌, ◌^◌, Bool, true, false, List, [], ◌∷◌, length, drop, Option, Some, None, All, refl, ap, sym, subst, ◌∙◌, arith}
 use Rattle.std.proofs.lemmas.Bool.{and_parts, and_from, and_left, and_right, lt-ltb, le-leb, lt-leb, ltb-true, leb-true}
 use Rattle.std.proofs.lemmas.List.Elements.{All-nil, All-cons}
@@ -18,7 +18,7 @@ use Rattle.netlink_attributes.specs.Views.{attribute_of, length_field, raw_kind}
 use Rattle.netlink_attributes.specs.Walk.{Starts, Walk, IsFault}
 use Rattle.netlink_attributes.specs.WalkLaws.{has_walk}
 
--- ---- by so many attributes at most
+-- ---- up to a number of attributes
 
 starts-whole : (bytes : List ℕ) (a : Attribute) (rest : List ℕ) → Starts bytes a rest
     → starts_whole bytes ≡ true
@@ -37,7 +37,7 @@ starts-whole bytes a rest starts =
     and_from _ _ (le-leb _ _ header) (and_from _ _ (le-leb _ _ least)
     (and_from _ _ (le-leb _ _ most) (and_from _ _ (lt-ltb _ _ length_fits) (lt-ltb _ _ kind_fits))))
 
--- the rest stands behind the attribute that the bytes begin with
+-- the rest follows the attribute that the bytes begin with
 behind-attribute_of : (bytes : List ℕ) (a : Attribute) (rest : List ℕ) → Starts bytes a rest
     → drop (padded_size (attribute_of bytes)) bytes ≡ rest
 behind-attribute_of bytes a rest starts =
@@ -52,7 +52,7 @@ fault-whole bytes (NlaLengthMismatch size said) is =
 fault-whole bytes (NlaInvalidLength least said) is = and_right _ _ (and_left _ _ (lt-leb _ _ is.1))
 fault-whole bytes _ is = absurd is
 
--- a walk without fault is what the function gives
+-- for a walk without an error, the function returns its attributes
 walk-within : (most : ℕ) (bytes : List ℕ) (all : List Attribute) → length bytes ≤ most
     → Walk bytes all None → attributes_within most bytes ≡ Some all
 unfolding attributes_within
@@ -75,7 +75,7 @@ walk-within (suc most) (b ∷ bytes) (a ∷ more) enough (rest, starts, walk) =
     ap (attributes_within most) behind ∙ later in
     rw (whole, rests) (ap (λ (x : Attribute). Some (x ∷ more)) same)
 
--- and a walk with a fault gives nothing
+-- and for a walk with an error, it returns `None`
 fault-within : (most : ℕ) (bytes : List ℕ) (all : List Attribute) (fault : DecodeError)
     → length bytes ≤ most → Walk bytes all (Some fault) → attributes_within most bytes ≡ None
 unfolding attributes_within
@@ -146,12 +146,12 @@ within-fits (suc most) (b ∷ bytes) all gives =
 
 -- ---- the whole block
 
--- a walk without fault is what the function gives
+-- for a walk without an error, the function returns its attributes
 pub attributes_in-walk : (bytes : List ℕ) (all : List Attribute) → Walk bytes all None
     → attributes_in bytes ≡ Some all
 attributes_in-walk bytes all walk = walk-within (length bytes) bytes all (omega arith) walk
 
--- a walk with a fault gives nothing
+-- for a walk with an error, it returns `None`
 pub attributes_in-fault : (bytes : List ℕ) (all : List Attribute) (fault : DecodeError)
     → Walk bytes all (Some fault) → attributes_in bytes ≡ None
 attributes_in-fault bytes all fault walk =
@@ -166,30 +166,30 @@ by_walk bytes all found None walk gives =
 by_walk bytes all found (Some fault) walk gives =
     let none = attributes_in-fault bytes found fault walk in absurd (cc)
 
--- and what it gives is the walk
+-- and what it returns is the walk
 pub walk-attributes_in : (bytes : List ℕ) (all : List Attribute) → IsBytes bytes
     → attributes_in bytes ≡ Some all → Walk bytes all None
 walk-attributes_in bytes all each gives = let walk = has_walk bytes each in
     by_walk bytes all walk.0 walk.1 walk.2 gives
 
--- the attributes that it gives fit their fields
+-- the attributes that it returns fit their fields
 pub attributes_in-fit : (bytes : List ℕ) (all : List Attribute) → attributes_in bytes ≡ Some all
     → All FitsAttribute all
 attributes_in-fit bytes all gives = within-fits (length bytes) bytes all gives
 
--- what is written of attributes that fit is read as them
+-- the encoding of attributes that fit is read back as them
 pub attributes_in-written : (all : List Attribute) → All FitsAttribute all
     → attributes_in (canonical_block all) ≡ Some all
 attributes_in-written all fit = attributes_in-walk (canonical_block all) all (written_walks all fit)
 
--- a canonical block is read as the attributes that it is written of
+-- a canonical block is read as the attributes that it encodes
 pub attributes_in-canonical : (bytes : List ℕ) → IsCanonicalBlock bytes
     → (all : List Attribute) × (attributes_in bytes ≡ Some all) × (canonical_block all ≡ bytes)
 attributes_in-canonical bytes canonical =
     let walk = canonical_walk bytes canonical in
     (walk.0, attributes_in-walk bytes walk.0 walk.1, walk.2)
 
--- what is written of the attributes that were read is the bytes exactly if they are canonical
+-- encoding the attributes that were read gives the bytes if and only if these are canonical
 pub attributes_in-fixed : (bytes : List ℕ) (all : List Attribute) → attributes_in bytes ≡ Some all
     → (canonical_block all ≡ bytes) ↔ IsCanonicalBlock bytes
 attributes_in-fixed bytes all gives = (

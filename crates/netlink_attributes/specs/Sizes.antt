@@ -1,4 +1,4 @@
--- Laws of the sizes of what is written, for callers to cite.
+-- Laws about the sizes of encodings, for callers to cite.
 use Rattle.std.specs.Prelude.{◌≡◌, ℕ, ◌+◌, List, ◌∷◌, length, replicate}
 use Rattle.std.proofs.Common.{ap, ◌∙◌, arith, length-append}
 use Rattle.std.proofs.lemmas.List.{length-replicate}
@@ -23,12 +23,12 @@ pub length-written : (kind : ℕ) (value : List ℕ)
     → length (padded (attribute_with kind value)) ≡ 4 + length value + padding (length value)
 length-written kind value = length-padded (attribute_with kind value)
 
--- a block has the padded size of its first attribute, and the size of what follows
+-- the size of a block is the padded size of its first attribute plus the size of what follows
 pub length-canonical_block : (a : Attribute) (more : List Attribute)
     → length (canonical_block (a ∷ more)) ≡ padded_size a + length (canonical_block more)
 length-canonical_block a more =
     length-append (padded a) (canonical_block more)
     ∙ ap (λ (n : ℕ). n + length (canonical_block more)) (length-padded a)
 
--- what a proof of a size needs
+-- what a proof about a size needs
 pub ruleset written_sizes = (length-written)

@@ -1,4 +1,4 @@
--- What bytes that start with an attribute say of it.
+-- Facts about bytes that start with an attribute.
 use Rattle.std.proofs.Common.{◌≡◌, ℕ, ◌+◌, ◌-◌, ◌%◌, ◌<◌, ◌≤◌, ◌⊎◌, min, List, [], ◌++◌, length, take, drop, ap, sym, subst, ◌∙◌, inl, inr, arith, append_assoc, length-append, length-drop}
 use Rattle.std.proofs.lemmas.List.{length-take, drop_at, drop_all}
 use Rattle.std.proofs.lemmas.Bool.{cases_lt}
@@ -31,7 +31,7 @@ starts-length bytes a rest starts =
     let behind = length-append starts.gap rest in
     ap length starts.whole ∙ omega arith
 
--- the rest stands behind the attribute and the whole of its padding
+-- the rest follows the attribute and all of its padding
 pub starts-rest : (bytes : List ℕ) (a : Attribute) (rest : List ℕ) → Starts bytes a rest
     → rest ≡ drop (padded_size a) bytes
 starts-rest bytes a rest starts =
@@ -46,7 +46,7 @@ starts-rest bytes a rest starts =
           short.1 ∙ sym (drop_all (padded_size a) bytes (omega arith)))
     ]
 
--- and it is bytes where the whole is
+-- and it is a list of bytes if the whole is
 pub starts_bytes : (bytes : List ℕ) (a : Attribute) (rest : List ℕ) → Starts bytes a rest
     → IsBytes bytes → IsBytes rest
 starts_bytes bytes a rest starts each =
@@ -57,7 +57,7 @@ pub nothing_starts : (bytes : List ℕ) (a : Attribute) (rest : List ℕ) → by
 nothing_starts bytes a rest none starts =
     omega (arith, starts-length bytes a rest starts, ap length none)
 
--- bytes that start with an attribute have no fault
+-- bytes that start with an attribute have no error
 pub starts-fault : (bytes : List ℕ) (a : Attribute) (rest : List ℕ) (fault : DecodeError)
     → Starts bytes a rest → IsFault bytes fault → ⊥
 starts-fault bytes a rest (NlaBufferTooSmall size least) starts is =
@@ -68,7 +68,7 @@ starts-fault bytes a rest (NlaInvalidLength least said) starts is =
     omega (arith, is.1, starts-length_field bytes a rest starts)
 starts-fault bytes a rest _ starts is = is
 
--- and bytes have one fault at most
+-- and bytes have at most one error
 pub fault_once : (bytes : List ℕ) (f g : DecodeError) → IsFault bytes f → IsFault bytes g → f ≡ g
 fault_once bytes (NlaBufferTooSmall m n) (NlaBufferTooSmall k l) p q = cc
 fault_once bytes (NlaBufferTooSmall m n) (NlaLengthMismatch k l) p q = absurd (omega arith)
@@ -84,7 +84,7 @@ fault_once bytes (NlaLengthMismatch m n) _ p q = absurd q
 fault_once bytes (NlaInvalidLength m n) _ p q = absurd q
 fault_once bytes _ g p q = absurd p
 
--- the gap before the next multiple of 4, or to the end of the bytes
+-- the gap up to the next multiple of 4, or up to the end of the bytes
 gap_sizes : (field end size value : ℕ) → field ≤ size → field ≤ end → end < field + 4 → end % 4 ≡ 0
     → field ≡ 4 + value
     → (min (end - field) (size - field) ≡ padding value)
@@ -93,7 +93,7 @@ gap_sizes field end size value most low high multiple is =
     elim (cases_lt size end)
     [ inl short ↦ inr (omega arith, omega arith) | inr full ↦ inl (omega arith) ]
 
--- bytes that hold an attribute start with it, and the rest stands at the next multiple of 4
+-- bytes that hold an attribute start with it, and the rest begins at the next multiple of 4
 pub starts_held : (bytes : List ℕ) (end : ℕ) → IsBytes bytes → HoldsAttribute bytes
     → length_field bytes ≤ end → end < length_field bytes + 4 → end % 4 ≡ 0
     → Starts bytes (attribute_of bytes) (drop end bytes)

@@ -13,12 +13,12 @@ unread walk = walk.rest.now
 abbrev pub steps : NlasIterator (Bor (List ℕ)) → Option Item → NlasIterator (Bor (List ℕ)) → Type 0
 steps before item after = Gives (unread before) item (unread after)
 
--- the most items that bytes can have
+-- the maximum number of items for a list of bytes
 abbrev pub item_bound : List ℕ → ℕ
 item_bound bytes = (length bytes + 3) / 4
 
--- The unread bytes have a walk, and calls of `next` until it gives `None` give exactly that walk:
--- some attributes and some fault of which `Walk` holds, and any items that are all that the calls
--- give are these (`AreItems`), `item_bound` of them at most.
+-- The unread bytes have a walk, and calls of `next` until it returns `None` yield exactly that
+-- walk: there are attributes and an error, or none, for which `Walk` holds, and any items that are
+-- all that the calls yield are these (`AreItems`), at most `item_bound` of them.
 abbrev pub GivesWalk : NlasIterator (Bor (List ℕ)) → Type 0
 GivesWalk = GivesAll Starts IsFault ShowsAttribute unread steps item_bound

@@ -1,4 +1,4 @@
--- What bytes are as attributes one after another.
+-- Bytes as attributes one after another.
 use Rattle.std.specs.Prelude.{ℕ, ◌<◌, ◌≤◌, ◌≡◌, ◌≢◌, ◌⊎◌, List, [], ◌++◌, length, Option, Some, None, Result, Ok, Err}
 use denote.Ref.{Bor}
 use Rattle.netlink_bytes.specs.WalkItems.{ItemsShow}
@@ -9,7 +9,8 @@ use Rattle.netlink_attributes.specs.Attribute.{Attribute, FitsAttribute, attribu
 use Rattle.netlink_attributes.specs.Views.{length_field, attribute_of, shown, HoldsAttribute}
 use Rattle.netlink_attributes.specs.declared.buffer.NlaBuffer.{NlaBuffer}
 
--- why bytes do not begin with an attribute, with the numbers; no two of these are of the same bytes
+-- the error, with its fields, if the bytes do not begin with an attribute; no bytes satisfy two of
+-- these cases
 abbrev pub IsFault : List ℕ → DecodeError → Type 0
 IsFault bytes (NlaBufferTooSmall size least) =
     (length bytes < 4) × (size ≡ length bytes) × (least ≡ 4)
@@ -20,8 +21,8 @@ IsFault bytes (NlaInvalidLength least said) =
     (4 ≤ length bytes) × (length_field bytes < 4) × (least ≡ 4) × (said ≡ length_field bytes)
 IsFault bytes _ = ⊥
 
--- The bytes are the attribute, its padding and then the rest. Padding may be anything, and it may
--- be missing only where the bytes end within it.
+-- The bytes are the attribute, its padding and then the rest. Padding may be any bytes, and it may
+-- be incomplete only if the bytes end within it.
 pub record Starts (bytes : List ℕ) (a : Attribute) (rest : List ℕ) : Type 0 where
   pub fits : FitsAttribute a
   pub gap : List ℕ
@@ -29,16 +30,16 @@ pub record Starts (bytes : List ℕ) (a : Attribute) (rest : List ℕ) : Type 0 
   pub gap_size : (length gap ≡ padding (length a.value))
       ⊎ ((length gap < padding (length a.value)) × (rest ≡ []))
 
--- the bytes are these attributes one after another, and then nothing or one fault
+-- walking the bytes yields these attributes, one after another, and then the end or one error
 abbrev pub Walk : List ℕ → List Attribute → Option DecodeError → Type 0
 Walk = WalksAs Starts IsFault
 
--- an item of a walk: a view of all that was unread, or a fault
+-- an item of a walk: a view over all that was unread, or an error
 abbrev pub Item : Type 0
 Item = Result (NlaBuffer (Bor (List ℕ))) DecodeError
 
--- one step of a walk at these bytes, and what is then still to be walked; a view may be asked for
--- its value
+-- one step of a walk over these bytes, and what is then still to be walked; the value of a view may
+-- be read
 abbrev pub Gives : List ℕ → Option Item → List ℕ → Type 0
 Gives bytes None rest = (bytes ≡ []) × (rest ≡ [])
 Gives bytes (Some (Err fault)) rest = (bytes ≢ []) × IsFault bytes fault × (rest ≡ [])
@@ -49,6 +50,6 @@ Gives bytes (Some (Ok view)) rest =
 abbrev pub ShowsAttribute : NlaBuffer (Bor (List ℕ)) → Attribute → Type 0
 ShowsAttribute view a = attribute_of (shown view) ≡ a
 
--- the items are views that begin with these attributes, and then the fault, if there is one
+-- the items are views that begin with these attributes, and then the error, if there is one
 abbrev pub AreItems : List Item → List Attribute → Option DecodeError → Type 0
 AreItems = ItemsShow ShowsAttribute

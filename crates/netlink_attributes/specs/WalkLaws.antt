@@ -1,4 +1,4 @@
--- Every byte list has one walk.
+-- Every byte list has exactly one walk.
 use Rattle.std.proofs.Common.{◌≡◌, ◌≢◌, ℕ, ◌+◌, ◌-◌, ◌*◌, ◌/◌, List, [], length, drop, refl, ap, sym, ◌∙◌, inl, inr, arith, Option, length-drop}
 use Rattle.std.proofs.lemmas.Bool.{cases_lt}
 use Rattle.netlink_bytes.specs.Numbers.{IsBytes}
@@ -11,9 +11,9 @@ use Rattle.netlink_attributes.specs.StartLaws.{starts-attribute_of, starts-rest,
 use Rattle.netlink_attributes.specs.Views.{length_field, attribute_of, HoldsAttribute}
 use Rattle.netlink_attributes.specs.Walk.{Starts, Walk, IsFault}
 
--- ---- one walk
+-- ---- at most one walk
 
--- bytes start with one attribute and one rest
+-- bytes start with at most one attribute and one rest
 pub starts_once : (bytes : List ℕ) (a b : Attribute) (rest other : List ℕ) → Starts bytes a rest
     → Starts bytes b other → (a ≡ b) × (rest ≡ other)
 starts_once bytes a b rest other start begin =
@@ -24,7 +24,7 @@ starts_once bytes a b rest other start begin =
           ∙ sym (starts-rest bytes b other begin),
     )
 
--- what a walk takes of its steps
+-- what a walk requires of its steps
 pub attribute_steps : StepLaws Starts IsFault
 attribute_steps =
     record {
@@ -38,7 +38,7 @@ pub walk_once : (bytes : List ℕ) (x y : List Attribute) (f g : Option DecodeEr
     → Walk bytes y g → (x ≡ y) × (f ≡ g)
 walk_once = walks_once attribute_steps
 
--- ---- each byte list has one
+-- ---- every byte list has a walk
 
 pub next_attribute : (bytes : List ℕ) → IsBytes bytes → bytes ≢ []
     → NextStep Starts IsFault IsBytes bytes

@@ -4,8 +4,8 @@ ghost use Rattle.std.specs.Prelude.{◌≡◌, ◌+◌, ◌-◌, ◌%◌, ◌<�
 
 use crate::constants::NLA_ALIGNTO;
 
-/// The least multiple of 4 that is not below `len`: the size in bytes with padding (`NLA_ALIGN` of
-/// linux/netlink.h). `len` is at most `usize::MAX - 4`.
+/// Returns the smallest multiple of 4 that is at least `len`: the size in bytes with padding
+/// (`NLA_ALIGN` of linux/netlink.h). Requires `len <= usize::MAX - 4`.
 #[inline]
 pub fn nla_align(len: usize) -> usize
     requires room { len ≤ usize.MAX - 4 }

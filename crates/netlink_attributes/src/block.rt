@@ -1,6 +1,6 @@
-//! Blocks of attributes, written.
+//! Writing blocks of attributes.
 
-ghost use Rattle.std.specs.Prelude.{◌≡◌, ◌↔◌, ◌+◌, ◌^◌, ◌<◌, ◌≤◌, ◌++◌, ◌⊎◌, List, [], None, Some, IfErr, IfOk, IsOk, MatchResult, OnOk, length, replicate, vec_len, vec_capacity};
+ghost use Rattle.std.specs.Prelude.{◌≡◌, ◌↔◌, ◌+◌, ◌^◌, ◌<◌, ◌≤◌, ◌++◌, ◌⊎◌, List, [], None, Some, IfErr, IfOk, IsOk, MatchResult, OnErr, OnOk, length, replicate, vec_len, vec_capacity};
 ghost use Rattle.netlink_bytes.specs.Numbers.{bytes_le};
 ghost use Rattle.netlink_bytes.specs.declared.error.DecodeError.{DecodeError};
 ghost use Rattle.netlink_attributes.specs.Attribute.{Attribute, padded, padding, value_max};
@@ -16,13 +16,13 @@ use crate::iterator::NlasIterator;
 use netlink_bytes::{DecodeError, copy_of};
 use std::alloc::{AllocError, Global};
 
-/// The canonical block of bytes: the attributes that they walk as, each with its kind as it is and
-/// with its padding of zeros.
+/// Returns the canonical block for the bytes: the attributes that walking them yields, each with
+/// its kind unchanged and padded with zeros.
 ///
-/// A canonical block is copied whole. The walk of any other bytes is checked first, so damaged
-/// bytes are answered by the walk's fault (`NlaBufferTooSmall`, `NlaLengthMismatch` or
-/// `NlaInvalidLength`) without a request for memory. Otherwise there is one request, of the block's
-/// size, and none for no bytes; `OutOfMemory` says that it was refused.
+/// Copies a block that is already canonical. For any other bytes, first checks the walk and,
+/// without allocating, returns the error that ends it, if there is one (`NlaBufferTooSmall`,
+/// `NlaLengthMismatch` or `NlaInvalidLength`). Otherwise allocates once, for the size of the block.
+/// Does not allocate if `bytes` is empty. Returns `OutOfMemory` if the allocation fails.
 pub fn normalize_nlas(alloc: Global, bytes: &[u8]) -> Result<Vec<u8>, DecodeError>
     ensures ok { IfOk result
         (λ v. (all : List Attribute) × Walk bytes.now all None × (v.items ≡ canonical_block all)) }
@@ -38,7 +38,7 @@ pub fn normalize_nlas(alloc: Global, bytes: &[u8]) -> Result<Vec<u8>, DecodeErro
         → result ≡ Err fault }
     ensures empty { bytes.now ≡ [] → IsOk result }
 
-    // what is canonical stays as it is, and nothing else does
+    // canonical bytes are returned unchanged, and no others are
     ensures fixed { IsCanonicalBlock bytes.now
         → MatchResult result (λ v. v.items ≡ bytes.now) (λ e. e ≡ DecodeError.OutOfMemory) }
     ensures canonical { IfOk result (λ v. IsCanonicalBlock v.items) }
@@ -53,7 +53,8 @@ pub fn normalize_nlas(alloc: Global, bytes: &[u8]) -> Result<Vec<u8>, DecodeErro
     }
 }
 
-/// The attributes of a walk as they are written, in one request for memory.
+/// Returns the encoding of the attributes of a walk, with one allocation. Returns the error that
+/// ends the walk, if there is one, and `OutOfMemory` if the allocation fails.
 fn rewritten(alloc: Global, bytes: &[u8]) -> Result<Vec<u8>, DecodeError>
     ensures { MatchResult result
         (λ v. (all : List Attribute) × Walk bytes.now all None × (v.items ≡ canonical_block all))
@@ -73,7 +74,8 @@ fn rewritten(alloc: Global, bytes: &[u8]) -> Result<Vec<u8>, DecodeError>
     Ok(block)
 }
 
-/// Adds the text of an attribute, and its padding.
+/// Appends the encoding of an attribute, and its padding. Requires that the encoding has fewer than
+/// 2^16 bytes. Returns `AllocError` if an allocation fails.
 #[inline(always)]
 fn append_padded(block: &mut Vec<u8>, text: &[u8]) -> Result<(), AllocError>
     requires { length text.now < 2 ^ 16 }
@@ -82,26 +84,35 @@ fn append_padded(block: &mut Vec<u8>, text: &[u8]) -> Result<(), AllocError>
         ++ (text.now ++ replicate (padding (length text.now)) 0)) }
 {
     block.extend_from_slice(text)?;
-    append_zeros(block, nla_align(text.len()) - text.len())
+    append_padding(block, nla_align(text.len()) - text.len())
 }
 
-/// Adds so many zeros.
-#[inline(always)]
-fn append_zeros(block: &mut Vec<u8>, count: usize) -> Result<(), AllocError>
-    ensures ok { OnOk result (block.new.items ≡ block.old.items ++ replicate count 0) }
-    ensures room { vec_len block.old + count ≤ vec_capacity block.old → IsOk result }
-{
-    for _ in 0..count {
-        block.push(0)?;
-    }
-    Ok(())
-}
-
-/// Adds an attribute to a block, its kind as it is, with its padding of zeros.
+/// Appends fewer than 4 zeros, such as the padding of an attribute or of a frame. Requires
+/// `count < 4`.
 ///
-/// The value has at most `NLA_VALUE_MAX` bytes. Where the block has room for the attribute with its
-/// padding the answer is Ok; otherwise its own allocator is asked, and where that refuses the
-/// answer is `OutOfMemory`, and the block is as it was.
+/// Does not allocate if there is room. Otherwise allocates with the vector's own allocator and, if
+/// that fails, returns an error and leaves the vector unchanged. A copy of a fixed size for each
+/// count is faster than a loop.
+#[inline(always)]
+pub fn append_padding(bytes: &mut Vec<u8>, count: usize) -> Result<(), AllocError>
+    requires few { count < 4 }
+    ensures ok { OnOk result (bytes.new.items ≡ bytes.old.items ++ replicate count 0) }
+    ensures room { vec_len bytes.old + count ≤ vec_capacity bytes.old → IsOk result }
+    ensures unchanged { OnErr result (bytes.new.items ≡ bytes.old.items) }
+{
+    match count {
+        0 => Ok(()),
+        1 => bytes.extend_from_slice(&[0]),
+        2 => bytes.extend_from_slice(&[0, 0]),
+        _ => bytes.extend_from_slice(&[0, 0, 0]),
+    }
+}
+
+/// Appends an attribute to a block, with its kind unchanged and padded with zeros.
+///
+/// Requires that the value has at most `NLA_VALUE_MAX` bytes. Does not allocate if the block has
+/// room for the attribute and its padding. Otherwise allocates with the block's own allocator and,
+/// if that fails, returns `OutOfMemory` and leaves the block unchanged.
 #[inline(always)]
 #[tactic(auto, using(crate::specs::Sizes::written_sizes))]
 pub fn append_nla(
@@ -123,11 +134,11 @@ pub fn append_nla(
     block.reserve(whole)?;
     block.extend_from_slice(&attribute_header(size as u16, kind))?;
     block.extend_from_slice(value)?;
-    append_zeros(block, whole - size)?;
+    append_padding(block, whole - size)?;
     Ok(())
 }
 
-/// The four bytes of an attribute's header.
+/// Returns the four bytes of an attribute header.
 #[tactic(auto, unfolding(netlink_bytes::specs::Numbers::bytes_le))]
 #[inline(always)]
 pub(crate) fn attribute_header(length: u16, kind: u16) -> [u8; 4]

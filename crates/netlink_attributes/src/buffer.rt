@@ -14,17 +14,17 @@ use crate::constants::{
 };
 use netlink_bytes::{DecodeError, Storage, StorageMut, put_u16, u16_at};
 
-/// The bytes of an attribute (`struct nlattr` of linux/netlink.h), looked at in place.
+/// The bytes of an attribute (`struct nlattr` of linux/netlink.h), read in place.
 ///
-/// A length of 16 bits, a kind of 16 bits and the value, both numbers in native order, the lowest
-/// byte first. Sizes and lengths are in bytes. No call asks for memory.
+/// They are a 16-bit length, a 16-bit kind and the value. Both numbers are in native byte order
+/// (little-endian). Sizes and lengths are in bytes. No method allocates.
 #[derive(Clone, Copy, Debug, PartialEq, Eq, Drop)]
 pub struct NlaBuffer<T: Storage> {
     buffer: T,
 }
 
 impl<T: Storage> NlaBuffer<T> {
-    /// A view of any bytes: nothing is checked.
+    /// Returns a view over any bytes, without checking them.
     #[inline]
     pub fn new(buffer: T) -> Self
         ensures keeps { storage_of result ≡ buffer }
@@ -32,8 +32,8 @@ impl<T: Storage> NlaBuffer<T> {
         NlaBuffer { buffer }
     }
 
-    /// A view of bytes that hold a whole attribute. Others are refused as by `check_buffer_length`;
-    /// the storage is then given up.
+    /// Returns a view over bytes that hold a complete attribute. Returns the errors of
+    /// `check_buffer_length` if they do not; the storage is then dropped.
     #[inline]
     pub fn new_checked(buffer: T) -> Result<Self, DecodeError>
         ensures keeps { IfOk result (λ view. storage_of view ≡ buffer) }
@@ -44,9 +44,9 @@ impl<T: Storage> NlaBuffer<T> {
         Ok(NlaBuffer { buffer })
     }
 
-    /// Whether the bytes hold a whole attribute, its padding aside. Fewer than 4 bytes are refused
-    /// with `NlaBufferTooSmall`, a length field above their number with `NlaLengthMismatch`, and
-    /// one below 4 with `NlaInvalidLength`.
+    /// Checks that the bytes hold a complete attribute, apart from its padding. Returns
+    /// `NlaBufferTooSmall` if there are fewer than 4 bytes, `NlaLengthMismatch` if the length field
+    /// is larger than their number, and `NlaInvalidLength` if it is less than 4.
     #[inline]
     pub fn check_buffer_length(&self) -> Result<(), DecodeError>
         ensures whole { OnOk result (HoldsAttribute (T.contents (storage_of self.now))) }
@@ -56,7 +56,8 @@ impl<T: Storage> NlaBuffer<T> {
         Ok(())
     }
 
-    /// A view of the same bytes, lent: what a slice is read by, of any storage.
+    /// Returns a view that borrows the same bytes as a slice, so that the methods for slices work
+    /// with any storage.
     #[inline]
     pub fn borrowed(&self) -> NlaBuffer<&[u8]>
         ensures bytes { shown result ≡ T.contents (storage_of self.now) }
@@ -64,7 +65,7 @@ impl<T: Storage> NlaBuffer<T> {
         NlaBuffer::new(self.buffer.bytes())
     }
 
-    /// The storage that the view stands over.
+    /// Returns the storage of the view.
     #[inline]
     pub fn into_inner(self) -> T
         ensures keeps { result ≡ storage_of self }
@@ -72,7 +73,7 @@ impl<T: Storage> NlaBuffer<T> {
         self.buffer
     }
 
-    /// The storage, looked at. The view is left as it is.
+    /// Borrows the storage. The view is unchanged.
     #[inline]
     pub fn inner(&mut self) -> &T
         ensures* unchanged { sem 𝓛
@@ -83,7 +84,8 @@ impl<T: Storage> NlaBuffer<T> {
         &self.buffer
     }
 
-    /// The storage, lent for writing: the view ends over what it is then.
+    /// Mutably borrows the storage. When the borrow ends, the view is over what the storage is
+    /// then.
     #[inline]
     pub fn inner_mut(&mut self) -> &mut T
         ensures* writes_back { sem 𝓛 (Lends (the_row T.row) T.row self.entry result view_over) }
@@ -92,8 +94,8 @@ impl<T: Storage> NlaBuffer<T> {
         &mut self.buffer
     }
 
-    /// The length field (`nla_len`): the size of header and value in bytes, without padding.
-    /// The storage has at least 2 bytes.
+    /// Returns the length field (`nla_len`): the size of header and value in bytes, without
+    /// padding. Requires at least 2 bytes of storage.
     #[inline]
     pub fn length(&self) -> u16
         requires field { 2 ≤ length (T.contents (storage_of self.now)) }
@@ -102,8 +104,8 @@ impl<T: Storage> NlaBuffer<T> {
         u16_at(self.buffer.bytes(), LENGTH)
     }
 
-    /// The kind with its two flag bits, as it stands in the field (`nla_type`). The storage has at
-    /// least 4 bytes.
+    /// Returns the kind with its two flag bits, as it is in the field (`nla_type`). Requires at
+    /// least 4 bytes of storage.
     #[inline]
     pub fn raw_kind(&self) -> u16
         requires field { 4 ≤ length (T.contents (storage_of self.now)) }
@@ -112,7 +114,7 @@ impl<T: Storage> NlaBuffer<T> {
         u16_at(self.buffer.bytes(), KIND)
     }
 
-    /// The kind without its two flag bits. The storage has at least 4 bytes.
+    /// Returns the kind without its two flag bits. Requires at least 4 bytes of storage.
     #[inline]
     pub fn kind(&self) -> u16
         requires field { 4 ≤ length (T.contents (storage_of self.now)) }
@@ -121,7 +123,8 @@ impl<T: Storage> NlaBuffer<T> {
         self.raw_kind() & NLA_TYPE_MASK
     }
 
-    /// Whether the bit `NLA_F_NESTED` of the kind is set. The storage has at least 4 bytes.
+    /// Returns whether the bit `NLA_F_NESTED` of the kind is set. Requires at least 4 bytes of
+    /// storage.
     #[inline]
     pub fn nested_flag(&self) -> bool
         requires field { 4 ≤ length (T.contents (storage_of self.now)) }
@@ -130,7 +133,8 @@ impl<T: Storage> NlaBuffer<T> {
         is_nested_kind(self.raw_kind())
     }
 
-    /// Whether the bit `NLA_F_NET_BYTEORDER` of the kind is set. The storage has at least 4 bytes.
+    /// Returns whether the bit `NLA_F_NET_BYTEORDER` of the kind is set. Requires at least 4 bytes
+    /// of storage.
     #[inline]
     pub fn network_byte_order_flag(&self) -> bool
         requires field { 4 ≤ length (T.contents (storage_of self.now)) }
@@ -139,8 +143,8 @@ impl<T: Storage> NlaBuffer<T> {
         is_network_kind(self.raw_kind())
     }
 
-    /// The size of the value in bytes: the length field less the header's size. The storage has at
-    /// least 2 bytes, and the length field is at least 4.
+    /// Returns the size of the value in bytes: the length field minus the size of the header.
+    /// Requires at least 2 bytes of storage, and a length field of at least 4.
     #[inline]
     pub fn value_length(&self) -> usize
         requires field { 2 ≤ length (T.contents (storage_of self.now)) }
@@ -152,7 +156,8 @@ impl<T: Storage> NlaBuffer<T> {
 }
 
 impl<T: StorageMut> NlaBuffer<T> {
-    /// Sets the length field (`nla_len`), and no other byte. The storage has at least 2 bytes.
+    /// Sets the length field (`nla_len`) and leaves all other bytes unchanged. Requires at least 2
+    /// bytes of storage.
     #[inline]
     pub fn set_length(&mut self, value: u16)
         requires field { 2 ≤ length (T.contents (storage_of self.old)) }
@@ -165,8 +170,8 @@ impl<T: StorageMut> NlaBuffer<T> {
         put_u16(self.buffer.bytes_mut(), LENGTH, value);
     }
 
-    /// Sets the kind without its flag bits, so that both are cleared, and no byte outside the kind
-    /// field. The storage has at least 4 bytes.
+    /// Sets the kind without its flag bits, so that both are cleared, and leaves all bytes outside
+    /// the kind field unchanged. Requires at least 4 bytes of storage.
     #[inline]
     pub fn set_kind(&mut self, kind: u16)
         requires field { 4 ≤ length (T.contents (storage_of self.old)) }
@@ -179,8 +184,8 @@ impl<T: StorageMut> NlaBuffer<T> {
         self.set_raw_kind(kind & NLA_TYPE_MASK)
     }
 
-    /// Sets the bit `NLA_F_NESTED` of the kind and clears `NLA_F_NET_BYTEORDER`; no byte outside
-    /// the kind field changes. The storage has at least 4 bytes.
+    /// Sets the bit `NLA_F_NESTED` of the kind, clears `NLA_F_NET_BYTEORDER`, and leaves all bytes
+    /// outside the kind field unchanged. Requires at least 4 bytes of storage.
     #[inline]
     pub fn set_nested_flag(&mut self)
         requires field { 4 ≤ length (T.contents (storage_of self.old)) }
@@ -196,8 +201,8 @@ impl<T: StorageMut> NlaBuffer<T> {
         self.set_raw_kind(kind)
     }
 
-    /// Sets the bit `NLA_F_NET_BYTEORDER` of the kind and clears `NLA_F_NESTED`; no byte outside
-    /// the kind field changes. The storage has at least 4 bytes.
+    /// Sets the bit `NLA_F_NET_BYTEORDER` of the kind, clears `NLA_F_NESTED`, and leaves all bytes
+    /// outside the kind field unchanged. Requires at least 4 bytes of storage.
     #[inline]
     pub fn set_network_byte_order_flag(&mut self)
         requires field { 4 ≤ length (T.contents (storage_of self.old)) }
@@ -213,8 +218,8 @@ impl<T: StorageMut> NlaBuffer<T> {
         self.set_raw_kind(kind)
     }
 
-    /// Sets the kind as it is given, its two flag bits with it, and no byte outside the kind field.
-    /// The storage has at least 4 bytes.
+    /// Sets the kind to `kind`, with its two flag bits, and leaves all bytes outside the kind field
+    /// unchanged. Requires at least 4 bytes of storage.
     #[inline]
     pub fn set_raw_kind(&mut self, kind: u16)
         requires field { 4 ≤ length (T.contents (storage_of self.old)) }
@@ -227,8 +232,8 @@ impl<T: StorageMut> NlaBuffer<T> {
         put_u16(self.buffer.bytes_mut(), KIND, kind);
     }
 
-    /// The value, lent for writing: the bytes from 4 up to the length. The storage holds a whole
-    /// attribute, as `check_buffer_length` tells.
+    /// Mutably borrows the value: the bytes from offset 4 up to the length. Requires that the
+    /// storage holds a complete attribute, which `check_buffer_length` checks.
     #[inline]
     pub fn value_mut(&mut self) -> &mut [u8]
         requires whole { HoldsAttribute (T.contents (storage_of self.old)) }
@@ -243,8 +248,8 @@ impl<T: StorageMut> NlaBuffer<T> {
 }
 
 impl<'a> NlaBuffer<&'a [u8]> {
-    /// The value: the bytes from 4 up to the length. What follows is not looked at. The bytes hold
-    /// a whole attribute, as `check_buffer_length` tells.
+    /// Returns the value: the bytes from offset 4 up to the length. Ignores what follows. Requires
+    /// that the bytes hold a complete attribute, which `check_buffer_length` checks.
     #[inline]
     pub fn value(&self) -> &'a [u8]
         requires whole { HoldsAttribute (shown self.now) }
@@ -255,7 +260,7 @@ impl<'a> NlaBuffer<&'a [u8]> {
     }
 }
 
-/// Whether a kind has the bit of nested attributes.
+/// Returns whether a kind has the bit `NLA_F_NESTED`.
 #[inline(always)]
 pub(crate) fn is_nested_kind(kind: u16) -> bool
     ensures { result ≡ is_nested kind }
@@ -263,7 +268,7 @@ pub(crate) fn is_nested_kind(kind: u16) -> bool
     kind & NLA_F_NESTED != 0
 }
 
-/// Whether a kind has the bit of network byte order.
+/// Returns whether a kind has the bit `NLA_F_NET_BYTEORDER`.
 #[inline(always)]
 pub(crate) fn is_network_kind(kind: u16) -> bool
     ensures { result ≡ is_network_byteorder kind }
@@ -271,7 +276,7 @@ pub(crate) fn is_network_kind(kind: u16) -> bool
     kind & !NLA_F_NESTED >= NLA_F_NET_BYTEORDER
 }
 
-/// The length field of bytes that hold a whole attribute, or their fault.
+/// Returns the length field of bytes that hold a complete attribute, or the error if they do not.
 #[inline(always)]
 pub(crate) fn checked_length(bytes: &[u8]) -> Result<u16, DecodeError>
     ensures number { IfOk result (λ n. n ≡ length_field bytes.now) }

@@ -1,4 +1,4 @@
-//! What is canonical, looked at in place.
+//! Checking in place whether a block is canonical.
 
 ghost use Rattle.std.specs.Prelude.{◌≡◌, ◌↔◌, ◌≤◌, ◌<◌, ◌^◌, IsTrue, drop, take, length, replicate};
 ghost use Rattle.netlink_attributes.specs.Attribute.{padding};
@@ -7,10 +7,10 @@ ghost use Rattle.netlink_attributes.specs.Block.{IsCanonicalBlock};
 use crate::align::nla_align;
 use crate::iterator::NlasIterator;
 
-/// Whether the bytes are a canonical block: attributes one after another, each with the whole of
-/// its padding, of zeros.
+/// Returns whether the bytes are a canonical block: attributes one after another, each with all of
+/// its padding, as zeros.
 ///
-/// No bytes are one. A kind may have any of its 16 bits. Asks for no memory.
+/// The empty slice is one. A kind may have any of its 16 bits. Does not allocate.
 pub fn is_canonical_nlas(bytes: &[u8]) -> bool
     ensures canonical { IsTrue result ↔ IsCanonicalBlock bytes.now }
 {
@@ -28,7 +28,8 @@ pub fn is_canonical_nlas(bytes: &[u8]) -> bool
     true
 }
 
-/// Whether zeros follow the first `size` bytes up to a multiple of 4.
+/// Returns whether zeros follow the first `size` bytes, up to a multiple of 4. Requires that there
+/// are at least `size` bytes, and that `size` is less than 2^16.
 #[inline(always)]
 fn is_zero_padded(bytes: &[u8], size: usize) -> bool
     requires inside { (size ≤ length bytes.now) × (size < 2 ^ 16) }
@@ -39,7 +40,7 @@ fn is_zero_padded(bytes: &[u8], size: usize) -> bool
     end <= bytes.len() && are_zeros(&bytes[size..end])
 }
 
-/// Whether each byte is 0.
+/// Returns whether each byte is 0.
 #[inline(always)]
 fn are_zeros(bytes: &[u8]) -> bool
     ensures { IsTrue result ↔ (bytes.now ≡ replicate (length bytes.now) 0) }

@@ -1,4 +1,4 @@
-//! An attribute that keeps its value as bytes.
+//! An attribute that holds its value as bytes.
 
 ghost use Rattle.std.specs.Prelude.{◌≡◌, ◌≤◌, [], IfErr, IfOk, IsOk, IsTrue, true, length};
 ghost use Rattle.netlink_attributes.specs.Attribute.{padded, value_max};
@@ -10,7 +10,7 @@ use crate::nla::{Nla, emit_nla, nla_buffer_len};
 use netlink_bytes::{DecodeError, Emitable, Parseable, copy_of};
 use std::alloc::Global;
 
-/// An attribute of any kind, its value as bytes. The kind keeps its two flag bits.
+/// An attribute of any kind, with its value as bytes. The kind keeps its two flag bits.
 #[derive(Debug, PartialEq, Eq, Drop)]
 pub struct DefaultNla {
     kind: u16,
@@ -18,7 +18,7 @@ pub struct DefaultNla {
 }
 
 impl DefaultNla {
-    /// An attribute of this kind and value. Asks for no memory.
+    /// Returns an attribute with this kind and value. Does not allocate.
     #[inline]
     pub fn new(kind: u16, value: Vec<u8>) -> Self
         ensures kind { (kept_attribute result).kind ≡ kind }
@@ -27,8 +27,8 @@ impl DefaultNla {
         DefaultNla { kind, value }
     }
 
-    /// An equal attribute, or `OutOfMemory` where there is no memory for its value. An empty value
-    /// asks for none.
+    /// Returns an equal attribute, or `OutOfMemory` if the allocation for its value fails. Does not
+    /// allocate if the value is empty.
     pub fn try_clone(&self, alloc: Global) -> Result<Self, DecodeError>
         ensures same { IfOk result (λ copy. kept_attribute copy ≡ kept_attribute self.now) }
         ensures equal { IfOk result
@@ -86,9 +86,9 @@ impl<'a> Parseable<NlaBuffer<&'a [u8]>> for DefaultNla {
 
     ghost needs_no_memory = { λ view. (attribute_of (shown view)).value ≡ [] };
 
-    /// The kind with both flag bits, and a copy of the value. `OutOfMemory` where there is no
-    /// memory for it; an empty value asks for none. The view shows a whole attribute, as
-    /// `check_buffer_length` tells.
+    /// Returns the kind, with both flag bits, and a copy of the value. Requires that the view holds
+    /// a complete attribute, which `check_buffer_length` checks. Returns `OutOfMemory` if the
+    /// allocation for the value fails. Does not allocate if the value is empty.
     fn parse(alloc: Global, buf: &NlaBuffer<&'a [u8]>) -> Result<Self, DecodeError> {
         Ok(DefaultNla {
             kind: buf.raw_kind(),

@@ -1,4 +1,4 @@
-//! The first attribute of a kind.
+//! Finding the first attribute of a kind.
 
 ghost use Rattle.std.specs.Prelude.{◌≡◌, ◌≤◌, List, Option, IfNone, IfSome, length};
 ghost use Rattle.netlink_bytes.specs.declared.error.DecodeError.{DecodeError};
@@ -10,11 +10,11 @@ ghost use Rattle.netlink_attributes.specs.Walk.{Walk};
 use crate::buffer::NlaBuffer;
 use crate::iterator::NlasIterator;
 
-/// The index of the first attribute whose kind, without its two flag bits, is this one.
+/// Returns the index of the first attribute whose kind, without its two flag bits, is `kind`.
 ///
-/// The index counts from 0, as that of `nla_place`, `nlas_value_mut` and `write_nla_value`. `None`
-/// is answered exactly where no attribute is of this kind, none in front of a fault either; so a
-/// kind with a flag bit is not found. Asks for no memory.
+/// The index counts from 0, as it does for `nla_place`, `nlas_value_mut` and `write_nla_value`.
+/// Returns `None` if and only if no attribute has this kind, counting those before an error. So a
+/// `kind` with a flag bit is never found. Does not allocate.
 pub fn nla_find(block: &[u8], kind: u16) -> Option<usize>
     ensures first { IfSome result (λ index. (all : List Attribute) (fault : Option DecodeError)
         → Walk block.now all fault → IsFirst masked all kind index) }
@@ -24,8 +24,9 @@ pub fn nla_find(block: &[u8], kind: u16) -> Option<usize>
     find(block, false, kind)
 }
 
-/// The index of the first attribute whose kind, with its two flag bits, is this one: as `nla_find`
-/// otherwise.
+/// Returns the index of the first attribute whose kind, with its two flag bits, is `raw_kind`. The
+/// index counts from 0. Returns `None` if and only if no attribute has this kind, counting those
+/// before an error. Does not allocate.
 pub fn nla_find_raw(block: &[u8], raw_kind: u16) -> Option<usize>
     ensures first { IfSome result (λ index. (all : List Attribute) (fault : Option DecodeError)
         → Walk block.now all fault → IsFirst whole_kind all raw_kind index) }
@@ -35,7 +36,8 @@ pub fn nla_find_raw(block: &[u8], raw_kind: u16) -> Option<usize>
     find(block, true, raw_kind)
 }
 
-/// The index of the first attribute of this kind, its flag bits looked at or not.
+/// Returns the index of the first attribute of this kind. Compares the flag bits only if `whole` is
+/// true.
 fn find(block: &[u8], whole: bool, kind: u16) -> Option<usize>
     ensures first { IfSome result (λ index. (all : List Attribute) (fault : Option DecodeError)
         → Walk block.now all fault → IsFirst (kind_by whole) all kind index) }
@@ -58,7 +60,8 @@ fn find(block: &[u8], whole: bool, kind: u16) -> Option<usize>
     None
 }
 
-/// The kind of an attribute, with its two flag bits or without them.
+/// Returns the kind of an attribute, with its two flag bits if `whole` is true and without them
+/// otherwise. Requires that the view has at least 4 bytes.
 #[inline(always)]
 fn kind_of(nla: &NlaBuffer<&[u8]>, whole: bool) -> u16
     requires { 4 ≤ length (shown nla.now) }

@@ -1,4 +1,4 @@
-//! Attributes that fit a message.
+//! Attributes that fit in a message.
 
 ghost use Rattle.std.specs.Prelude.{◌≡◌, ◌↔◌, ◌⊎◌, ◌∷◌, ◌++◌, ◌≤◌, [], All, Err, IfErr, IfSome, IsSome, true, IsErr, IfOk, length};
 ghost use Rattle.std.specs.Cmp.{on_equiv, on_per};
@@ -11,17 +11,17 @@ use crate::nla::{Nla, nla_buffer_len, nla_fits};
 use crate::nlas::Nlas;
 use netlink_bytes::{DecodeError, Emitable};
 
-/// The most bytes of a block that fits a message: 4095 below what a length of 32 bits can say,
-/// which leaves room for the message's header and for a fixed header of the protocol's own.
+/// The maximum size in bytes of a block that fits in a message: 4095 less than the largest 32-bit
+/// length, which leaves room for the message header and for a fixed header of the protocol.
 pub const NLA_BLOCK_MAX: usize = 4294963200;
 
-/// Attributes that fit a message: each value has at most `NLA_VALUE_MAX` bytes, and as a block they
-/// have at most `NLA_BLOCK_MAX`. So a message that holds them can be written, whatever it holds.
+/// Attributes that fit in a message: each value has at most `NLA_VALUE_MAX` bytes, and the block at
+/// most `NLA_BLOCK_MAX`. So a message that holds them can be encoded, whatever they are.
 #[derive(Debug, Drop)]
 pub struct NlaBlock<T: Nla> {
-    /// The attributes in order.
+    /// The attributes, in order.
     pub list: Vec<T>,
-    /// The size of the block in bytes.
+    /// The size of the block, in bytes.
     pub size: usize,
     pub ghost each: { All FitsAttribute (attributes_of T.kind_of T.value_of list.items) },
     pub ghost counted: { size ≡ length (written_block T.kind_of T.value_of list.items) },
@@ -29,8 +29,8 @@ pub struct NlaBlock<T: Nla> {
 }
 
 impl<T: Nla + Drop> NlaBlock<T> {
-    /// The block of these attributes; none where a value has more than `NLA_VALUE_MAX` bytes, or
-    /// they all more than `NLA_BLOCK_MAX`. Asks for no memory.
+    /// Returns the block of these attributes, or `None` if a value has more than `NLA_VALUE_MAX`
+    /// bytes or the block more than `NLA_BLOCK_MAX`. Does not allocate.
     pub fn new(list: Vec<T>) -> Option<Self>
         ensures fits { IsSome result ↔ FitBlock T.kind_of T.value_of list.items }
         ensures list { IfSome result (λ block. block.list ≡ list) }
@@ -41,10 +41,10 @@ impl<T: Nla + Drop> NlaBlock<T> {
         }
     }
 
-    /// Adds an attribute behind the others. One whose value has more than `NLA_VALUE_MAX` bytes,
-    /// or with which the block would have more than `NLA_BLOCK_MAX`, is refused with `TooLong`,
-    /// whatever memory there is; `OutOfMemory` says that a request for memory was refused. The
-    /// block is then as it was, and the attribute is given up.
+    /// Appends an attribute. Returns `TooLong`, whether or not there is memory, if its value has
+    /// more than `NLA_VALUE_MAX` bytes or if the block would have more than `NLA_BLOCK_MAX`.
+    /// Returns `OutOfMemory` if an allocation fails. After an error, the block is unchanged, and
+    /// the attribute is dropped.
     pub fn push(&mut self, nla: T) -> Result<(), DecodeError>
         ensures ok { IfOk result (λ _. self.new.list.items ≡ self.old.list.items ++ (nla ∷ [])) }
         ensures too_long { (FitBlock T.kind_of T.value_of (self.old.list.items ++ (nla ∷ [])) → ⊥)
@@ -78,8 +78,8 @@ impl<T: Nla> Emitable for NlaBlock<T> {
         self.size
     }
 
-    /// Writes the block at the start of the buffer, and leaves the rest. The buffer has at least
-    /// `buffer_len` bytes.
+    /// Writes the block at the start of `buffer` and leaves the rest unchanged. Requires that
+    /// `buffer` has at least `buffer_len` bytes.
     fn emit(&self, buffer: &mut [u8]) {
         Nlas(self.list.as_slice()).emit(buffer);
     }
@@ -99,7 +99,8 @@ impl<T: Nla + Eq> Eq for NlaBlock<T> {
     ghost laws = { on_equiv (λ block. block.list.items) (lists_equiv T.Eq.laws) };
 }
 
-/// The size of the block that is written of attributes, where they fit.
+/// Returns the size in bytes of the block that encodes the attributes, or `None` if they do not
+/// fit.
 fn block_size<T: Nla>(list: &[T]) -> Option<usize>
     ensures some { IfSome result
         (λ size. size ≡ length (written_block T.kind_of T.value_of list.now)) }

@@ -1,4 +1,4 @@
-//! The attributes of a block, one after another.
+//! The walk over the attributes of a block.
 
 ghost use Rattle.std.specs.Prelude.{◌≡◌, ◌+◌, ◌≤◌, ◌<◌, ◌^◌, length};
 ghost use Rattle.std.specs.Iterator.{at_most};
@@ -10,18 +10,18 @@ use crate::align::nla_align;
 use crate::buffer::{NlaBuffer, checked_length};
 use netlink_bytes::DecodeError;
 
-/// The attributes of a block in order. An error is the last item, and `None` comes for good behind
-/// it.
+/// An iterator over the attributes of a block, in order. An error is the last item; from then on,
+/// `next` returns `None`.
 ///
-/// An item shows the whole unread rest, and its value is cut from that. Two are equal exactly if
-/// the bytes still to be walked are. No call asks for memory.
+/// An item is a view over all unread bytes, and its value is a part of them. Two iterators are
+/// equal if and only if the bytes still to be walked are equal. No method allocates.
 #[derive(Clone, Copy, Debug, PartialEq, Eq)]
 pub struct NlasIterator<T> {
     rest: T,
 }
 
 impl<'a> NlasIterator<&'a [u8]> {
-    /// A walk of these bytes.
+    /// Returns an iterator over the attributes of `buffer`.
     #[inline]
     pub fn new(buffer: &'a [u8]) -> Self
         ensures keeps { unread result ≡ buffer.now }
@@ -57,7 +57,8 @@ impl<'a> Iterator for NlasIterator<&'a [u8]> {
     }
 }
 
-/// What stands behind the attribute that the bytes start with and its padding.
+/// Returns what follows the attribute that the bytes start with, and its padding. Requires that the
+/// bytes hold a complete attribute, and that `size` is its length field and less than 2^16.
 #[inline(always)]
 fn behind(bytes: &[u8], size: usize) -> &[u8]
     requires whole { HoldsAttribute bytes.now }

@@ -1,4 +1,4 @@
-//! Netlink attributes: looked at in place, written, and walked one after another.
+//! Netlink attributes: read in place, written, and walked one after another.
 #![tactic(auto)]
 
 mod align;
@@ -17,7 +17,7 @@ mod nlas;
 mod place;
 
 pub use crate::align::nla_align;
-pub use crate::block::{append_nla, normalize_nlas};
+pub use crate::block::{append_nla, append_padding, normalize_nlas};
 pub use crate::buffer::NlaBuffer;
 pub use crate::canonical::is_canonical_nlas;
 pub use crate::constants::{

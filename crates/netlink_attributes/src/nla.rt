@@ -1,4 +1,4 @@
-//! What can be written as an attribute.
+//! Values that can be written as attributes.
 
 ghost use Rattle.std.specs.Prelude.{◌≡◌, ◌↔◌, ◌-◌, ◌<◌, ◌≤◌, ◌^◌, ◌++◌, ℕ, List, IsTrue, drop, length};
 ghost use Rattle.netlink_attributes.specs.Attribute.{padded, padded_size, value_max};
@@ -10,7 +10,7 @@ use crate::block::attribute_header;
 use crate::buffer::{is_nested_kind, is_network_kind};
 use crate::constants::{NLA_HEADER_SIZE, NLA_VALUE_MAX};
 
-/// A value that stands for an attribute: a kind, and the bytes of its value.
+/// A value that represents an attribute: a kind, and the bytes of its value.
 pub trait Nla {
     /// The kind with its two flag bits.
     ghost kind_of: { Self → ℕ };
@@ -18,27 +18,27 @@ pub trait Nla {
     /// The bytes of the value.
     ghost value_of: { Self → List ℕ };
 
-    /// The size of the value in bytes.
+    /// Returns the size of the value in bytes.
     fn value_len(&self) -> usize
         ensures size { result ≡ length (value_of self.now) };
 
-    /// The kind with its two flag bits.
+    /// Returns the kind with its two flag bits.
     fn kind(&self) -> u16
         ensures kind { result ≡ kind_of self.now };
 
-    /// Fills the buffer, which has exactly `value_len` bytes, with the value.
+    /// Writes the value over all of `buffer`. Requires that `buffer` has exactly `value_len` bytes.
     fn emit_value(&self, buffer: &mut [u8])
         requires size { length buffer.old ≡ length (value_of self.now) }
         ensures value { buffer.new ≡ value_of self.now };
 
-    /// Whether the kind has the bit `NLA_F_NESTED`.
+    /// Returns whether the kind has the bit `NLA_F_NESTED`.
     fn is_nested(&self) -> bool
         ensures flag { result ≡ is_nested (kind_of self.now) }
     {
         is_nested_kind(self.kind())
     }
 
-    /// Whether the kind has the bit `NLA_F_NET_BYTEORDER`.
+    /// Returns whether the kind has the bit `NLA_F_NET_BYTEORDER`.
     fn is_network_byteorder(&self) -> bool
         ensures flag { result ≡ is_network_byteorder (kind_of self.now) }
     {
@@ -46,8 +46,8 @@ pub trait Nla {
     }
 }
 
-/// The size in bytes of what `emit_nla` writes: header, value and padding. The value has at most
-/// `usize::MAX - 7` bytes.
+/// Returns the size in bytes of what `emit_nla` writes: header, value and padding. Requires that
+/// the value has at most `usize::MAX - 7` bytes.
 #[tactic(auto, using(crate::specs::Sizes::written_sizes))]
 #[inline]
 pub fn nla_buffer_len<T: Nla>(nla: &T) -> usize
@@ -60,7 +60,7 @@ pub fn nla_buffer_len<T: Nla>(nla: &T) -> usize
     nla_align(nla.value_len()) + NLA_HEADER_SIZE
 }
 
-/// Whether the value is one of at most `NLA_VALUE_MAX` bytes, so that a length field of 16 bits can
+/// Returns whether the value has at most `NLA_VALUE_MAX` bytes, so that the 16-bit length field can
 /// count it and its header.
 #[inline]
 pub fn nla_fits<T: Nla>(nla: &T) -> bool
@@ -69,11 +69,11 @@ pub fn nla_fits<T: Nla>(nla: &T) -> bool
     nla.value_len() <= NLA_VALUE_MAX
 }
 
-/// Writes the attribute at the start of the buffer, its padding with zeros, and leaves the rest.
-/// The kind is written as it is. Asks for no memory.
+/// Writes the attribute at the start of `buffer`, with its kind unchanged and padded with zeros,
+/// and leaves the rest unchanged. Does not allocate.
 ///
-/// The value has at most `NLA_VALUE_MAX` bytes, as `nla_fits` tells, and the buffer at least the
-/// `nla_buffer_len` bytes that are written.
+/// Requires that the value has at most `NLA_VALUE_MAX` bytes, which `nla_fits` checks, and that
+/// `buffer` has at least `nla_buffer_len` bytes.
 #[tactic(auto, using(crate::specs::Sizes::written_sizes))]
 #[inline]
 pub fn emit_nla<T: Nla>(nla: &T, buffer: &mut [u8])

@@ -1,4 +1,4 @@
-//! Attributes one after another, written.
+//! Writing attributes one after another.
 
 ghost use Rattle.std.specs.Prelude.{◌≡◌, ◌≤◌, ◌++◌, [], None, IfErr, IfOk, IsOk, true, drop, length};
 ghost use Rattle.netlink_bytes.specs.declared.error.DecodeError.{DecodeError};
@@ -9,7 +9,7 @@ use crate::nla::{Nla, emit_nla, nla_buffer_len};
 use netlink_bytes::{DecodeError, Emitable};
 use std::alloc::Global;
 
-/// Attributes that are written one after another, each with its padding.
+/// Attributes to be written one after another, each with its padding.
 #[derive(Debug)]
 #[derive_where(Clone, Copy)]
 pub struct Nlas<'a, T: Nla>(pub &'a [T]);
@@ -29,9 +29,9 @@ impl<'a, T: Nla> Emitable for Nlas<'a, T> {
         size
     }
 
-    /// Writes the attributes at the start of the buffer, and leaves the rest. What is written walks
-    /// as the list. Each value has at most `NLA_VALUE_MAX` bytes, and the buffer at least
-    /// `buffer_len` bytes.
+    /// Writes the attributes at the start of `buffer` and leaves the rest unchanged. Walking what
+    /// is written yields the list. Requires that each value has at most `NLA_VALUE_MAX` bytes, and
+    /// that `buffer` has at least `buffer_len` bytes.
     fn emit(&self, buffer: &mut [u8])
         requires can { AllFit T.value_of self.now.0.now }
         requires room { length (written_block T.kind_of T.value_of self.now.0.now)
@@ -50,10 +50,10 @@ impl<'a, T: Nla> Emitable for Nlas<'a, T> {
     }
 }
 
-/// The block that `Nlas` writes of these attributes, in a vector of its own.
+/// Returns the block that `Nlas` writes for these attributes, in a vector of its own.
 ///
-/// Each value has at most `NLA_VALUE_MAX` bytes, as `nla_fits` tells. The only error is
-/// `OutOfMemory`, and for no attributes no memory is asked.
+/// Requires that each value has at most `NLA_VALUE_MAX` bytes, which `nla_fits` checks. Returns
+/// `OutOfMemory` if an allocation fails, and no other error. Does not allocate if `nlas` is empty.
 #[tactic(auto, using(crate::specs::Sizes::written_sizes))]
 pub fn write_nlas<T: Nla>(alloc: Global, nlas: &[T]) -> Result<Vec<u8>, DecodeError>
     requires fit { AllFit T.value_of nlas.now }

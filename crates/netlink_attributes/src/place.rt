@@ -1,4 +1,4 @@
-//! Where an attribute lies in its block, and its value written in place.
+//! The location of an attribute in its block, and overwriting its value in place.
 
 ghost use Rattle.std.specs.Prelude.{◌≡◌, ◌≤◌, ◌↔◌, List, Option, IfSome, IsTrue, OnSome, IsNone, false, length};
 ghost use Rattle.std.specs.Borrow.{LendsSo, Array, sem, u8 as byte};
@@ -10,14 +10,14 @@ ghost use Rattle.netlink_attributes.specs.Walk.{Walk};
 use crate::constants::NLA_HEADER_SIZE;
 use crate::iterator::NlasIterator;
 
-/// The range of a value that is not there: its start is behind its end.
+/// The range of a value that does not exist: its start is after its end.
 const NO_RANGE: (usize, usize) = (1, 0);
 
-/// Where the value of the attribute with this index starts and ends, in bytes from the block's
-/// start.
+/// Returns where the value of the attribute at `index` starts and ends, in bytes from the start of
+/// the block.
 ///
-/// The index counts from 0, and an attribute in front of a fault has one too. `None` is answered
-/// exactly where there is no such attribute. Asks for no memory.
+/// `index` counts from 0 and includes attributes before an error. Returns `None` if and only if
+/// there is no such attribute. Does not allocate.
 pub fn nla_place(block: &[u8], index: usize) -> Option<(usize, usize)>
     ensures place { IsPlace block.now index result }
     ensures inside { IfSome result
@@ -40,11 +40,11 @@ pub fn nla_place(block: &[u8], index: usize) -> Option<(usize, usize)>
     None
 }
 
-/// Writes a value over that of the attribute with this index, which counts from 0, also in front of
-/// a fault.
+/// Overwrites the value of the attribute at `index`, which counts from 0, even if the block is
+/// malformed further on.
 ///
-/// True exactly where there is such an attribute and its value has the same size in bytes;
-/// otherwise the block stays as it was. Asks for no memory.
+/// Returns true if and only if there is such an attribute and its value has the same size as
+/// `value`. Otherwise the block is unchanged. Does not allocate.
 pub fn write_nla_value(block: &mut [u8], index: usize, value: &[u8]) -> bool
     ensures answer { (all : List Attribute) (fault : Option DecodeError) → Walk block.old all fault
         → IsTrue result ↔ HasValueOf all index (length value.now) }
@@ -60,15 +60,15 @@ pub fn write_nla_value(block: &mut [u8], index: usize, value: &[u8]) -> bool
     }
 }
 
-/// The value of the attribute with this index, lent for writing: its bytes become what is written,
-/// and no others change.
+/// Mutably borrows the value of the attribute at `index`: its bytes become what is written, and no
+/// other bytes change.
 ///
-/// The index counts from 0, and an attribute in front of a fault has one too. `None` is answered
-/// exactly where there is no such attribute, and the block is then as it was. Asks for no memory.
+/// `index` counts from 0 and includes attributes before an error. Returns `None`, and leaves the
+/// block unchanged, if and only if there is no such attribute. Does not allocate.
 ///
-/// A caller without a proof by hand learns whether there is such an attribute, what the reference
-/// held, and that the block keeps its length; not which bytes the block then holds. These teach
-/// that too: `write_nla_value`; `nla_place` and then an index, as `block[start..end]`; and
+/// A generated proof of a caller knows whether the attribute exists, what the reference held, and
+/// that the block keeps its length, but not which bytes the block then holds. If your proof needs
+/// those too, use `write_nla_value`, or `nla_place` followed by `block[start..end]`, or
 /// `NlaBuffer::value_mut` for the bytes of one attribute.
 pub fn nlas_value_mut(block: &mut [u8], index: usize) -> Option<&mut [u8]>
     ensures* writes_back { sem 𝓛 (LendsSo (Array byte 0) (Array byte 0) block.entry result
@@ -85,8 +85,9 @@ pub fn nlas_value_mut(block: &mut [u8], index: usize) -> Option<&mut [u8]>
     Some(&mut block[start..end])
 }
 
-/// Where the value of the attribute with this index starts and ends, and the block itself: a lent
-/// block is proved by hand, which is short for two numbers and long for an `Option`.
+/// Returns where the value of the attribute at `index` starts and ends, and the block itself. A
+/// function that returns a reborrowed block is proved by hand, which is short for two numbers and
+/// long for an `Option`.
 fn ranged(block: &mut [u8], index: usize) -> (usize, usize, &mut [u8])
     ensures same { result.2.ghost_name ≡ block.entry.ghost_name }
     ensures bytes { result.2.now ≡ block.old }
@@ -97,7 +98,7 @@ fn ranged(block: &mut [u8], index: usize) -> (usize, usize, &mut [u8])
     (start, end, block)
 }
 
-/// Where that value starts and ends; without such an attribute it is `NO_RANGE`.
+/// Returns where that value starts and ends, or `NO_RANGE` if there is no such attribute.
 fn value_range(block: &[u8], index: usize) -> (usize, usize)
     ensures range { IsRange block.now index result.0 result.1 }
     ensures inside { result.1 ≤ length block.now }

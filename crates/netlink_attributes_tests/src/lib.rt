@@ -1,7 +1,6 @@
-//! The tests of `netlink_attributes`, over its public calls: attributes, walks over them, blocks.
+//! The tests of `netlink_attributes`, of its public functions: attributes, walks over them, blocks.
 //!
-//! They are a crate of their own, since a crate that has tests is proved twice, with them and
-//! without.
+//! They are a separate crate because a crate that has tests is proved twice, with them and without.
 #![tactic(auto)]
 
 #[cfg(test)]

@@ -1,4 +1,4 @@
-//! Worked rows of each public call, and the two tests of the Rust crate.
+//! Test cases for each public function, and the two tests of the Rust crate.
 
 mod canonical;
 mod cuts;

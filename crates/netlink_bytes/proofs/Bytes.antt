@@ -1,4 +1,4 @@
--- std's words for the bytes of a number are those of `Numbers`.
+-- std's bytes of an integer are those of `Numbers`.
 use Rattle.std.proofs.Common.{◌≡◌, ℕ, zero, suc, ◌+◌, ◌*◌, ◌/◌, ◌%◌, ◌^◌, ◌<◌, List, [], ◌∷◌, ◌++◌, length, reverse, slice_index, ℤ, pos, negsuc, refl, sym, ap, ◌∙◌, arith}
 use Rattle.std.proofs.Math.Nat.{div-div-eq-div-mul, div-one, pow-suc, pow-succ', mul_assoc, mul_comm}
 use Rattle.std.proofs.lemmas.List.{length-reverse}
@@ -13,7 +13,7 @@ byte_at-pow : (k x : ℕ) → byte_at k x ≡ x / 256 ^ k % 256
 byte_at-pow zero x = ap (λ (y : ℕ). y % 256) (sym (div-one x))
 byte_at-pow (suc k) x = refl
 
--- k bytes of n from byte i are the text of what is left of n above byte i
+-- n / 256^i encoded in k bytes is the k bytes of n from byte i
 low_first : (i k n : ℕ) → bytes_le (n / 256 ^ i) k ≡ bytes_low_first i k n
 unfolding bytes_le
 low_first i zero n = refl
@@ -55,7 +55,7 @@ bytes_be_16 n = text_high_first 16 n
 
 -- ---- what a reader reads
 
--- the number in the n bytes from place i, the lowest first and the highest first
+-- the integer in the n bytes from index i, little-endian and big-endian
 number_from : ℕ → ℕ → List ℕ → ℕ
 number_from i zero bs = 0
 number_from i (suc n) bs = slice_index bs i + 256 * number_from (suc i) n bs
@@ -84,7 +84,7 @@ number_le_all (suc n) (b ∷ bs) e =
     let moved = number_from-cons 0 n b bs in
     omega (arith, rest, moved)
 
--- a byte behind the others is worth 256 to the power of their number
+-- a byte that follows others is worth 256 to the power of their number
 number_le_last : (bs : List ℕ) (b : ℕ) → number_le (bs ++ b ∷ []) ≡ number_le bs + b * 256 ^ length bs
 unfolding number_le
 number_le_last [] b = omega arith
@@ -142,7 +142,7 @@ pub number_be_16 : (bs : List ℕ) → length bs ≡ 16 → number_be bs ≡ fro
 unfolding high_from
 number_be_16 bs e = let whole = number_be_all 16 bs e in omega arith
 
--- ---- signed numbers
+-- ---- signed integers
 
 pub signed_2 : (n : ℕ) → n < 2 ^ 16 → signed 2 n ≡ cast_signed w16 n
 unfolding signed
@@ -190,10 +190,10 @@ pub signed_1 : (n : ℕ) → n < 2 ^ 8 → signed 1 n ≡ cast_signed w8 n
 unfolding signed
 signed_1 n h = grind (arith, ints)
 
--- what a proof of a single byte needs
+-- what a proof about a single byte needs
 pub ruleset single_byte = (number_le_1, signed_1)
 
--- what a proof of a reader or a writer needs
+-- what a proof about a reader or a writer needs
 pub ruleset numbers_as_bytes = (
   number_le_2,
   number_be_2,

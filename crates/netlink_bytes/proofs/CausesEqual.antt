@@ -1,11 +1,12 @@
--- Two causes are equal by the derived `==` exactly if nobody can tell them apart.
+-- Two errors are equal by the derived `==` if and only if nothing distinguishes them.
 use Rattle.std.proofs.Common.{◌≡◌, ◌≤◌, ◌↔◌, ◌&&◌, ◌==◌, ℕ, suc, Bool, true, false, List, [], ◌∷◌, get_or, IsTrue, nat_eq, inl, inr, refl, sym, ap, ◌∙◌, arith}
 use Rattle.std.proofs.lemmas.Bool.{and_from, and_parts}
 use Rattle.std.proofs.lemmas.Bool.Decides.{Decides-eqb}
 use Rattle.std.proofs.Math.Bool.{beq}
 use Rattle.std.specs.Cmp.{booleans_Decides}
 use Rattle.std.specs.Cmp.Lexicographic.{bytes_decides, pointwise}
-use Rattle.std.specs.Prelude.{string_bytes}
+use Rattle.std.specs.Prelude.{String, string_bytes}
+use Rattle.std.specs.declared.alloc.Global.{Global}
 use denote.Enum.Compared.{Each, by}
 use denote.Enum.Declared.{Choice}
 use denote.Struct.Field.{Field}
@@ -16,49 +17,55 @@ use Rattle.netlink_bytes.specs.contracts.error.DecodeErrorPartialEq.TheImpl
 use Rattle.netlink_bytes.specs.declared.error.DecodeError.{DecodeError}
 use Rattle.netlink_bytes.specs.declared.error.DecodeError.TheVariants.{InvalidBuffer, InvalidMacAddress, InvalidIpAddress, InvalidNumber, NlaBufferTooSmall, NlaLengthMismatch, NlaInvalidLength, BufferTooSmall, FrameShort, FrameCut, FrameLength, DoneShort, ErrorShort, Message, TooLong, OutOfMemory}
 
--- ---- any enum whose variants tell what they hold
+-- ---- any enum whose variants are distinguished by what they hold
 
--- what a cause holds: its text, its sizes, and whether it is inside
+-- what an error holds: its text, its sizes, and whether it is inside
 abbrev Held : Type 0
 Held = List ℕ × (List ℕ × Bool)
 
--- what a value of each variant holds
-abbrev Holds : List (List Field) → Type 0
-Holds [] = Unit {0}
-Holds (Fs ∷ Fss) = (Values Fs → Held) × Holds Fss
+-- how the derived `==` compares two values of a variant, what a value holds, and that two are equal
+-- if and only if they hold the same
+record Shape (V : Type 0) : Type 0 where
+  same : V → V → Bool
+  holds : V → Held
+  tells : (x y : V) → IsTrue (same x y) ↔ (holds x ≡ holds y)
 
--- the number of the variant, counted from n on, and what it holds
-abbrev held_from : ℕ → (Fss : List (List Field)) → Holds Fss → Choice Fss → ℕ × Held
-held_from n [] holds c = absurd c
-held_from n (Fs ∷ Fss) holds (inl x) = (n, holds.0 x)
-held_from n (Fs ∷ Fss) holds (inr c) = held_from (suc n) Fss holds.1 c
+-- a shape for each variant
+abbrev Shapes : List (List Field) → Type 0
+Shapes [] = Unit {0}
+Shapes (Fs ∷ Fss) = Shape (Values Fs) × Shapes Fss
 
-counted_from : (n : ℕ) (Fss : List (List Field)) (holds : Holds Fss) (c : Choice Fss) → n ≤ (held_from n Fss holds c).0
-counted_from n [] holds c = absurd c
-counted_from n (Fs ∷ Fss) holds (inl x) = omega arith
-counted_from n (Fs ∷ Fss) holds (inr c) = let rest = counted_from (suc n) Fss holds.1 c in omega (arith, rest)
+abbrev each_of : (Fss : List (List Field)) → Shapes Fss → Each Bool Fss
+each_of [] shapes = tt
+each_of (Fs ∷ Fss) shapes = (shapes.0.same, each_of Fss shapes.1)
 
--- two values of one variant are equal exactly if they hold the same
-abbrev Tell : (Fss : List (List Field)) → Each Bool Fss → Holds Fss → Type 0
-Tell [] each holds = Unit {0}
-Tell (Fs ∷ Fss) each holds = ((x y : Values Fs) → IsTrue (each.0 x y) ↔ (holds.0 x ≡ holds.0 y)) × Tell Fss each.1 holds.1
+-- the number of the variant, counted from n, and what it holds
+abbrev held_from : ℕ → (Fss : List (List Field)) → Shapes Fss → Choice Fss → ℕ × Held
+held_from n [] shapes c = absurd c
+held_from n (Fs ∷ Fss) shapes (inl x) = (n, shapes.0.holds x)
+held_from n (Fs ∷ Fss) shapes (inr c) = held_from (suc n) Fss shapes.1 c
 
--- then so are two values of any
-tell_apart : (n : ℕ) (Fss : List (List Field)) (each : Each Bool Fss) (holds : Holds Fss) → Tell Fss each holds
-    → (c d : Choice Fss) → IsTrue (by false false Fss each c d) ↔ (held_from n Fss holds c ≡ held_from n Fss holds d)
-tell_apart n [] each holds tell c d = absurd c
-tell_apart n (Fs ∷ Fss) each holds tell (inl x) (inl y) =
-    let here = tell.0 x y in
+counted_from : (n : ℕ) (Fss : List (List Field)) (shapes : Shapes Fss) (c : Choice Fss) → n ≤ (held_from n Fss shapes c).0
+counted_from n [] shapes c = absurd c
+counted_from n (Fs ∷ Fss) shapes (inl x) = omega arith
+counted_from n (Fs ∷ Fss) shapes (inr c) = let rest = counted_from (suc n) Fss shapes.1 c in omega (arith, rest)
+
+-- two values of any variants are equal if and only if they are of the same variant and hold the same
+tell_apart : (n : ℕ) (Fss : List (List Field)) (shapes : Shapes Fss) (c d : Choice Fss)
+    → IsTrue (by false false Fss (each_of Fss shapes) c d) ↔ (held_from n Fss shapes c ≡ held_from n Fss shapes d)
+tell_apart n [] shapes c d = absurd c
+tell_apart n (Fs ∷ Fss) shapes (inl x) (inl y) =
+    let here = shapes.0.tells x y in
     (λ e. ap (λ (h : Held). (n, h)) (here.0 e), λ e. here.1 (ap (λ (p : ℕ × Held). p.1) e))
-tell_apart n (Fs ∷ Fss) each holds tell (inl x) (inr d) =
-    let more = counted_from (suc n) Fss holds.1 d in
+tell_apart n (Fs ∷ Fss) shapes (inl x) (inr d) =
+    let more = counted_from (suc n) Fss shapes.1 d in
     (λ e. absurd (cc), λ e. let same = ap (λ (p : ℕ × Held). p.0) e in absurd (omega (arith, more, same)))
-tell_apart n (Fs ∷ Fss) each holds tell (inr c) (inl y) =
-    let more = counted_from (suc n) Fss holds.1 c in
+tell_apart n (Fs ∷ Fss) shapes (inr c) (inl y) =
+    let more = counted_from (suc n) Fss shapes.1 c in
     (λ e. absurd (cc), λ e. let same = ap (λ (p : ℕ × Held). p.0) e in absurd (omega (arith, more, same)))
-tell_apart n (Fs ∷ Fss) each holds tell (inr c) (inr d) = tell_apart (suc n) Fss each.1 holds.1 tell.1 c d
+tell_apart n (Fs ∷ Fss) shapes (inr c) (inr d) = tell_apart (suc n) Fss shapes.1 c d
 
--- ---- what causes of each shape hold
+-- ---- what errors of each shape hold
 
 abbrev held : List ℕ → List ℕ → Bool → Held
 held text sizes inside = (text, (sizes, inside))
@@ -168,142 +175,45 @@ named_tells t x u y =
           (and_from _ _ (first.1 (ap (size_in 0) e)) (later.1 (ap (size_in 1) e))),
     )
 
--- ---- the causes, in their order
+-- ---- the errors, in order
 
--- how the derived `==` compares two of each
-abbrev each : Each Bool the_parts
-each = (
-  λ x y. named_same (string_bytes x.0) x.1 (string_bytes y.0) y.1,
-  (
-    one_same,
-    (
-      one_same,
-      (
-        two_same,
-        (
-          two_same,
-          (
-            two_same,
-            (
-              two_same,
-              (
-                two_same,
-                (
-                  marked_same,
-                  (
-                    marked_two_same,
-                    (
-                      marked_same,
-                      (
-                        marked_same,
-                        (
-                          marked_same,
-                          (λ x y. text_same (string_bytes x.0) (string_bytes y.0), (λ x y. true, (λ x y. true, tt))),
-                        ),
-                      ),
-                    ),
-                  ),
-                ),
-              ),
-            ),
-          ),
-        ),
-      ),
-    ),
-  ),
-)
+abbrev one : Shape One
+one = record { same = one_same; holds = one_holds; tells = one_tells }
 
-abbrev holds : Holds the_parts
-holds = (
-  λ x. named_holds (string_bytes x.0) x.1,
-  (
-    one_holds,
-    (
-      one_holds,
-      (
-        two_holds,
-        (
-          two_holds,
-          (
-            two_holds,
-            (
-              two_holds,
-              (
-                two_holds,
-                (
-                  marked_holds,
-                  (
-                    marked_two_holds,
-                    (
-                      marked_holds,
-                      (
-                        marked_holds,
-                        (
-                          marked_holds,
-                          (λ x. text_holds (string_bytes x.0), (λ x. held [] [] false, (λ x. held [] [] false, tt))),
-                        ),
-                      ),
-                    ),
-                  ),
-                ),
-              ),
-            ),
-          ),
-        ),
-      ),
-    ),
-  ),
-)
+abbrev two : Shape Two
+two = record { same = two_same; holds = two_holds; tells = two_tell }
 
-told : Tell the_parts each holds
-told = (
-  λ x y. named_tells (string_bytes x.0) x.1 (string_bytes y.0) y.1,
-  (
-    one_tells,
-    (
-      one_tells,
-      (
-        two_tell,
-        (
-          two_tell,
-          (
-            two_tell,
-            (
-              two_tell,
-              (
-                two_tell,
-                (
-                  marked_tells,
-                  (
-                    marked_two_tell,
-                    (
-                      marked_tells,
-                      (
-                        marked_tells,
-                        (
-                          marked_tells,
-                          (
-                            λ x y. text_tells (string_bytes x.0) (string_bytes y.0),
-                            (λ x y. (λ e. refl, λ e. refl), (λ x y. (λ e. refl, λ e. refl), tt)),
-                          ),
-                        ),
-                      ),
-                    ),
-                  ),
-                ),
-              ),
-            ),
-          ),
-        ),
-      ),
-    ),
-  ),
-)
+abbrev mark : Shape Marked
+mark = record { same = marked_same; holds = marked_holds; tells = marked_tells }
+
+abbrev pair : Shape MarkedTwo
+pair = record { same = marked_two_same; holds = marked_two_holds; tells = marked_two_tell }
+
+-- no fields
+abbrev bare : Shape (Unit {0})
+bare = record { same = λ x y. true; holds = λ x. held [] [] false; tells = λ x y. (λ e. refl, λ e. refl) }
+
+abbrev words : Shape (String Global × Unit {0})
+words = record {
+  same = λ x y. text_same (string_bytes x.0) (string_bytes y.0);
+  holds = λ x. text_holds (string_bytes x.0);
+  tells = λ x y. text_tells (string_bytes x.0) (string_bytes y.0);
+}
+
+abbrev named : Shape (String Global × Two)
+named = record {
+  same = λ x y. named_same (string_bytes x.0) x.1 (string_bytes y.0) y.1;
+  holds = λ x. named_holds (string_bytes x.0) x.1;
+  tells = λ x y. named_tells (string_bytes x.0) x.1 (string_bytes y.0) y.1;
+}
+
+abbrev shapes : Shapes the_parts
+shapes = (named, (one, (one, (two, (two, (two, (two, (two, (mark, (pair, (mark, (mark, (mark, (words, (bare, (bare, tt))))))))))))))))
 
 abbrev held_cause : DecodeError → ℕ × Held
 held_cause e = (cause_number e, held (held_text e) (held_sizes e) (is_inside e))
 
-as_held : (e : DecodeError) → held_from 1 the_parts holds (as_values e) ≡ held_cause e
+as_held : (e : DecodeError) → held_from 1 the_parts shapes (as_values e) ≡ held_cause e
 as_held (InvalidBuffer name received minimum_length) = refl
 as_held (InvalidMacAddress received) = refl
 as_held (InvalidIpAddress received) = refl
@@ -323,7 +233,7 @@ as_held OutOfMemory = refl
 
 pub causes_equal : (a b : DecodeError) → IsTrue (TheImpl.ghosts.eq a b) ↔ SameCause a b
 causes_equal a b =
-    let apart = tell_apart 1 the_parts each holds told (as_values a) (as_values b) in (
+    let apart = tell_apart 1 the_parts shapes (as_values a) (as_values b) in (
       λ e. let same = sym (as_held a) ∙ apart.0 e ∙ as_held b in record {
         number = ap (λ (h : ℕ × Held). h.0) same;
         text = ap (λ (h : ℕ × Held). h.1.0) same;

@@ -1,4 +1,4 @@
--- The bytes without a zero at their end, by the item that stands there.
+-- The bytes without a zero at their end, by cases on the last byte.
 use Rattle.std.proofs.Common.{◌≡◌, ◌<◌, ℕ, zero, suc, List, [], ◌∷◌, length, take, get_or, refl, ap, arith}
 use Rattle.netlink_bytes.specs.Text.{without_last_zero}
 

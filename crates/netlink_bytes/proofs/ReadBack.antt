@@ -1,4 +1,4 @@
--- The laws of numbers and their bytes.
+-- The laws about integers and their encodings.
 use Rattle.std.proofs.Common.{◌≡◌, ℕ, suc, ◌+◌, ◌*◌, ◌^◌, List, [], ◌∷◌, reverse, ap, ◌∙◌, refl, arith}
 use Rattle.std.proofs.Math.Nat.{mul-add, mul_assoc, mul_comm, pow-suc}
 use Rattle.netlink_bytes.specs.Laws.{NumberIsSum, TextIsBytes, TextReadsBack, BytesReadBack, SignedReadsBack, UnsignedReadsBack, WrittenIsRead, WrittenSignedIsRead, weighed}

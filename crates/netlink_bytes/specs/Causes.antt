@@ -1,9 +1,9 @@
--- The causes of a refusal: the number of each, and its text.
+-- The errors: the number and the text of each.
 use Rattle.std.specs.Prelude.{◌≡◌, ℕ, Bool, true, false, List, [], ◌∷◌, ◌++◌, codes, decimal, string_bytes}
 use Rattle.netlink_bytes.specs.declared.error.DecodeError.{DecodeError}
 use Rattle.netlink_bytes.specs.declared.error.DecodeError.TheVariants.{InvalidBuffer, InvalidMacAddress, InvalidIpAddress, InvalidNumber, NlaBufferTooSmall, NlaLengthMismatch, NlaInvalidLength, BufferTooSmall, FrameShort, FrameCut, FrameLength, DoneShort, ErrorShort, Message, TooLong, OutOfMemory}
 
--- the number of a cause
+-- the number of an error
 abbrev pub cause_number : DecodeError → ℕ
 cause_number (InvalidBuffer name received minimum_length) = 1
 cause_number (InvalidMacAddress received) = 2
@@ -22,7 +22,7 @@ cause_number (Message text) = 14
 cause_number TooLong = 15
 cause_number OutOfMemory = 16
 
--- the lines that stand in front of a fault that is found inside a larger call
+-- the line before the text of an error: empty unless the error was detected inside a larger call
 abbrev pub frame_line : Bool → List ℕ
 frame_line true = codes "failed deserializing NetlinkMessage caused by "
 frame_line false = []
@@ -35,7 +35,7 @@ abbrev pub error_line : Bool → List ℕ
 error_line true = codes "failed parsing NLMSG_ERROR caused by "
 error_line false = []
 
--- the text of a cause
+-- the text of an error
 abbrev pub cause_text : DecodeError → List ℕ
 cause_text (InvalidBuffer name received minimum_length) =
     codes "Invalid buffer "
@@ -89,32 +89,33 @@ cause_text (Message text) = string_bytes text
 cause_text TooLong = codes "message does not fit a 32-bit length"
 cause_text OutOfMemory = codes "out of memory"
 
--- free text of these bytes, or memory was refused for it
+-- the error is `Message` with these bytes as its text, or `OutOfMemory`
 abbrev pub HoldsText : List ℕ → DecodeError → Type 0
 HoldsText text (Message held) = string_bytes held ≡ text
 HoldsText text OutOfMemory = Unit {0}
 HoldsText text _ = ⊥
 
--- free text that begins so, or memory was refused for it
+-- the error is `Message` with a text that begins with these bytes, or `OutOfMemory`
 abbrev pub TextBegins : List ℕ → DecodeError → Type 0
 TextBegins front (Message held) = (rest : List ℕ) × (string_bytes held ≡ front ++ rest)
 TextBegins front OutOfMemory = Unit {0}
 TextBegins front _ = ⊥
 
--- a buffer that is too short, by this name and with these sizes, or memory was refused for the name
+-- the error is `InvalidBuffer` with this name, this size received and this minimum, or
+-- `OutOfMemory`
 abbrev pub IsInvalidBuffer : List ℕ → ℕ → ℕ → DecodeError → Type 0
 IsInvalidBuffer name received minimum_length (InvalidBuffer held got least) =
     (string_bytes held ≡ name) × (got ≡ received) × (least ≡ minimum_length)
 IsInvalidBuffer name received minimum_length OutOfMemory = Unit {0}
 IsInvalidBuffer name received minimum_length _ = ⊥
 
--- the text that a cause holds, which the others do without
+-- the text that an error holds; variants without one hold the empty text
 abbrev pub held_text : DecodeError → List ℕ
 held_text (InvalidBuffer name received minimum_length) = string_bytes name
 held_text (Message text) = string_bytes text
 held_text _ = []
 
--- the sizes and lengths that a cause holds, in their order
+-- the sizes and lengths that an error holds, in the order of its fields
 abbrev pub held_sizes : DecodeError → List ℕ
 held_sizes (InvalidBuffer name received minimum_length) = received ∷ minimum_length ∷ []
 held_sizes (InvalidMacAddress received) = received ∷ []
@@ -131,7 +132,7 @@ held_sizes (DoneShort size inside) = size ∷ []
 held_sizes (ErrorShort size inside) = size ∷ []
 held_sizes _ = []
 
--- the fault was found inside a larger call
+-- whether the error was detected inside a larger call
 abbrev pub is_inside : DecodeError → Bool
 is_inside (FrameShort size inside) = inside
 is_inside (FrameCut length size inside) = inside
@@ -140,7 +141,7 @@ is_inside (DoneShort size inside) = inside
 is_inside (ErrorShort size inside) = inside
 is_inside _ = false
 
--- two causes that nobody can tell apart
+-- two errors that nothing distinguishes
 pub record SameCause (a b : DecodeError) : Type 0 where
   pub number : cause_number a ≡ cause_number b
   pub text : held_text a ≡ held_text b

@@ -1,4 +1,4 @@
--- Numbers at their places in bytes, and bytes whose fields were read and are written again.
+-- Integers at byte offsets, and bytes whose fields are read and written again.
 use Rattle.std.specs.Prelude.{◌≡◌, ◌<◌, ◌≤◌, ℕ, ◌+◌, ◌-◌, ◌^◌, List, [], ◌∷◌, ◌++◌, length, slice_range, take, drop, sum}
 use Rattle.std.proofs.Common.{ap, arith, sym, ◌∙◌, append_assoc, append-nil, length-drop}
 use Rattle.std.proofs.lemmas.List.{drop-drop, drop_all, drop_at, length-take-le}
@@ -7,24 +7,24 @@ use Rattle.netlink_bytes.specs.Numbers.{IsBytes, number_le, signed, bytes_le, un
 use Rattle.netlink_bytes.specs.NumberLaws.{IsBytes-drop, front-fits, number_le-bytes_le, split_number, take-bytes_le, unsigned-signed}
 use Rattle.netlink_bytes.specs.Storage.{put_at}
 
--- the number of the w bytes from a place on
+-- the integer in the w bytes at an offset
 abbrev pub number_at : ℕ → ℕ → List ℕ → ℕ
 number_at at w bytes = number_le (slice_range bytes at (at + w))
 
--- the numbers of these widths that stand one behind another from a place on, written again
+-- consecutive fields of these widths, starting at an offset, read and written again
 abbrev pub fields_at : ℕ → List ℕ → List ℕ → List ℕ
 fields_at at [] bytes = []
 fields_at at (w ∷ []) bytes = bytes_le (number_at at w bytes) w
 fields_at at (w ∷ v ∷ widths) bytes =
     bytes_le (number_at at w bytes) w ++ fields_at (at + w) (v ∷ widths) bytes
 
--- fields that were read and are written again are the bytes that they were read from
+-- reading fields and writing them again gives the bytes that were read
 abbrev pub FieldsKept : Type 0
 FieldsKept =
     (at : ℕ) (widths bytes : List ℕ) → IsBytes bytes → at + sum widths ≤ length bytes
     → drop at bytes ≡ fields_at at widths bytes ++ drop (at + sum widths) bytes
 
--- a number that is put at a place is read there
+-- an integer written at an offset is what is read there
 abbrev pub PlacedIsRead : Type 0
 PlacedIsRead =
     (bytes : List ℕ) (at w n : ℕ) → at ≤ length bytes → n < 256 ^ w
@@ -41,14 +41,14 @@ number_at-drop at w bytes =
 enough : (at w : ℕ) (bytes : List ℕ) → at + w ≤ length bytes → w ≤ length (drop at bytes)
 enough at w bytes long = omega (arith, length-drop at bytes)
 
--- the number at a place fits its width
+-- the integer at an offset fits its width
 pub number_at-fits : (at w : ℕ) (bytes : List ℕ) → IsBytes bytes → at + w ≤ length bytes
     → number_at at w bytes < 256 ^ w
 number_at-fits at w bytes each long =
     let fits = front-fits w (drop at bytes) (IsBytes-drop at bytes each) (enough at w bytes long) in
     rw (number_at-drop at w bytes) fits
 
--- bytes from a place on are the text of the number there, and what follows it
+-- the bytes from an offset are the encoding of the integer there and what follows it
 pub number_at-text : (at w : ℕ) (bytes : List ℕ) → IsBytes bytes → at + w ≤ length bytes
     → drop at bytes ≡ bytes_le (number_at at w bytes) w ++ drop (at + w) bytes
 number_at-text at w bytes each long =
@@ -57,7 +57,7 @@ number_at-text at w bytes each long =
     (drop-drop w at bytes)
     ∙ ap (λ (n : ℕ). bytes_le n w ++ drop (at + w) bytes) (sym (number_at-drop at w bytes))
 
--- the text of a number that was read with its sign is that of the number without
+-- an integer that was read as signed is encoded as the bytes of the unsigned one
 pub number_at-signed : (at w : ℕ) (bytes : List ℕ) → IsBytes bytes → at + w ≤ length bytes
     → bytes_le (unsigned w (signed w (number_at at w bytes))) w ≡ bytes_le (number_at at w bytes) w
 number_at-signed at w bytes each long =
@@ -83,7 +83,7 @@ fields_kept at (w ∷ v ∷ widths) bytes each long =
     ∙ sym (append_assoc (bytes_le (number_at at w bytes) w) (fields_at (at + w) (v ∷ widths) bytes)
     (drop (at + sum (w ∷ v ∷ widths)) bytes))
 
--- bytes of the size of their fields are these
+-- the same for bytes of exactly the size of their fields
 pub all_fields_kept : (widths bytes : List ℕ) → IsBytes bytes → length bytes ≡ sum widths
     → fields_at 0 widths bytes ≡ bytes
 all_fields_kept widths bytes each size =

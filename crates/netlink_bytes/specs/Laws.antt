@@ -1,37 +1,38 @@
--- What holds of numbers and their bytes at every width.
+-- Facts about integers and their encodings at every width.
 use Rattle.std.specs.Prelude.{◌≡◌, ◌<◌, ◌+◌, ◌*◌, ◌%◌, ◌^◌, ℕ, ℤ, suc, List, [], ◌∷◌, ◌++◌, length, reverse, take}
 use Rattle.netlink_bytes.specs.Numbers.{IsBytes, IsSigned, number_le, number_be, bytes_le, bytes_be, signed, unsigned}
 
--- byte 0 times 256 to the power i, byte 1 times 256 to the power i + 1, and so on, added up
+-- byte 0 times 256^i, plus byte 1 times 256^(i + 1), and so on
 abbrev pub weighed : ℕ → List ℕ → ℕ
 weighed i [] = 0
 weighed i (b ∷ bytes) = b * 256 ^ i + weighed (suc i) bytes
 
--- the number of bytes is the sum of each by its place
+-- bytes encode the sum of each byte times the power for its position
 abbrev pub NumberIsSum : Type 0
 NumberIsSum =
     (bytes : List ℕ) → (number_le bytes ≡ weighed 0 bytes)
     × (number_be bytes ≡ weighed 0 (reverse bytes))
 
--- a text of w bytes is a list of w bytes
+-- an encoding in w bytes is a list of w bytes
 abbrev pub TextIsBytes : Type 0
 TextIsBytes =
     (n w : ℕ) → (length (bytes_le n w) ≡ w) × (length (bytes_be n w) ≡ w) × IsBytes (bytes_le n w)
     × IsBytes (bytes_be n w)
 
--- the number of a text of w bytes is the remainder by 256 to the power w
+-- an encoding in w bytes decodes to n modulo 256^w
 abbrev pub TextReadsBack : Type 0
 TextReadsBack =
     (n w : ℕ) → (number_le (bytes_le n w) ≡ n % 256 ^ w) × (number_be (bytes_be n w) ≡ n % 256 ^ w)
 
--- bytes are the text of their number, which fits them
+-- encoding what w bytes decode to, which is less than 256^w, gives those bytes
 abbrev pub BytesReadBack : Type 0
 BytesReadBack =
     (bytes : List ℕ) (w : ℕ) → length bytes ≡ w → IsBytes bytes
     → (bytes_le (number_le bytes) w ≡ bytes) × (bytes_be (number_be bytes) w ≡ bytes)
     × (number_le bytes < 256 ^ w) × (number_be bytes < 256 ^ w)
 
--- a signed number stands for one number of its width, which stands for it
+-- a signed integer and the unsigned one that represents it determine each other, at each width of
+-- at least one byte
 abbrev pub SignedReadsBack : Type 0
 SignedReadsBack =
     (w : ℕ) (z : ℤ) → IsSigned (suc w) z
@@ -42,7 +43,7 @@ UnsignedReadsBack =
     (w n : ℕ) → n < 256 ^ suc w
     → IsSigned (suc w) (signed (suc w) n) × (unsigned (suc w) (signed (suc w) n) ≡ n)
 
--- what a writer put at the front of a buffer, a reader reads, whatever follows
+-- what a writer puts at the start of a buffer is what a reader reads, whatever follows
 abbrev pub WrittenIsRead : Type 0
 WrittenIsRead =
     (n w : ℕ) (rest : List ℕ) → n < 256 ^ w

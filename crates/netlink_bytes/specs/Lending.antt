@@ -1,5 +1,5 @@
--- Laws of lending, for callers to cite: part of a borrowed slice is lent on, and the slice ends
--- with what was written there.
+-- Laws about reborrowing, for callers to cite: a part of a borrowed slice is reborrowed, and the
+-- slice ends up with what was written there.
 use Rattle.std.proofs.Common.{◌≡◌, ℕ, ◌+◌, ◌-◌, ◌≤◌, List, [], ◌∷◌, ◌++◌, length, take, drop as drop_list, refl, sym, ap, ◌∙◌, arith, length-append, length-drop}
 use Rattle.std.proofs.lemmas.List.{take-append-drop, drop_at, drop-drop, length-take}
 use seplogic.Ra.Ura.{Ura}
@@ -21,7 +21,7 @@ use denote.Follow.{follows}
 use denote.FollowSlice.{heres_id, slice_of}
 use borrow.Table.Elements.{at, at_mul, cut_app, join_app}
 
--- where a part of bytes starts in memory, and how long it is
+-- where a part of the bytes starts in memory, and its length
 pub starts_at : (n o : ℕ) (xs : List ℕ) → n ≤ length xs → at o 1 (length (take n xs)) ≡ n + o
 starts_at n o xs inside = let steps = at_mul o 1 (length (take n xs)) in
     let taken = length-take n xs in omega arith
@@ -46,7 +46,7 @@ module _ {M : Type 1} {𝓤 : Ura M} (𝓛 : Logic 𝓤) (ℓ : Lifetime) (κ : 
     abbrev front : List R.Denot
     front = take start xs
 
-    -- xs with ws written over as many of them, from start on
+    -- xs with ws written over its items, starting at `start`
     abbrev pub around : List R.Denot → List R.Denot
     around ws = take start xs ++ (ws ++ drop_list (start + length ws) xs)
 

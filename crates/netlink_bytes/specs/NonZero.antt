@@ -1,4 +1,4 @@
--- A number that is not zero.
+-- An integer that is not zero.
 use Rattle.std.specs.Prelude.{ℤ}
 use Rattle.netlink_bytes.specs.declared.nonzero.NonZeroI32.{NonZeroI32}
 

@@ -1,4 +1,4 @@
--- Laws of numbers and their bytes, for callers to cite.
+-- Laws about integers and their encodings, for callers to cite.
 use Rattle.std.specs.Prelude.{◌≡◌, ◌<◌, ◌≤◌, ℕ, zero, suc, ◌+◌, ◌*◌, ◌/◌, ◌%◌, ◌^◌, List, [], ◌∷◌, ◌++◌, length, reverse, take, drop, ℤ, pos, negsuc, refl}
 use Rattle.std.proofs.Common.{ap, arith, sym, ◌∙◌}
 use Rattle.std.proofs.Math.Arith.{mod-mul}
@@ -10,13 +10,13 @@ use Rattle.std.proofs.lemmas.List.{get_or-drop, length-reverse, length-take-le, 
 use Rattle.std.proofs.lemmas.Nat.{div_below}
 use Rattle.netlink_bytes.specs.Numbers.{IsBytes, IsSigned, number_le, number_be, bytes_le, bytes_be, signed, unsigned}
 
--- the text of w bytes has w bytes
+-- an encoding in w bytes has w bytes
 pub length-bytes_le : (n w : ℕ) → length (bytes_le n w) ≡ w
 unfolding bytes_le
 length-bytes_le n zero = refl
 length-bytes_le n (suc w) = let rest = length-bytes_le (n / 256) w in omega (arith, rest)
 
--- a number that fits reads back from its text
+-- an integer that fits in w bytes reads back from its encoding
 pub number_le-bytes_le : (n w : ℕ) → n < 256 ^ w → number_le (bytes_le n w) ≡ n
 unfolding number_le bytes_le
 number_le-bytes_le n zero fits = omega arith
@@ -29,7 +29,7 @@ number_le-bytes_le n (suc w) fits =
 IsBytes-tail : (b : ℕ) (bytes : List ℕ) → IsBytes (b ∷ bytes) → IsBytes bytes
 IsBytes-tail b bytes each i = each (suc i)
 
--- the number of bytes fits their count
+-- what bytes decode to fits in that many bytes
 pub number_le-fits : (bytes : List ℕ) → IsBytes bytes → number_le bytes < 256 ^ length bytes
 unfolding number_le
 number_le-fits [] each = omega arith
@@ -39,7 +39,7 @@ number_le-fits (b ∷ bytes) each =
     let byte : b < 256 = each 0 in
     rw (pow-suc 256 (length bytes)) (omega arith)
 
--- bytes are the text of their number
+-- encoding what bytes decode to gives those bytes
 pub bytes_le-number_le : (bytes : List ℕ) → IsBytes bytes
     → bytes_le (number_le bytes) (length bytes) ≡ bytes
 unfolding number_le bytes_le
@@ -50,7 +50,7 @@ bytes_le-number_le (b ∷ bytes) each =
     let high : (b + 256 * number_le bytes) / 256 ≡ number_le bytes = omega arith in
     rw (low, high, bytes_le-number_le bytes (IsBytes-tail b bytes each)) refl
 
--- a signed number reads back from the number that stands for it
+-- a signed integer reads back from the unsigned one that represents it
 pub signed-unsigned : (w : ℕ) (z : ℤ) → IsSigned (suc w) z → signed (suc w) (unsigned (suc w) z) ≡ z
 unfolding signed unsigned
 signed-unsigned w (pos n) fits = grind (arith, ints)
@@ -58,37 +58,37 @@ signed-unsigned w (negsuc n) fits =
     let power : 256 ^ suc w ≡ 256 * 256 ^ w = pow-succ' 256 w in
     rw power (grind (arith, ints))
 
--- and the number that stands for it fits as many bytes
+-- and the unsigned one fits in the same number of bytes
 pub unsigned-fits : (w : ℕ) (z : ℤ) → IsSigned (suc w) z → unsigned (suc w) z < 256 ^ suc w
 unfolding unsigned
 unsigned-fits w (pos n) fits = omega arith
 unsigned-fits w (negsuc n) fits = let power : 256 ^ suc w ≡ 256 * 256 ^ w = pow-succ' 256 w in
     omega arith
 
--- a number reads back from the signed number that it stands for
+-- an unsigned integer reads back from the signed one that it represents
 pub unsigned-signed : (w n : ℕ) → n < 256 ^ w → unsigned w (signed w n) ≡ n
 unfolding signed unsigned
 unsigned-signed w n fits = grind (arith, ints)
 
--- and that signed number is one of as many bytes
+-- and the signed one fits in the same number of bytes
 pub signed-fits : (w n : ℕ) → n < 256 ^ suc w → IsSigned (suc w) (signed (suc w) n)
 unfolding signed
 signed-fits w n fits = grind (arith, ints)
 
--- ---- any number, and the highest byte first
+-- ---- integers of any size, and big-endian
 
 pub length-bytes_be : (n w : ℕ) → length (bytes_be n w) ≡ w
 unfolding bytes_be
 length-bytes_be n w = length-reverse (bytes_le n w) ∙ length-bytes_le n w
 
--- how long a text is
+-- the length of an encoding
 pub ruleset text_sizes = (length-bytes_le, length-bytes_be)
 
 pow-positive : (w : ℕ) → 0 < 256 ^ w
 pow-positive zero = omega arith
 pow-positive (suc w) = let less : 0 < 256 ^ w = pow-positive w in rw (pow-suc 256 w) (omega arith)
 
--- a text of w bytes is that of the remainder by 256 to the power w
+-- an encoding in w bytes decodes to n modulo 256^w
 pub number_le-bytes_le_mod : (n w : ℕ) → number_le (bytes_le n w) ≡ n % 256 ^ w
 unfolding number_le bytes_le
 number_le-bytes_le_mod n zero = omega arith
@@ -109,7 +109,7 @@ unfolding number_be bytes_be
 number_be-bytes_be n w fits =
     ap number_le (reverse-reverse (bytes_le n w)) ∙ number_le-bytes_le n w fits
 
--- the items of a text are bytes
+-- the items of an encoding are bytes
 pub IsBytes-bytes_le : (n w : ℕ) → IsBytes (bytes_le n w)
 unfolding bytes_le
 IsBytes-bytes_le n zero i = omega arith
@@ -151,7 +151,7 @@ bytes_be-number_be bytes each =
     ∙ bytes_le-number_le (reverse bytes) (IsBytes-reverse bytes each) in
     ap reverse backward ∙ reverse-reverse bytes
 
--- a text in front is read again, whatever follows
+-- the first w bytes are the encoding, whatever follows it
 pub take-bytes_le : (n w : ℕ) (rest : List ℕ) → take w (bytes_le n w ++ rest) ≡ bytes_le n w
 take-bytes_le n w rest =
     ap (λ (k : ℕ). take k (bytes_le n w ++ rest)) (sym (length-bytes_le n w))
@@ -173,7 +173,7 @@ IsBytes-take (suc n) [] each i = omega arith
 IsBytes-take (suc n) (x ∷ bytes) each zero = each zero
 IsBytes-take (suc n) (x ∷ bytes) each (suc i) = IsBytes-take n bytes (λ j. each (suc j)) i
 
--- bytes are the text of the number in front, and what follows it
+-- bytes are the encoding of the integer at their start and what follows it
 pub split_number : (w : ℕ) (bytes : List ℕ) → IsBytes bytes → w ≤ length bytes
     → bytes ≡ bytes_le (number_le (take w bytes)) w ++ drop w bytes
 split_number w bytes each long =
@@ -183,7 +183,7 @@ split_number w bytes each long =
     ∙ bytes_le-number_le (take w bytes) (IsBytes-take w bytes each) in
     sym (take-append-drop w bytes) ∙ ap (λ (front : List ℕ). front ++ drop w bytes) (sym text)
 
--- and that number fits its bytes
+-- and that integer fits in w bytes
 pub front-fits : (w : ℕ) (bytes : List ℕ) → IsBytes bytes → w ≤ length bytes
     → number_le (take w bytes) < 256 ^ w
 front-fits w bytes each long =

@@ -1,4 +1,4 @@
--- Laws of what is held after a write, for callers to cite.
+-- Laws about contents after a write, for callers to cite.
 use Rattle.std.specs.Prelude.{◌≡◌, ◌≤◌, ℕ, List, [], ◌++◌, length, take, drop}
 use Rattle.std.specs.Vec.{with_items}
 use Rattle.std.specs.declared.vec.Vec.{Vec}
@@ -8,7 +8,7 @@ use mathlib.Core.HLevel.{is_prop→PathP}
 use native.Mathlib.Bridge.{le_prop}
 use native.Mathlib.Nat.{ℕ_set}
 
--- the items are as many as the vector has
+-- the vector's length is that of the list, and within its capacity
 abbrev Fits : {Z : Type 0} → Vec ℕ Z → List ℕ → Type 0
 Fits v items = (v.len ≡ length items) × (v.len ≤ v.cap)
 
@@ -24,7 +24,7 @@ holding v items ok =
       small = v.small;
     }
 
--- vectors that differ in their items alone are equal where these are
+-- vectors that differ only in their items are equal if the items are
 holding_equal : {Z : Type 0} (v : Vec ℕ Z) (xs ys : List ℕ) (e : xs ≡ ys) (p : Fits v xs)
     (q : Fits v ys) → holding v xs p ≡ holding v ys q
 holding_equal v xs ys e p q =
@@ -33,7 +33,7 @@ holding_equal v xs ys e p q =
     in
     λ i. holding v (e i) (ok i)
 
--- of two writes of as many items as a vector has, the later one stays
+-- of two writes that keep the number of items, the later one remains
 pub with_items-with_items : {Z : Type 0} (v : Vec ℕ Z) (first later : List ℕ)
     → length first ≡ length v.items → length later ≡ length v.items
     → with_items (with_items v first) later ≡ with_items v later

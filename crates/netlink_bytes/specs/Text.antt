@@ -1,7 +1,7 @@
--- Texts in bytes.
+-- Strings as bytes.
 use Rattle.std.specs.Prelude.{ℕ, zero, List, [], ◌∷◌}
 
--- the bytes without their last one, where that is a zero
+-- the bytes without the last one if it is zero
 abbrev pub without_last_zero : List ℕ → List ℕ
 without_last_zero [] = []
 without_last_zero (zero ∷ []) = []

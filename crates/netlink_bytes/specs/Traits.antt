@@ -1,7 +1,8 @@
--- What the basic traits ask of a caller.
+-- What the basic traits require of a caller.
 use Rattle.std.specs.Prelude.{◌≡◌, ◌≤◌, ℕ, Bool, true, false}
 
--- a buffer takes a text of this size: one of the very size, or a longer one too
+-- whether longer buffers are accepted, the size of an encoding and that of a buffer: the buffer is
+-- accepted
 abbrev pub HasRoom : Bool → ℕ → ℕ → Type 0
 HasRoom true size room = size ≤ room
 HasRoom false size room = room ≡ size

@@ -1,10 +1,10 @@
--- What an iterator over a walk hands out, whatever one step of the walk and one item of the
--- iterator are. An item is a view of what the bytes start with, or the fault.
+-- What an iterator over a walk yields, for any kind of step and any kind of item. An item is a view
+-- of what the bytes start with, or the error that ends the walk.
 use Rattle.std.proofs.Common.{◌≡◌, ◌≢◌, ℕ, ◌<◌, ◌≤◌, List, [], ◌∷◌, length, refl, ap, subst, ◌∙◌, arith, Option, Some, None, Result, Ok, Err}
 use Rattle.std.specs.Iterator.{Drains}
 use Rattle.netlink_bytes.specs.Walks.{StepLaws, WalksAs, walks_once}
 
--- the items are views that show these, in order, and then the fault, if there is one
+-- the items are views of these values, in order, and then the error, if there is one
 abbrev pub ItemsShow : {V X E : Type 0} → (V → X → Type 0) → List (Result V E) → List X → Option E
     → Type 0
 ItemsShow Shows [] [] None = Unit {0}
@@ -13,9 +13,10 @@ ItemsShow Shows (Ok view ∷ items) (x ∷ more) fault =
     Shows view x × ItemsShow Shows items more fault
 ItemsShow Shows _ _ _ = ⊥
 
--- A call of `next` takes a step of the bytes that are unread: it shows what they start with, tells
--- their fault and leaves nothing unread, or gives `None` where nothing is. A step takes one off the
--- most items that bytes can have, and a fault is one.
+-- A call of `next` takes a step over the unread bytes. It returns a view of what they start with;
+-- or it returns their error and leaves nothing unread; or it returns `None` if nothing is unread. A
+-- step lowers the bound on the number of items, and the bound of nonempty bytes allows for an
+-- error.
 pub record ItemLaws {S V X E : Type 0} (Starts : List ℕ → X → List ℕ → Type 0)
     (IsFault : List ℕ → E → Type 0) (Shows : V → X → Type 0) (unread : S → List ℕ)
     (steps : S → Option (Result V E) → S → Type 0) (bound : List ℕ → ℕ) : Type 0 where
@@ -38,7 +39,7 @@ module _ {S V X E : Type 0} (Starts : List ℕ → X → List ℕ → Type 0)
   abbrev Laws : Type 0
   Laws = ItemLaws Starts IsFault Shows unread steps bound
 
-  -- calls of `next` until it gives `None` walk the bytes
+  -- calls of `next` until it returns `None` walk the bytes
   items_walk : StepLaws Starts IsFault → Laws → (s : S) (items : List (Result V E))
       → Drains steps s items
       → (all : List X) × (fault : Option E) × WalksAs Starts IsFault (unread s) all fault
@@ -60,7 +61,7 @@ module _ {S V X E : Type 0} (Starts : List ℕ → X → List ℕ → Type 0)
       (u, (t, (j, gives, (k, again, more)), last)) =
       absurd ((laws.fails j other k again).0 (laws.fails s fault j gives).2)
 
-  -- and there are no more of them than the bytes can have
+  -- and their number is within the bound
   items_counted : Laws → (bytes : List ℕ) (items : List (Result V E)) (all : List X)
       (fault : Option E)
       → WalksAs Starts IsFault bytes all fault → ItemsShow Shows items all fault
@@ -76,15 +77,15 @@ module _ {S V X E : Type 0} (Starts : List ℕ → X → List ℕ → Type 0)
       omega arith
   items_counted laws bytes _ _ _ walk show = absurd show
 
-  -- The unread bytes walk as these, and calls of `next` until it gives `None` give exactly those,
-  -- and no more than the bytes can have.
+  -- The unread bytes have a walk, and calls of `next` until it returns `None` yield exactly its
+  -- items, and no more than the bound.
   abbrev pub GivesAll : S → Type 0
   GivesAll s =
       (all : List X) × (fault : Option E) × WalksAs Starts IsFault (unread s) all fault
       × ((items : List (Result V E)) → Drains steps s items
       → ItemsShow Shows items all fault × (length items ≤ bound (unread s)))
 
-  -- it does where the bytes walk at all
+  -- it does if the bytes have a walk
   pub gives_all : StepLaws Starts IsFault → Laws → (s : S)
       → ((all : List X) × (fault : Option E) × WalksAs Starts IsFault (unread s) all fault)
       → GivesAll s

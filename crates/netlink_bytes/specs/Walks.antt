@@ -1,8 +1,9 @@
--- A walk over bytes, whatever one step of it is, and how far a loop over it has come. A step is two
--- relations: the bytes start with this and then have that rest, and why they start with nothing.
+-- A walk over bytes, for any kind of step, and how far a loop over it has come. A step is two
+-- relations: the bytes start with a value, and a rest follows it; and the error if they start with
+-- none.
 use Rattle.std.proofs.Common.{◌≡◌, ◌≢◌, ◌⊎◌, ℕ, zero, suc, ◌<◌, ◌≤◌, List, [], ◌∷◌, ◌++◌, length, refl, ap, sym, subst, ◌∙◌, inl, inr, arith, append_assoc, Option, Some, None}
 
--- the bytes are these one after another, and then nothing or one fault
+-- walking the bytes yields these values, one after another, and then the end or one error
 abbrev pub WalksAs : {X E : Type 0} → (List ℕ → X → List ℕ → Type 0) → (List ℕ → E → Type 0)
     → List ℕ → List X → Option E → Type 0
 WalksAs Starts IsFault bytes [] None = bytes ≡ []
@@ -10,14 +11,15 @@ WalksAs Starts IsFault bytes [] (Some fault) = (bytes ≢ []) × IsFault bytes f
 WalksAs Starts IsFault bytes (x ∷ more) fault =
     (rest : List ℕ) × Starts bytes x rest × WalksAs Starts IsFault rest more fault
 
--- the bytes are these one after another, and then the rest
+-- walking the bytes yields these values, one after another, and the rest is still to be walked
 abbrev pub Passed : {X : Type 0} → (List ℕ → X → List ℕ → Type 0) → List ℕ → List X → List ℕ
     → Type 0
 Passed Starts bytes [] rest = bytes ≡ rest
 Passed Starts bytes (x ∷ more) rest =
     (middle : List ℕ) × Starts bytes x middle × Passed Starts middle more rest
 
--- bytes start in one way at most, or have one fault
+-- bytes start with at most one value or have at most one error, never both; empty bytes start with
+-- none
 pub record StepLaws {X E : Type 0} (Starts : List ℕ → X → List ℕ → Type 0)
     (IsFault : List ℕ → E → Type 0) : Type 0 where
   pub once : (bytes : List ℕ) (x y : X) (rest other : List ℕ) → Starts bytes x rest
@@ -27,14 +29,14 @@ pub record StepLaws {X E : Type 0} (Starts : List ℕ → X → List ℕ → Typ
       → IsFault bytes e → ⊥
   pub fault_once : (bytes : List ℕ) (e f : E) → IsFault bytes e → IsFault bytes f → e ≡ f
 
--- the next step of bytes: a fault, or something and a rest that is shorter and as good
+-- the next step over bytes: an error, or a value and a rest that is shorter and as good
 abbrev pub NextStep : {X E : Type 0} → (List ℕ → X → List ℕ → Type 0) → (List ℕ → E → Type 0)
     → (List ℕ → Type 0) → List ℕ → Type 0
 NextStep {X} {E} Starts IsFault Good bytes =
     ((e : E) × IsFault bytes e)
     ⊎ ((x : X) × (rest : List ℕ) × Starts bytes x rest × Good rest × (length rest < length bytes))
 
--- ---- the walk is one
+-- ---- the walk is unique
 
 pub walks_once : {X E : Type 0} {Starts : List ℕ → X → List ℕ → Type 0}
     {IsFault : List ℕ → E → Type 0}
@@ -60,7 +62,7 @@ walks_once {X} {E} {Starts} {IsFault} laws bytes (x ∷ a) (y ∷ b) f g (rest, 
     let rests = later.0 in
     (cc, later.1)
 
--- ---- each bytes have one
+-- ---- all bytes have a walk
 
 fueled : {X E : Type 0} (Starts : List ℕ → X → List ℕ → Type 0) (IsFault : List ℕ → E → Type 0)
     (Good : List ℕ → Type 0)
@@ -89,13 +91,13 @@ has_one Starts IsFault Good next bytes good =
 
 -- ---- how far a loop has come
 
--- at the start nothing is passed
+-- at the start nothing has been passed
 pub passed_none : {X : Type 0} (Starts : List ℕ → X → List ℕ → Type 0) (bytes rest : List ℕ)
     → rest ≡ bytes
     → Passed Starts bytes [] rest
 passed_none Starts bytes rest same = sym same
 
--- a turn passes one more
+-- each turn passes one more value
 pub passed_push : {X : Type 0} (Starts : List ℕ → X → List ℕ → Type 0) (bytes : List ℕ)
     (done : List X)
     (middle : List ℕ) (x : X) (rest : List ℕ)
@@ -106,7 +108,7 @@ passed_push Starts bytes [] middle x rest same starts =
 passed_push Starts bytes (first ∷ done) middle x rest (next, begins, passed) starts =
     (next, begins, passed_push Starts next done middle x rest passed starts)
 
--- what the rest walks as is what the bytes walk as behind what is passed
+-- the walk of the bytes is what was passed and then the walk of the rest
 pub passed_walks : {X E : Type 0} (Starts : List ℕ → X → List ℕ → Type 0)
     (IsFault : List ℕ → E → Type 0)
     (bytes : List ℕ) (done : List X) (rest : List ℕ) (more : List X) (fault : Option E)
@@ -117,7 +119,7 @@ passed_walks Starts IsFault bytes [] rest more fault same walk =
 passed_walks Starts IsFault bytes (first ∷ done) rest more fault (next, begins, passed) walk =
     (next, begins, passed_walks Starts IsFault next done rest more fault passed walk)
 
--- the end
+-- a loop that reached the end has the whole walk
 pub passed_ends : {X E : Type 0} (Starts : List ℕ → X → List ℕ → Type 0)
     (IsFault : List ℕ → E → Type 0)
     (bytes : List ℕ) (done : List X) (rest : List ℕ)
@@ -126,7 +128,7 @@ passed_ends Starts IsFault bytes [] rest same none = same ∙ none
 passed_ends Starts IsFault bytes (first ∷ done) rest (next, begins, passed) none =
     (next, begins, passed_ends Starts IsFault next done rest passed none)
 
--- a fault
+-- so does a loop that reached an error
 pub passed_faults : {X E : Type 0} (Starts : List ℕ → X → List ℕ → Type 0)
     (IsFault : List ℕ → E → Type 0)
     (bytes : List ℕ) (done : List X) (rest : List ℕ) (fault : E)
@@ -137,7 +139,7 @@ passed_faults Starts IsFault bytes [] rest fault same some is =
 passed_faults Starts IsFault bytes (first ∷ done) rest fault (next, begins, passed) some is =
     (next, begins, passed_faults Starts IsFault next done rest fault passed some is)
 
--- what is passed is the front of any walk of the bytes, and the rest walks as what is behind it
+-- what was passed comes first in any walk of the bytes, and walking the rest yields what follows it
 pub passed_rest : {X E : Type 0} {Starts : List ℕ → X → List ℕ → Type 0}
     {IsFault : List ℕ → E → Type 0}
     → StepLaws Starts IsFault
@@ -158,7 +160,7 @@ passed_rest {X} {E} {Starts} {IsFault} laws bytes (x ∷ done) rest (y ∷ all) 
     let rests = later.1 in
     (later.0, cc, later.2)
 
--- and what the rest starts with is next in it
+-- and what the rest starts with comes next
 pub passed_next : {X E : Type 0} {Starts : List ℕ → X → List ℕ → Type 0}
     {IsFault : List ℕ → E → Type 0}
     → StepLaws Starts IsFault
@@ -173,7 +175,7 @@ passed_next {X} {E} {Starts} {IsFault} laws bytes done middle x rest all fault p
     (passed_push Starts bytes done middle x rest passed starts) walk in
     (whole.0, whole.1 ∙ append_assoc done (x ∷ []) whole.0)
 
--- what each step keeps holds of the rest
+-- what each step preserves holds for the rest
 pub passed_keeps : {X : Type 0} (Starts : List ℕ → X → List ℕ → Type 0) (Good : List ℕ → Type 0)
     → ((bytes : List ℕ) (x : X) (rest : List ℕ) → Starts bytes x rest → Good bytes → Good rest)
     → (bytes : List ℕ) (done : List X) (rest : List ℕ) → Passed Starts bytes done rest → Good bytes
@@ -182,9 +184,10 @@ passed_keeps Starts Good keeps bytes [] rest same good = subst Good same good
 passed_keeps Starts Good keeps bytes (x ∷ done) rest (next, begins, passed) good =
     passed_keeps Starts Good keeps next done rest passed (keeps bytes x next begins good)
 
--- ---- one behind another
+-- ---- concatenation
 
--- behind bytes in which each step leaves its rest whole, any bytes walk as they do alone
+-- if each step over `bytes` leaves a whole rest, walking `bytes ++ after` yields the values of
+-- `bytes` and then the walk of `after`
 pub walks_join : {X E : Type 0} (Starts : List ℕ → X → List ℕ → Type 0)
     (IsFault : List ℕ → E → Type 0)
     (Whole : List ℕ → Type 0)

@@ -8,16 +8,16 @@ ghost use Rattle.netlink_bytes.specs.declared.error.DecodeError.TheVariants.{Inv
 use crate::error::DecodeError;
 use crate::numbers::array_of;
 
-/// An IP address by its bytes, in the order in which they are sent.
+/// An IP address as its bytes, in network byte order.
 #[derive(Clone, Copy, Debug, PartialEq, Eq)]
 pub enum IpAddr {
-    /// An address of version 4.
+    /// An IPv4 address.
     V4([u8; 4]),
-    /// An address of version 6.
+    /// An IPv6 address.
     V6([u8; 16]),
 }
 
-/// The single byte; any other size is refused with `InvalidNumber`. Asks for no memory.
+/// Reads a `u8`. Returns `InvalidNumber` unless `payload` has exactly 1 byte. Does not allocate.
 pub fn parse_u8(payload: &[u8]) -> Result<u8, DecodeError>
     ensures reads { Reads number_le 1 payload.now result }
 {
@@ -25,17 +25,16 @@ pub fn parse_u8(payload: &[u8]) -> Result<u8, DecodeError>
     Ok(byte)
 }
 
-/// The single byte as a signed number, two's complement; any other size is refused with
-/// `InvalidNumber`.
-/// Asks for no memory.
+/// Reads an `i8` in two's complement. Returns `InvalidNumber` unless `payload` has exactly 1 byte.
+/// Does not allocate.
 pub fn parse_i8(payload: &[u8]) -> Result<i8, DecodeError>
     ensures reads { Reads (λ bytes. signed 1 (number_le bytes)) 1 payload.now result }
 {
     Ok(parse_u8(payload)?.cast_signed())
 }
 
-/// The 6 bytes of a MAC address; any other size is refused with `InvalidMacAddress`. Asks for no
-/// memory.
+/// Returns the 6 bytes of a MAC address. Returns `InvalidMacAddress` unless `payload` has exactly 6
+/// bytes. Does not allocate.
 pub fn parse_mac(payload: &[u8]) -> Result<[u8; 6], DecodeError>
     ensures ok { length payload.now ≡ 6 → result ≡ Ok payload.now }
     ensures err { length payload.now ≢ 6 → result ≡ Err (InvalidMacAddress (length payload.now)) }
@@ -48,8 +47,8 @@ pub fn parse_mac(payload: &[u8]) -> Result<[u8; 6], DecodeError>
     }
 }
 
-/// The 16 bytes of an address of version 6; any other size is refused with `InvalidIpAddress`. Asks
-/// for no memory.
+/// Returns the 16 bytes of an IPv6 address. Returns `InvalidIpAddress` unless `payload` has exactly
+/// 16 bytes. Does not allocate.
 pub fn parse_ipv6(payload: &[u8]) -> Result<[u8; 16], DecodeError>
     ensures ok { length payload.now ≡ 16 → result ≡ Ok payload.now }
     ensures err { length payload.now ≢ 16 → result ≡ Err (InvalidIpAddress (length payload.now)) }
@@ -62,8 +61,8 @@ pub fn parse_ipv6(payload: &[u8]) -> Result<[u8; 16], DecodeError>
     }
 }
 
-/// An address of version 4 where there are 4 bytes, and of version 6 where there are 16; any other
-/// size is refused with `InvalidIpAddress`. Asks for no memory.
+/// Returns an IPv4 address if `payload` has 4 bytes, and an IPv6 address if it has 16. Returns
+/// `InvalidIpAddress` for any other size. Does not allocate.
 pub fn parse_ip(payload: &[u8]) -> Result<IpAddr, DecodeError>
     ensures v4 { length payload.now ≡ 4 → result ≡ Ok (IpAddr.V4 payload.now) }
     ensures v6 { length payload.now ≡ 16 → result ≡ Ok (IpAddr.V6 payload.now) }

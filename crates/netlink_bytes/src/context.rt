@@ -1,4 +1,4 @@
-//! Lines that callers put in front of an error.
+//! Lines that callers add before an error text.
 
 ghost use Rattle.std.specs.Prelude.{◌≡◌};
 ghost use Rattle.netlink_bytes.specs.Contexts.{HasLine, ResultHasLine, ResultTakesLine, TakesLine};
@@ -7,22 +7,23 @@ use crate::error::DecodeError;
 use std::alloc::Global;
 use std::convert::AsStr;
 
-/// What puts a line in front of an error. `T` is a text: `&str`, `String` or another `AsStr`.
+/// A value to which a line of context can be added. `T` is the type of the line: `&str`, `String`
+/// or another type with `AsStr`.
 pub trait ErrorContext<T> {
-    /// It is an error that takes a line.
+    /// Holds if `context` adds the line to the value.
     ghost takes_line: { Self → Type 0 };
 
-    /// What it is with the line in front.
+    /// An old value, a line and a new value: holds if the new one is the old one with the line
+    /// added.
     ghost has_line: { Self → T → Self → Type 0 };
 
-    /// Puts the line in front: `Message` with the text `<new> caused by <old>`, or `OutOfMemory`
-    /// where there is no memory for it.
-    /// `OutOfMemory` stays `OutOfMemory`, and an `Ok` stays as it was.
+    /// Adds the line: returns `Message` with the text `<msg> caused by <old text>`, or
+    /// `OutOfMemory` if an allocation fails. Returns `OutOfMemory` and `Ok` unchanged.
     fn context(self, alloc: Global, msg: T) -> Self
         ensures line { has_line self msg result };
 
-    /// The same with the line that the closure gives. The closure is called once, and not at all on
-    /// `OutOfMemory` or an `Ok`; its own condition is owed only where it is called.
+    /// Does the same with the line that `f` returns. Calls `f` once, or not at all for
+    /// `OutOfMemory` or `Ok`. Requires the precondition of `f` only if `f` is called.
     fn with_context<F: FnOnce() -> T>(self, alloc: Global, f: F) -> Self
         requires can_call { takes_line self → F.pre f }
         ensures called { takes_line self → (msg : T) × F.post f msg × has_line self msg result }

@@ -1,4 +1,4 @@
-//! Why a call refuses.
+//! The error type.
 
 ghost use Rattle.std.specs.Prelude.{◌≡◌, ◌≢◌, ◌↔◌, ◌++◌, List, ℕ, [], IsTrue, IfOk, codes, string_bytes};
 ghost use Rattle.netlink_bytes.specs.Causes.{HoldsText, IsInvalidBuffer, TextBegins, cause_number};
@@ -11,115 +11,117 @@ use std::error::Error;
 use std::str::Utf8Error;
 use std::string::FromUtf8Error;
 
-/// The cause of a refusal, one of a closed list. Sizes and lengths are in bytes.
+/// The reason why a function failed, from a closed list. Sizes and lengths are in bytes.
 ///
-/// Only `InvalidBuffer` and `Message` hold memory. `inside` says that a fault was found
-/// inside a larger call, whose line then stands in front of the text.
+/// Only `InvalidBuffer` and `Message` own memory. `inside` records whether the error was detected
+/// inside a larger call. If it is true, the error text is prefixed with that call's line.
 #[derive(Debug, Drop, PartialEq, Eq)]
 pub enum DecodeError {
-    /// C1: a buffer is too short, by a name that the caller gives.
+    /// C1: a buffer, which the caller names, is too short.
     InvalidBuffer {
-        /// What the caller calls the buffer.
+        /// The caller's name for the buffer.
         name: String,
         /// The size of the buffer, in bytes.
         received: usize,
-        /// The least size that was wanted, in bytes.
+        /// The minimum size, in bytes.
         minimum_length: usize,
     },
-    /// C2: a MAC address is not of 6 bytes.
+    /// C2: a MAC address does not have 6 bytes.
     InvalidMacAddress {
-        /// The size that was received, in bytes.
+        /// The size received, in bytes.
         received: usize,
     },
-    /// C3: an IP address is not of 4 or 16 bytes.
+    /// C3: an IP address has neither 4 nor 16 bytes.
     InvalidIpAddress {
-        /// The size that was received, in bytes.
+        /// The size received, in bytes.
         received: usize,
     },
-    /// C4: a number does not have its exact size.
+    /// C4: an integer does not have exactly the size of its type.
     InvalidNumber {
-        /// The size of the number's type, in bytes.
+        /// The size of the integer's type, in bytes.
         expected: usize,
-        /// The size that was received, in bytes.
+        /// The size received, in bytes.
         received: usize,
     },
-    /// C5: there are fewer bytes than an attribute's header has.
+    /// C5: there are fewer bytes than an attribute header has.
     NlaBufferTooSmall {
-        /// How many bytes there are.
+        /// The number of bytes available.
         buffer_len: usize,
-        /// How many bytes a header has, which is 4.
+        /// The size of an attribute header, which is 4 bytes.
         nla_len: usize,
     },
-    /// C6: an attribute's length field is above the number of bytes that there are.
+    /// C6: an attribute's length field is larger than the number of bytes available.
     NlaLengthMismatch {
-        /// How many bytes there are.
+        /// The number of bytes available.
         buffer_len: usize,
-        /// The length field: the bytes of the attribute, its header included and its padding not.
+        /// The length field: the size of the attribute in bytes, with its header but without its
+        /// padding.
         nla_len: usize,
     },
-    /// C7: an attribute's length field is below the size of its header.
+    /// C7: an attribute's length field is smaller than its header.
     NlaInvalidLength {
-        /// The least length in bytes, which is 4.
+        /// The minimum length, which is 4 bytes.
         buffer_len: usize,
         /// The length field, in bytes.
         nla_len: usize,
     },
-    /// C8: a number does not fit its buffer.
+    /// C8: an integer does not fit in its buffer.
     BufferTooSmall {
         /// The size of the buffer, in bytes.
         buffer_len: usize,
-        /// The size of the number's type, in bytes.
+        /// The size of the integer's type, in bytes.
         value_len: usize,
     },
-    /// C9: there are fewer bytes than a message's header has, which is 16.
+    /// C9: there are fewer bytes than a message header has, which is 16.
     FrameShort {
-        /// How many bytes there are.
+        /// The number of bytes available.
         size: usize,
-        /// Whether the text begins with the line of a whole message.
+        /// Whether the error was detected inside a larger call.
         inside: bool,
     },
-    /// C10: a message's length field is above the number of bytes that there are.
+    /// C10: a message's length field is larger than the number of bytes available.
     FrameCut {
-        /// The length field: the bytes of the message, its header included.
+        /// The length field: the size of the message in bytes, with its header.
         length: u32,
-        /// How many bytes there are.
+        /// The number of bytes available.
         size: usize,
-        /// Whether the text begins with the line of a whole message.
+        /// Whether the error was detected inside a larger call.
         inside: bool,
     },
-    /// C11: a message's length field is below the size of its header, which is 16 bytes.
+    /// C11: a message's length field is smaller than its header, which has 16 bytes.
     FrameLength {
         /// The length field, in bytes.
         length: u32,
-        /// Whether the text begins with the line of a whole message.
+        /// Whether the error was detected inside a larger call.
         inside: bool,
     },
-    /// C12: the body of a done message has fewer than 4 bytes. In a whole message no bytes at all
-    /// stand for code 0.
+    /// C12: the body of a done message has fewer than 4 bytes. In a whole message, an empty body is
+    /// accepted and means code 0.
     DoneShort {
         /// The size of the body, in bytes.
         size: usize,
-        /// Whether the text begins with the line of a whole message.
+        /// Whether the error was detected inside a larger call.
         inside: bool,
     },
     /// C13: the body of an error message has fewer than 4 bytes.
     ErrorShort {
         /// The size of the body, in bytes.
         size: usize,
-        /// Whether the text begins with the line of a whole message.
+        /// Whether the error was detected inside a larger call.
         inside: bool,
     },
-    /// C14: free text, as of a protocol's refusal. The text is the whole of what is printed.
+    /// C14: free text, for example from a protocol that rejects a payload. It is the whole error
+    /// text.
     Message(String),
-    /// C15: a message does not fit a length of 32 bits.
+    /// C15: a message's length does not fit in 32 bits.
     TooLong,
-    /// C16: a request for memory was refused.
+    /// C16: an allocation failed.
     OutOfMemory,
 }
 
 impl DecodeError {
-    /// `InvalidBuffer` with a copy of the name, or `OutOfMemory` where there is no memory for it.
-    /// An empty name asks for none.
+    /// Returns `InvalidBuffer` with a copy of `name`, or `OutOfMemory` if the allocation fails.
+    /// Does not allocate if `name` is empty.
     pub fn invalid_buffer(alloc: Global, name: &str, received: usize, minimum_length: usize) -> Self
         ensures says { IsInvalidBuffer name.now received minimum_length result }
         ensures empty { name.now ≡ [] → result ≢ DecodeError.OutOfMemory }
@@ -134,30 +136,29 @@ impl DecodeError {
         }
     }
 
-    /// `InvalidMacAddress`, with the size that was received. Asks for no memory.
+    /// Returns `InvalidMacAddress` with the size received. Does not allocate.
     pub fn invalid_mac_address(received: usize) -> Self
         ensures is { result ≡ DecodeError.InvalidMacAddress received }
     {
         DecodeError::InvalidMacAddress { received }
     }
 
-    /// `InvalidIpAddress`, with the size that was received. Asks for no memory.
+    /// Returns `InvalidIpAddress` with the size received. Does not allocate.
     pub fn invalid_ip_address(received: usize) -> Self
         ensures is { result ≡ DecodeError.InvalidIpAddress received }
     {
         DecodeError::InvalidIpAddress { received }
     }
 
-    /// `InvalidNumber`, with the size of the type and the size that was received. Asks for no
-    /// memory.
+    /// Returns `InvalidNumber` with the size of the type and the size received. Does not allocate.
     pub fn invalid_number(expected: usize, received: usize) -> Self
         ensures is { result ≡ DecodeError.InvalidNumber expected received }
     {
         DecodeError::InvalidNumber { expected, received }
     }
 
-    /// `NlaBufferTooSmall`, with the bytes that there are and the bytes that are wanted. Asks for
-    /// no memory.
+    /// Returns `NlaBufferTooSmall` with the number of bytes available and the number required. Does
+    /// not allocate.
     pub fn nla_buffer_too_small(buffer_len: usize, nla_len: usize) -> Self
         ensures is { result ≡ DecodeError.NlaBufferTooSmall buffer_len nla_len }
     {
@@ -167,7 +168,8 @@ impl DecodeError {
         }
     }
 
-    /// `NlaLengthMismatch`, with the bytes that there are and the length field. Asks for no memory.
+    /// Returns `NlaLengthMismatch` with the number of bytes available and the length field. Does
+    /// not allocate.
     pub fn nla_length_mismatch(buffer_len: usize, nla_len: usize) -> Self
         ensures is { result ≡ DecodeError.NlaLengthMismatch buffer_len nla_len }
     {
@@ -177,7 +179,7 @@ impl DecodeError {
         }
     }
 
-    /// `NlaInvalidLength`, with the least length and the length field. Asks for no memory.
+    /// Returns `NlaInvalidLength` with the minimum length and the length field. Does not allocate.
     pub fn nla_invalid_length(buffer_len: usize, nla_len: usize) -> Self
         ensures is { result ≡ DecodeError.NlaInvalidLength buffer_len nla_len }
     {
@@ -187,7 +189,8 @@ impl DecodeError {
         }
     }
 
-    /// `BufferTooSmall`, with the buffer's size and the number's. Asks for no memory.
+    /// Returns `BufferTooSmall` with the size of the buffer and the size of the integer. Does not
+    /// allocate.
     pub fn buffer_too_small(buffer_len: usize, value_len: usize) -> Self
         ensures is { result ≡ DecodeError.BufferTooSmall buffer_len value_len }
     {
@@ -197,14 +200,15 @@ impl DecodeError {
         }
     }
 
-    /// `FrameShort`, with the bytes that there are. Asks for no memory.
+    /// Returns `FrameShort` with the number of bytes available. Does not allocate.
     pub fn frame_short(size: usize, inside: bool) -> Self
         ensures is { result ≡ DecodeError.FrameShort size inside }
     {
         DecodeError::FrameShort { size, inside }
     }
 
-    /// `FrameCut`, with the length field and the bytes that there are. Asks for no memory.
+    /// Returns `FrameCut` with the length field and the number of bytes available. Does not
+    /// allocate.
     pub fn frame_cut(length: u32, size: usize, inside: bool) -> Self
         ensures is { result ≡ DecodeError.FrameCut length size inside }
     {
@@ -215,43 +219,43 @@ impl DecodeError {
         }
     }
 
-    /// `FrameLength`, with the length field. Asks for no memory.
+    /// Returns `FrameLength` with the length field. Does not allocate.
     pub fn frame_length(length: u32, inside: bool) -> Self
         ensures is { result ≡ DecodeError.FrameLength length inside }
     {
         DecodeError::FrameLength { length, inside }
     }
 
-    /// `DoneShort`, with the body's size. Asks for no memory.
+    /// Returns `DoneShort` with the size of the body. Does not allocate.
     pub fn done_short(size: usize, inside: bool) -> Self
         ensures is { result ≡ DecodeError.DoneShort size inside }
     {
         DecodeError::DoneShort { size, inside }
     }
 
-    /// `ErrorShort`, with the body's size. Asks for no memory.
+    /// Returns `ErrorShort` with the size of the body. Does not allocate.
     pub fn error_short(size: usize, inside: bool) -> Self
         ensures is { result ≡ DecodeError.ErrorShort size inside }
     {
         DecodeError::ErrorShort { size, inside }
     }
 
-    /// `TooLong`. Asks for no memory.
+    /// Returns `TooLong`. Does not allocate.
     pub fn too_long() -> Self
         ensures is { result ≡ DecodeError.TooLong }
     {
         DecodeError::TooLong
     }
 
-    /// `OutOfMemory`. Asks for no memory.
+    /// Returns `OutOfMemory`. Does not allocate.
     pub fn out_of_memory() -> Self
         ensures is { result ≡ DecodeError.OutOfMemory }
     {
         Self::OutOfMemory
     }
 
-    /// `Message` with a copy of the text, or `OutOfMemory` where there is no memory for it. An
-    /// empty text asks for none.
+    /// Returns `Message` with a copy of `text`, or `OutOfMemory` if the allocation fails. Does not
+    /// allocate if `text` is empty.
     pub fn from_text(alloc: Global, text: &str) -> Self
         ensures says { HoldsText text.now result }
         ensures empty { text.now ≡ [] → result ≢ DecodeError.OutOfMemory }
@@ -262,7 +266,8 @@ impl DecodeError {
         }
     }
 
-    /// `Message` with `Invalid UTF-8 sequence: ` and std's text for the error, or `OutOfMemory`.
+    /// Returns `Message` with `Invalid UTF-8 sequence: ` and std's text for the error, or
+    /// `OutOfMemory` if an allocation fails.
     pub fn from_utf8_error(alloc: Global, error: FromUtf8Error) -> Self
         ensures begins { TextBegins (codes "Invalid UTF-8 sequence: ") result }
     {
@@ -272,7 +277,7 @@ impl DecodeError {
         }
     }
 
-    /// The number of the cause, 1 to 16.
+    /// Returns the number of the error, 1 to 16.
     pub fn number(&self) -> u8
         ensures number { result ≡ cause_number self.now }
     {
@@ -296,7 +301,7 @@ impl DecodeError {
         }
     }
 
-    /// Whether the cause is `OutOfMemory`, want of memory.
+    /// Returns whether the error is `OutOfMemory`.
     pub fn is_out_of_memory(&self) -> bool
         ensures memory { IsTrue result ↔ (self.now ≡ DecodeError.OutOfMemory) }
     {
@@ -304,7 +309,8 @@ impl DecodeError {
     }
 }
 
-/// The text of an error of UTF-8, behind its fixed beginning.
+/// Returns std's text for the error, prefixed with `Invalid UTF-8 sequence: `, or `AllocError` if
+/// an allocation fails.
 pub(crate) fn utf8_text(alloc: Global, error: Utf8Error) -> Result<String, AllocError>
     ensures { IfOk result
         (λ text. (rest : List ℕ) × (string_bytes text ≡ codes "Invalid UTF-8 sequence: " ++ rest)) }
@@ -320,7 +326,7 @@ impl From<String> for DecodeError {
 
     ghost from_gives = { λ text e. e ≡ Message text };
 
-    /// `Message` with the text itself. Asks for no memory.
+    /// Returns `Message` with `text` itself. Does not allocate.
     fn from(text: String) -> Self {
         DecodeError::Message(text)
     }
@@ -331,7 +337,7 @@ impl From<AllocError> for DecodeError {
 
     ghost from_gives = { λ _ e. e ≡ OutOfMemory };
 
-    /// `OutOfMemory`, so that `?` hands on a refused request for memory.
+    /// Returns `OutOfMemory`, so that `?` propagates a failed allocation.
     fn from(_refused: AllocError) -> Self {
         DecodeError::OutOfMemory
     }
@@ -342,8 +348,8 @@ impl<T: Drop> From<AllocFailed<T>> for DecodeError {
 
     ghost from_gives = { λ _ e. e ≡ OutOfMemory };
 
-    /// `OutOfMemory` where a value found no room, so that `list.push(value)?` hands it on; the
-    /// value is given up.
+    /// Returns `OutOfMemory` and drops the value for which there was no room, so that
+    /// `list.push(value)?` propagates a failed allocation.
     fn from(_refused: AllocFailed<T>) -> Self {
         DecodeError::from(AllocError)
     }

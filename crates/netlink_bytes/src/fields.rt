@@ -1,5 +1,5 @@
-//! Numbers at their places in bytes, in native order, as the fields of a fixed header are. No call
-//! asks for memory.
+//! Integers at byte offsets, in native byte order (little-endian), such as the fields of a fixed
+//! header. No function here allocates.
 #![tactic(auto, using(crate::proofs::Bytes::numbers_as_bytes))]
 
 ghost use Rattle.std.specs.Prelude.{◌≡◌, ◌≤◌, ◌+◌, length, slice_range};
@@ -7,7 +7,7 @@ ghost use Rattle.netlink_bytes.specs.Fields.{number_at};
 ghost use Rattle.netlink_bytes.specs.Numbers.{signed, bytes_le, unsigned};
 ghost use Rattle.netlink_bytes.specs.Storage.{put_at};
 
-/// The number in the 2 bytes from a place on, native order; the place plus 2 is at most the size.
+/// Reads a `u16` at offset `at`, in native byte order. Requires `at + 2 <= bytes.len()`.
 #[inline]
 pub fn u16_at(bytes: &[u8], at: usize) -> u16
     requires inside { at + 2 ≤ length bytes.now }
@@ -16,7 +16,7 @@ pub fn u16_at(bytes: &[u8], at: usize) -> u16
     u16::from_ne_bytes(part(bytes, at))
 }
 
-/// The number in the 4 bytes from a place on, native order; the place plus 4 is at most the size.
+/// Reads a `u32` at offset `at`, in native byte order. Requires `at + 4 <= bytes.len()`.
 #[inline]
 pub fn u32_at(bytes: &[u8], at: usize) -> u32
     requires inside { at + 4 ≤ length bytes.now }
@@ -25,8 +25,8 @@ pub fn u32_at(bytes: &[u8], at: usize) -> u32
     u32::from_ne_bytes(part(bytes, at))
 }
 
-/// The signed number, two's complement, in the 4 bytes from a place on, native order; the place
-/// plus 4 is at most the size.
+/// Reads an `i32` in two's complement at offset `at`, in native byte order. Requires
+/// `at + 4 <= bytes.len()`.
 #[inline]
 pub fn i32_at(bytes: &[u8], at: usize) -> i32
     requires inside { at + 4 ≤ length bytes.now }
@@ -35,8 +35,8 @@ pub fn i32_at(bytes: &[u8], at: usize) -> i32
     u32_at(bytes, at).cast_signed()
 }
 
-/// Writes the number over the 2 bytes from a place on, native order, and leaves the others; the
-/// place plus 2 is at most the size.
+/// Writes `value` over the 2 bytes at offset `at`, in native byte order, and leaves all other bytes
+/// unchanged. Requires `at + 2 <= bytes.len()`.
 #[inline]
 pub fn put_u16(bytes: &mut [u8], at: usize, value: u16)
     requires inside { at + 2 ≤ length bytes.old }
@@ -45,8 +45,8 @@ pub fn put_u16(bytes: &mut [u8], at: usize, value: u16)
     put::<2>(bytes, at, value.to_ne_bytes());
 }
 
-/// Writes the number over the 4 bytes from a place on, native order, and leaves the others; the
-/// place plus 4 is at most the size.
+/// Writes `value` over the 4 bytes at offset `at`, in native byte order, and leaves all other bytes
+/// unchanged. Requires `at + 4 <= bytes.len()`.
 #[inline]
 pub fn put_u32(bytes: &mut [u8], at: usize, value: u32)
     requires inside { at + 4 ≤ length bytes.old }
@@ -55,8 +55,8 @@ pub fn put_u32(bytes: &mut [u8], at: usize, value: u32)
     put::<4>(bytes, at, value.to_ne_bytes());
 }
 
-/// Writes the signed number, two's complement, over the 4 bytes from a place on, native order, and
-/// leaves the others; the place plus 4 is at most the size.
+/// Writes `value` in two's complement over the 4 bytes at offset `at`, in native byte order, and
+/// leaves all other bytes unchanged. Requires `at + 4 <= bytes.len()`.
 #[inline]
 pub fn put_i32(bytes: &mut [u8], at: usize, value: i32)
     requires inside { at + 4 ≤ length bytes.old }
@@ -65,7 +65,7 @@ pub fn put_i32(bytes: &mut [u8], at: usize, value: i32)
     put_u32(bytes, at, value.cast_unsigned());
 }
 
-/// The bytes from a place on.
+/// Returns the `N` bytes at offset `at`. Requires `at + N <= bytes.len()`.
 #[inline]
 fn part<const N: usize>(bytes: &[u8], at: usize) -> [u8; N]
     requires { at + N ≤ length bytes.now }
@@ -74,7 +74,8 @@ fn part<const N: usize>(bytes: &[u8], at: usize) -> [u8; N]
     *bytes[at..at + N].first_chunk().unwrap()
 }
 
-/// Writes the text over the bytes from a place on.
+/// Writes `text` over the `N` bytes at offset `at` and leaves all other bytes unchanged. Requires
+/// `at + N <= bytes.len()`.
 #[inline]
 fn put<const N: usize>(bytes: &mut [u8], at: usize, text: [u8; N])
     requires { at + N ≤ length bytes.old }

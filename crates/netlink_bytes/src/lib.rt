@@ -1,5 +1,5 @@
-//! What every netlink crate stands on: numbers as bytes, addresses and texts, the causes of a
-//! refusal, storage for views, and the traits of what is read and written.
+//! The basis of the netlink crates: integers, addresses and strings as bytes, the error type,
+//! storage for views, and the traits for encoding and decoding.
 #![tactic(auto)]
 
 mod addresses;

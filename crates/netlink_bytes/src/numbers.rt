@@ -1,4 +1,4 @@
-//! Whole numbers as bytes. Native order is little-endian here. No call asks for memory.
+//! Integers as bytes. Native byte order is little-endian here. No function here allocates.
 #![tactic(auto, using(crate::proofs::Bytes::numbers_as_bytes))]
 
 pub mod signed;
@@ -8,7 +8,7 @@ ghost use Rattle.netlink_bytes.specs.Numbers.{Reads, Writes};
 
 use crate::error::DecodeError;
 
-/// The bytes, where there are exactly `N`.
+/// Returns the bytes as an array. Returns `InvalidNumber` unless there are exactly `N`.
 pub(crate) fn array_of<const N: usize>(payload: &[u8]) -> Result<[u8; N], DecodeError>
     ensures reads { Reads (λ bytes. bytes) N payload.now result }
 {
@@ -23,7 +23,8 @@ pub(crate) fn array_of<const N: usize>(payload: &[u8]) -> Result<[u8; N], Decode
     Ok(bytes)
 }
 
-/// Writes the bytes at the front.
+/// Writes `bytes` at the start of `buf` and leaves the rest unchanged. Returns `BufferTooSmall`,
+/// and leaves all of `buf` unchanged, if `buf` has fewer than `N` bytes.
 fn write_front<const N: usize>(buf: &mut [u8], bytes: [u8; N]) -> Result<(), DecodeError>
     ensures writes { Writes bytes.entry N buf.old buf.new result }
 {

@@ -1,4 +1,4 @@
-//! What a view stands over.
+//! The storage of views.
 
 ghost use Rattle.std.specs.Prelude.{◌≡◌, ◌≤◌, slice_range, ℕ, List, length};
 ghost use Rattle.std.specs.Borrow.{Lends, Array, sem, u8 as byte};
@@ -9,29 +9,29 @@ ghost use denote.Ref.{at_last};
 ghost use Rattle.std.proofs.Common.{refl, arith};
 ghost use Rattle.std.proofs.lemmas.Grind.{common_steps};
 
-/// Something that holds bytes, which a view looks at in place.
+/// A type that holds bytes, which a view reads in place.
 pub trait Storage: Drop {
     /// The bytes that it holds.
     ghost contents: { Self → List ℕ };
 
-    /// The bytes that it holds, lent. Asks for no memory.
+    /// Borrows the bytes that it holds. Does not allocate.
     fn bytes(&self) -> &[u8]
         ensures contents { result.now ≡ contents self.now };
 }
 
-/// Something that holds bytes which can be written in place. Writing keeps their number.
+/// A type that holds bytes which can be written in place. Writing does not change their number.
 pub trait StorageMut: Storage {
-    /// The same with these bytes in place of its own.
+    /// The same value holding the given bytes instead of its own.
     ghost with_contents: { Self → List ℕ → Self };
 
-    /// The bytes that it holds, lent for writing. Asks for no memory.
+    /// Mutably borrows the bytes that it holds. Does not allocate.
     fn bytes_mut(&mut self) -> &mut [u8]
         ensures* writes_back { sem 𝓛 (Lends Self.row (Array byte 0) self.entry result
             (with_contents self.old)) }
         ensures value { result.now ≡ Self.contents self.old };
 
-    /// The bytes from `start` up to `end`, lent for writing; `start` is at most `end`, and `end` at
-    /// most their number. Asks for no memory.
+    /// Mutably borrows the bytes from `start` up to, but not including, `end`. Requires
+    /// `start <= end`, and that it holds at least `end` bytes. Does not allocate.
     fn part_mut(&mut self, start: usize, end: usize) -> &mut [u8]
         requires order { start ≤ end }
         requires inside { end ≤ length (Self.contents self.old) }
@@ -39,11 +39,11 @@ pub trait StorageMut: Storage {
             (λ part. with_contents self.old (put_at (Self.contents self.old) start part))) }
         ensures value { result.now ≡ slice_range (Self.contents self.old) start end };
 
-    /// As many bytes as it held are held as they were written.
+    /// After a write that keeps the number of bytes, it holds the bytes that were written.
     ghost contents_of_with_contents: { (s : Self) (bytes : List ℕ)
         → length bytes ≡ length (Self.contents s) → Self.contents (with_contents s bytes) ≡ bytes };
 
-    /// Of two writes of as many bytes as it held the later one stays.
+    /// Of two writes that keep the number of bytes, the later one remains.
     ghost with_contents_twice: { (s : Self) (first later : List ℕ)
         → length first ≡ length (Self.contents s) → length later ≡ length (Self.contents s)
         → with_contents (with_contents s first) later ≡ with_contents s later };
@@ -52,7 +52,7 @@ pub trait StorageMut: Storage {
 impl<'a> Storage for &'a [u8] {
     ghost contents = { λ slice. slice.now };
 
-    /// The slice itself.
+    /// Returns the slice itself.
     fn bytes(&self) -> &[u8] {
         *self
     }
@@ -61,7 +61,7 @@ impl<'a> Storage for &'a [u8] {
 impl<'a> Storage for &'a mut [u8] {
     ghost contents = { λ slice. slice.now };
 
-    /// The slice itself.
+    /// Reborrows the slice.
     fn bytes(&self) -> &[u8] {
         &self[..]
     }
@@ -70,7 +70,7 @@ impl<'a> Storage for &'a mut [u8] {
 impl Storage for Vec<u8> {
     ghost contents = { λ vec. vec.items };
 
-    /// Its items.
+    /// Borrows the items.
     fn bytes(&self) -> &[u8] {
         self.as_slice()
     }
@@ -83,12 +83,12 @@ impl<'a> StorageMut for &'a mut [u8] {
 
     ghost with_contents_twice = { λ _ _ _ _ _. refl };
 
-    /// The slice itself.
+    /// Reborrows the slice.
     fn bytes_mut(&mut self) -> &mut [u8] {
         &mut **self
     }
 
-    /// A part of the slice.
+    /// Reborrows a part of the slice.
     fn part_mut(&mut self, start: usize, end: usize) -> &mut [u8] {
         &mut self[start..end]
     }
@@ -101,12 +101,12 @@ impl StorageMut for Vec<u8> {
 
     ghost with_contents_twice = { with_items-with_items };
 
-    /// Its items.
+    /// Mutably borrows the items.
     fn bytes_mut(&mut self) -> &mut [u8] {
         self.as_mut_slice()
     }
 
-    /// A part of its items.
+    /// Mutably borrows a part of the items.
     fn part_mut(&mut self, start: usize, end: usize) -> &mut [u8] {
         self.slice_mut(start..end)
     }

@@ -1,4 +1,4 @@
-//! Texts in bytes.
+//! Strings as bytes.
 
 ghost use Rattle.std.specs.Prelude.{◌≡◌, [], codes, string_bytes, IsOk, IsErr, IfOk, IfErr, IsOkUnless};
 ghost use Rattle.std.specs.Str.{IsUtf8};
@@ -10,11 +10,11 @@ use crate::copies::text_copy_of;
 use crate::error::{DecodeError, utf8_text};
 use std::alloc::Global;
 
-/// The text of the bytes without one zero byte at their end.
+/// Returns the bytes, without one zero byte at the end if there is one, as a string.
 ///
-/// What is then not UTF-8 is refused with `Message`, whose text begins `Invalid UTF-8 sequence: `;
-/// `OutOfMemory` where there is no memory for either text. No bytes and a lone zero byte are the
-/// empty text and ask for no memory.
+/// Returns `Message`, with a text that begins with `Invalid UTF-8 sequence: `, if these bytes are
+/// not UTF-8. Returns `OutOfMemory` if an allocation for the string or the error text fails. If
+/// `payload` is empty or a single zero byte, returns the empty string and does not allocate.
 pub fn parse_string(alloc: Global, payload: &[u8]) -> Result<String, DecodeError>
     ensures text { IfOk result (λ text. string_bytes text ≡ without_last_zero payload.now) }
     ensures utf8 { IsUtf8 (without_last_zero payload.now) → IsOkUnless result OutOfMemory }
@@ -28,7 +28,7 @@ pub fn parse_string(alloc: Global, payload: &[u8]) -> Result<String, DecodeError
     }
 }
 
-/// The bytes without their last one, where that is a zero.
+/// Returns the bytes without the last one if it is zero, and all bytes otherwise.
 fn cut_last_zero(bytes: &[u8]) -> &[u8]
     ensures { result.now ≡ without_last_zero bytes.now }
 {

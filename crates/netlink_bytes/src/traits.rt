@@ -1,4 +1,4 @@
-//! What is written as bytes and what is read from them.
+//! Traits for encoding values as bytes and decoding them.
 
 ghost use Rattle.std.specs.Prelude.{◌≡◌, ◌≢◌, ◌<◌, ◌⊎◌, ◌++◌, ◌^◌, Bool, List, ℕ, length, drop, IfOk, IfErr, IsOkUnless};
 ghost use Rattle.netlink_bytes.specs.Traits.{HasRoom};
@@ -8,26 +8,27 @@ ghost use Rattle.netlink_bytes.specs.declared.error.DecodeError.TheVariants.{Out
 use crate::error::DecodeError;
 use std::alloc::Global;
 
-/// A value that is written as bytes.
+/// A value that can be encoded as bytes.
 pub trait Emitable {
-    /// The bytes that stand for a value.
+    /// The encoding of a value.
     ghost bytes: { Self → List ℕ };
 
-    /// The value can be written.
+    /// Holds if `emit` may be called on the value.
     ghost can_emit: { Self → Type 0 };
 
-    /// A buffer longer than the bytes is taken; otherwise it has to be of the size of its bytes.
+    /// Whether `emit` accepts a buffer that is longer than the encoding. Otherwise the buffer must
+    /// have exactly the size of the encoding.
     ghost takes_longer: { Bool };
 
-    /// The size in bytes, which has to be below 2 to the power of 64. Asks for no
-    /// memory.
+    /// Returns the size of the encoding in bytes. Requires that it is less than 2^64. Does not
+    /// allocate.
     fn buffer_len(&self) -> usize
         requires in_size { length (bytes self.now) < 2 ^ 64 }
         ensures size { result ≡ length (bytes self.now) };
 
-    /// Writes the bytes at the start of the buffer and leaves the rest. The value can be written,
-    /// and the buffer has the size of its bytes, or more where a longer one is taken. Asks for no
-    /// memory.
+    /// Writes the encoding at the start of `buffer` and leaves the rest unchanged. Requires
+    /// `can_emit`, and that `buffer` has the size of the encoding, or at least that size if a
+    /// longer one is accepted. Does not allocate.
     fn emit(&self, buffer: &mut [u8])
         requires can { can_emit self.now }
         requires room { HasRoom takes_longer (length (bytes self.now)) (length buffer.old) }
@@ -35,23 +36,23 @@ pub trait Emitable {
             ≡ bytes self.now ++ drop (length (bytes self.now)) buffer.old };
 }
 
-/// A value that is read from a `T`.
+/// A value that can be decoded from a `T`.
 pub trait Parseable<T> {
-    /// It can be called.
+    /// Holds if `parse` may be called on the input.
     ghost can_parse: { T → Type 0 };
 
-    /// The value is what is read, a partial reading.
+    /// Holds if the input decodes to the value. An input may decode to no value.
     ghost reads: { T → Self → Type 0 };
 
-    /// The cause is why nothing is read, want of memory aside.
+    /// Holds if the error is a reason to reject the input, other than `OutOfMemory`.
     ghost refusal: { T → Cause → Type 0 };
 
-    /// It is read, or refused, without memory.
+    /// Holds if the input is decoded or rejected without allocating.
     ghost needs_no_memory: { T → Type 0 };
 
-    /// The value that is read; its refusal where there is none; `OutOfMemory` only where memory may
-    /// be asked for.
-    /// It is called only on what `can_parse` holds of, as a view with the bytes that it looks at.
+    /// Decodes the input. Requires `can_parse`, for example that a view has the bytes that are
+    /// read. Returns an error for which `refusal` holds if the input decodes to no value. May
+    /// return `OutOfMemory` unless `needs_no_memory` holds.
     fn parse(alloc: Global, buf: &T) -> Result<Self, DecodeError>
         requires can { can_parse buf.now }
         ensures accepts { IfOk result (reads buf.now) }
@@ -60,23 +61,23 @@ pub trait Parseable<T> {
         ensures no_memory { needs_no_memory buf.now → IfErr result (λ e. e ≢ OutOfMemory) };
 }
 
-/// A value that is read from a `T` by a parameter.
+/// A value that can be decoded from a `T` and a parameter.
 pub trait ParseableParametrized<T, P> {
-    /// It can be called.
+    /// Holds if `parse_with_param` may be called on the input and the parameter.
     ghost can_parse: { T → P → Type 0 };
 
-    /// The value is what is read, a partial reading.
+    /// Holds if the input decodes to the value. An input may decode to no value.
     ghost reads: { T → P → Self → Type 0 };
 
-    /// The cause is why nothing is read, want of memory aside.
+    /// Holds if the error is a reason to reject the input, other than `OutOfMemory`.
     ghost refusal: { T → P → Cause → Type 0 };
 
-    /// It is read, or refused, without memory.
+    /// Holds if the input is decoded or rejected without allocating.
     ghost needs_no_memory: { T → P → Type 0 };
 
-    /// The value that is read; its refusal where there is none; `OutOfMemory` only where memory may
-    /// be asked for.
-    /// It is called only on what `can_parse` holds of, with the parameter.
+    /// Decodes the input. Requires `can_parse` of the input and the parameter. Returns an error for
+    /// which `refusal` holds if the input decodes to no value. May return `OutOfMemory` unless
+    /// `needs_no_memory` holds.
     fn parse_with_param(alloc: Global, buf: &T, params: P) -> Result<Self, DecodeError>
         requires can { can_parse buf.now params }
         ensures accepts { IfOk result (reads buf.now params) }

@@ -1,7 +1,6 @@
-//! The tests of `netlink_bytes`, over its public calls: numbers, causes, texts, storages.
+//! The tests of `netlink_bytes`, of its public functions: integers, errors, strings, storage.
 //!
-//! They are a crate of their own, since a crate that has tests is proved twice, with them and
-//! without.
+//! They are a separate crate because a crate that has tests is proved twice, with them and without.
 #![tactic(auto)]
 
 #[cfg(test)]

@@ -13,7 +13,6 @@ use Rattle.netlink_packet_core.specs.Views.{attribute_of, length_field, raw_kind
 use Rattle.netlink_packet_core.specs.declared.header.NetlinkHeader.{NetlinkHeader}
 use Rattle.netlink_tree.specs.FrameWalk.{StartsFrame}
 use Rattle.netlink_c.specs.Ends.{IsStretch, begun_header, begun_size, frame_bytes}
-use Rattle.netlink_c.specs.declared.frame.HeaderFields.{HeaderFields}
 
 -- the header, the bytes and the zeros, each in its part of the buffer
 pub frame_pieces : (h : NetlinkHeader) (old_front front value zeros : List ℕ) → length old_front ≡ 16 → front
@@ -118,8 +117,8 @@ field-header : (h : NetlinkHeader) (more : List ℕ) → h.length < 2 ^ 32 → f
 unfolding bytes_le
 field-header h more fits = number_le-bytes_le h.length 4 fits
 
--- a begun frame is the header and the bytes
-pub frame_reads_back : (h : HeaderFields) (fixed buffer new : List ℕ) (at next : ℕ) → new
+-- a frame that was begun is read back as the header and the bytes
+pub frame_reads_back : (h : NetlinkHeader) (fixed buffer new : List ℕ) (at next : ℕ) → new
     ≡ put_at buffer at (frame_bytes h fixed ++ replicate (padding (length fixed)) 0) → next ≡ at + begun_size (length fixed)
     → at + begun_size (length fixed) ≤ length buffer → 16 + length fixed < 2 ^ 32
     → StartsFrame (drop at new) (frame_bytes h fixed) (drop next new)

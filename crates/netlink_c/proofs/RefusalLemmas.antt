@@ -1,4 +1,4 @@
--- Each cause has a number that is not 0, and what is copied out is there.
+-- The number of an error is not 0, and what is copied out is at the start of the buffer.
 use Rattle.std.proofs.Common.{◌≡◌, ℕ, ◌<◌, List, length, take, sym, subst, ◌∙◌, inl, inr, arith}
 use Rattle.netlink_packet_core.specs.Canonical.{canonical_frame}
 use Rattle.netlink_packet_core.specs.Causes.{cause_number}
@@ -36,7 +36,7 @@ copied text buffer new size answer out done =
       | inr fits ↦ (out.written fits).1
     ]
 
--- what holds of a frame holds of its copy
+-- what holds for a frame holds for its copy
 pub again_out : (items text buffer new : List ℕ) (size answer : ℕ) → CopiesOut text buffer new size answer → text ≡ items
     → ((n : NetlinkMessage AnyMessage) → Frame any_decoding items n → canonical_frame any_encoding n ≡ items)
     → answer ≡ 0 → (n : NetlinkMessage AnyMessage) → Frame any_decoding (take size new) n → canonical_frame any_encoding n ≡ take size new

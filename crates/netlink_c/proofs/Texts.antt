@@ -1,4 +1,4 @@
--- Numbers of a cause tell it.
+-- The numbers of an error identify it.
 use Rattle.std.proofs.Common.{◌≡◌, ℕ, true, false, List, refl, ap, sym, subst, ◌∙◌, arith, Option, Some}
 use Rattle.netlink_packet_core.specs.DecodeError.{DecodeError}
 use Rattle.netlink_packet_core.specs.DecodeError.TheVariants.{InvalidBuffer, InvalidMacAddress, InvalidIpAddress, InvalidNumber, NlaBufferTooSmall, NlaLengthMismatch, NlaInvalidLength, BufferTooSmall, FrameShort, FrameCut, FrameLength, DoneShort, ErrorShort, Message, TooLong, OutOfMemory}
@@ -32,11 +32,11 @@ cause_from-numbers_of OutOfMemory alone = refl
 some_is : (a b : DecodeError) → ◌≡◌ {A = Option DecodeError} (Some a) (Some b) → a ≡ b
 some_is a b e = cc
 
--- what the numbers tell is the cause that they are of
+-- the numbers of an error identify that error and no other
 told : (fault : FaultNumbers) (e cause : DecodeError) → HasNumbersAlone e → fault ≡ numbers_of e → cause_from fault ≡ Some cause → cause ≡ e
 told fault e cause alone same tells = some_is cause e (sym tells ∙ ap cause_from same ∙ cause_from-numbers_of e alone)
 
--- so its text is that one's
+-- so the text for the numbers is the text of that error
 pub told_text : (fault : FaultNumbers) (e cause : DecodeError) (buffer new : List ℕ) (size answer : ℕ) → HasNumbersAlone e → fault
     ≡ numbers_of e → Some cause ≡ cause_from fault → IsTextOut cause buffer new size answer → IsTextOut e buffer new size answer
 told_text fault e cause buffer new size answer alone same tells out = subst (λ (x : DecodeError). IsTextOut x buffer new size answer)

@@ -1,4 +1,4 @@
--- Where the attributes of a block and the frames of a datagram lie.
+-- Where the attributes of a block and the frames of a datagram are.
 use denote.Ref.{Bor}
 use Rattle.std.proofs.Common.{◌≡◌, ℕ, ◌+◌, ◌-◌, ◌<◌, ◌≤◌, List, ◌++◌, length, take, drop, refl, ap, sym, subst, ◌∙◌, arith, Some, Ok, length-drop}
 use Rattle.std.proofs.lemmas.List.{take_at, drop-drop, length-take-le}
@@ -15,7 +15,7 @@ use Rattle.netlink_tree.specs.FrameWalk.{StartsFrame}
 use Rattle.netlink_c.specs.Parts.{part_from}
 use Rattle.netlink_c.specs.Steps.{StartsAttributeAt, StartsFrameAt}
 
--- a part of what stands from a place on is a part of all
+-- a part of the bytes starting at an offset is a part of all the bytes
 part-drop : (bytes : List ℕ) (at from size to : ℕ) → from + size ≡ to → slice_range (drop at bytes) from to
     ≡ part_from (at + from) size bytes
 part-drop bytes at from size to e =
@@ -105,7 +105,7 @@ frame_step bytes before after frame at size next inside same step sizes behind f
     frame_at bytes at next frame.now after size inside (subst (λ (b : List ℕ). StartsFrame b frame.now after) same step.1) sizes behind
     forward
 
--- the same, where what the step gives is known by an equation
+-- the same, if an equation states what the step yields
 pub attribute_given : (bytes before after : List ℕ) (found : Item) (view : NlaBuffer (Bor (List ℕ))) (at kind size next : ℕ)
     → at < length bytes
     → before ≡ drop at bytes → Gives before (Some found) after → found ≡ Ok view → kind ≡ raw_kind (shown view)

@@ -1,4 +1,4 @@
--- The protocol of any bytes: each message type from 16 on, with any payload.
+-- The protocol that accepts any bytes: each message type of 16 or greater, with any payload.
 use Rattle.std.specs.Prelude.{◌&&◌, ◌^◌, ℕ, Bool, true, false, List, Option, Some, None, codes, nat_le, nat_lt, if◌then◌else◌}
 use Rattle.netlink_packet_core.specs.Protocol.{Encoding, Decoding}
 use Rattle.netlink_packet_core.specs.declared.header.NetlinkHeader.{NetlinkHeader}
@@ -6,7 +6,7 @@ use Rattle.netlink_c.specs.declared.any.AnyMessage.{AnyMessage}
 use Rattle.netlink_c.specs.declared.any.AnyError.{AnyError}
 use Rattle.netlink_c.specs.declared.any.AnyError.TheVariants.{BelowLeastType, OutOfMemory}
 
--- a message type of 16 bits that a sub-protocol may have
+-- whether a sub-protocol may use a message type: it is at least 16 and fits in 16 bits
 abbrev pub is_protocol_type : ℕ → Bool
 is_protocol_type message_type = nat_le 16 message_type && nat_lt message_type (2 ^ 16)
 
@@ -24,7 +24,7 @@ any_decoding = record {
   in_range = λ m. nat_lt m.kind.number (2 ^ 16);
 }
 
--- the errors that are want of memory
+-- whether an error means that an allocation failed
 abbrev pub wants_memory : AnyError → Bool
 wants_memory BelowLeastType = false
 wants_memory OutOfMemory = true

@@ -4,48 +4,42 @@ use Rattle.netlink_packet_core.specs.Attribute.{padding}
 use Rattle.netlink_packet_core.specs.Header.{header_bytes}
 use Rattle.netlink_packet_core.specs.Storage.{put_at}
 use Rattle.netlink_packet_core.specs.declared.header.NetlinkHeader.{NetlinkHeader}
-use Rattle.netlink_c.specs.declared.frame.HeaderFields.{HeaderFields}
 
--- the cursor is in the buffer, at least so many bytes behind the start, and a multiple of 4
+-- the cursor is in the buffer, at least `least` bytes after the start, at a distance that is a
+-- multiple of 4
 pub record IsStretch (room start cursor least : ℕ) : Type 0 where
   pub inside : cursor ≤ room
   pub enough : start + least ≤ cursor
   pub whole : (cursor - start) % 4 ≡ 0
 
--- the answer where a length field is to count the bytes from the start up to the cursor, below a
--- bound
+-- what ending a frame or a nest returns, if its length field counts the bytes from the start up to
+-- the cursor and must be less than a bound
 pub record AnswersEnd (least bound room start cursor answer : ℕ) : Type 0 where
   pub no_place : (IsStretch room start cursor least → ⊥) → answer ≡ 34
   pub too_long : IsStretch room start cursor least → bound ≤ cursor - start → answer ≡ 33
   pub done : IsStretch room start cursor least → cursor - start < bound → answer ≡ 0
 
--- a header with the length of itself and these bytes, and the bytes
-abbrev pub begun_header : HeaderFields → ℕ → NetlinkHeader
-begun_header h size = record {
-  length = 16 + size;
-  message_type = h.message_type;
-  flags = h.flags;
-  sequence_number =
-      h.sequence_number;
-  port_number = h.port_number;
-}
+-- the header with the length of itself and of this many bytes
+abbrev pub begun_header : NetlinkHeader → ℕ → NetlinkHeader
+begun_header h size = record h { length = 16 + size }
 
-abbrev pub frame_bytes : HeaderFields → List ℕ → List ℕ
+-- that header, and then the bytes
+abbrev pub frame_bytes : NetlinkHeader → List ℕ → List ℕ
 frame_bytes h fixed = header_bytes (begun_header h (length fixed)) ++ fixed
 
--- the size of that with its padding
+-- the size of those with their padding
 abbrev pub begun_size : ℕ → ℕ
 begun_size size = 16 + size + padding size
 
--- the answer where a frame is to be begun: too long, or no room, or done
+-- what beginning a frame returns: `TOO_LONG`, `NO_ROOM` or 0
 pub record AnswersPutFrame (size room at answer : ℕ) : Type 0 where
   pub too_long : 2 ^ 32 ≤ 16 + size → answer ≡ 33
   pub no_room : 16 + size < 2 ^ 32 → room < at + begun_size size → answer ≡ 8
   pub done : 16 + size < 2 ^ 32 → at + begun_size size ≤ room → answer ≡ 0
 
--- the frame stands in the buffer from the cursor on, with its padding, no other byte is changed,
--- and the cursor is behind it
-pub record PutsFrame (h : HeaderFields) (fixed buffer : List ℕ) (at : ℕ) (new : List ℕ)
+-- the frame with its padding is in the buffer at the old cursor, no other byte is changed, and the
+-- cursor has moved past it
+pub record PutsFrame (h : NetlinkHeader) (fixed buffer : List ℕ) (at : ℕ) (new : List ℕ)
     (next : ℕ) : Type 0 where
   pub bytes : new ≡ put_at buffer at (frame_bytes h fixed ++ replicate (padding (length fixed)) 0)
   pub cursor : next ≡ at + begun_size (length fixed)

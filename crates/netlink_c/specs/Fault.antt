@@ -1,4 +1,4 @@
--- What a refusal leaves behind: the numbers of its cause.
+-- The numbers of an error.
 use Rattle.std.specs.Prelude.{◌≡◌, ℕ, Bool, true, false}
 use Rattle.netlink_packet_core.specs.Causes.{cause_number}
 use Rattle.netlink_packet_core.specs.DecodeError.{DecodeError}
@@ -9,7 +9,7 @@ abbrev pub flag : Bool → ℕ
 flag true = 1
 flag false = 0
 
--- the numbers of a cause
+-- the four numbers, with `inside` as 1 or 0
 abbrev pub numbers_with : ℕ → Bool → ℕ → ℕ → FaultNumbers
 numbers_with cause inside size wanted = record {
   cause = cause;
@@ -37,11 +37,12 @@ numbers_of (Message text) = numbers_with 14 false 0 0
 numbers_of TooLong = numbers_with 15 false 0 0
 numbers_of OutOfMemory = numbers_with 16 false 0 0
 
--- the answer is the number of such a cause, and the fault has the numbers of that cause
+-- the result is the number of an error for which `IsCause` holds, and `fault` holds the numbers of
+-- that error
 abbrev pub Refuses : (DecodeError → Type 0) → ℕ → FaultNumbers → Type 0
 Refuses IsCause answer fault = (e : DecodeError) × IsCause e × (answer ≡ cause_number e)
     × (fault ≡ numbers_of e)
 
--- the answer is want of memory
+-- the result is the number of `OutOfMemory`, and `fault` holds its numbers
 abbrev pub IsOutOfMemory : ℕ → FaultNumbers → Type 0
 IsOutOfMemory answer fault = (answer ≡ 16) × (fault ≡ numbers_of OutOfMemory)

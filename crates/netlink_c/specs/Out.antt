@@ -1,4 +1,4 @@
--- What is written to the front of a buffer.
+-- What is written at the start of a buffer.
 use Rattle.std.specs.Prelude.{◌≡◌, ◌<◌, ◌≤◌, ℕ, List, take, drop, length}
 use Rattle.netlink_packet_core.specs.Canonical.{Fits, canonical_frame}
 use Rattle.netlink_packet_core.specs.Frame.{Frame}
@@ -6,15 +6,16 @@ use Rattle.netlink_packet_core.specs.declared.message.NetlinkMessage.{NetlinkMes
 use Rattle.netlink_c.specs.Any.{any_decoding, any_encoding}
 use Rattle.netlink_c.specs.declared.any.AnyMessage.{AnyMessage}
 
--- the text stands in front, and the rest of the buffer is as it was; or there is no room, and
--- nothing is changed
+-- `text` is at the start of the buffer, and the rest is unchanged; or there is no room, and the
+-- buffer is unchanged. In both cases `size` is the size of `text`.
 pub record CopiesOut (text buffer new : List ℕ) (size answer : ℕ) : Type 0 where
   pub counted : size ≡ length text
   pub written : length text ≤ length buffer → (answer ≡ 0) × (take size new ≡ text)
       × (drop size new ≡ drop size buffer)
   pub no_room : length buffer < length text → (answer ≡ 8) × (new ≡ buffer)
 
--- that text is the canonical frame of the message that the bytes are the frame of
+-- the same for the canonical frame of a message that fits, and whose frame is at the start of the
+-- bytes
 abbrev pub FrameCopiedOut : List ℕ → List ℕ → List ℕ → ℕ → ℕ → Type 0
 FrameCopiedOut bytes buffer new size answer =
     (m : NetlinkMessage AnyMessage) × Frame any_decoding bytes m × Fits any_encoding m

@@ -2,7 +2,7 @@
 use Rattle.std.specs.Prelude.{ℕ, ◌+◌, List, slice_range}
 use Rattle.netlink_c.specs.declared.frame.Part.{Part}
 
--- so many bytes from an offset on
+-- the `size` bytes that start at an offset
 abbrev pub part_from : ℕ → ℕ → List ℕ → List ℕ
 part_from offset size bytes = slice_range bytes offset (offset + size)
 

@@ -1,17 +1,18 @@
--- What is put into a buffer from a cursor on.
-use Rattle.std.specs.Prelude.{◌≡◌, ℕ, ◌+◌, ◌<◌, ◌≤◌, List, ◌∷◌, [], ◌++◌, length, slice_range}
+-- Attributes that are put into a buffer at a cursor.
+use Rattle.std.specs.Prelude.{◌≡◌, ◌≢◌, ℕ, ◌+◌, ◌<◌, ◌≤◌, List, ◌∷◌, [], ◌++◌, drop, length, slice_range}
 use Rattle.netlink_packet_core.specs.Attribute.{Attribute, padded, padded_size, value_max}
 use Rattle.netlink_packet_core.specs.Block.{canonical_block}
 use Rattle.netlink_packet_core.specs.Storage.{put_at}
+use Rattle.netlink_packet_core.specs.Walk.{Starts}
 
--- the answer where an attribute is to be put: too long, or no room, or done
+-- what putting an attribute returns: `TOO_LONG`, `NO_ROOM` or 0
 pub record AnswersPut (a : Attribute) (buffer : List ℕ) (at answer : ℕ) : Type 0 where
   pub too_long : value_max < length a.value → answer ≡ 33
   pub no_room : length a.value ≤ value_max → length buffer < at + padded_size a → answer ≡ 8
   pub done : length a.value ≤ value_max → at + padded_size a ≤ length buffer → answer ≡ 0
 
--- the attribute stands in the buffer from the cursor on, as it is written, no other byte is
--- changed, and the cursor is behind it
+-- the encoded attribute is in the buffer at the old cursor, no other byte is changed, and the
+-- cursor has moved past it
 pub record PutsAttribute (a : Attribute) (buffer : List ℕ) (at : ℕ) (new : List ℕ)
     (next : ℕ) : Type 0 where
   pub bytes : new ≡ put_at buffer at (padded a)
@@ -22,3 +23,13 @@ abbrev pub GrowsBlock : Attribute → List ℕ → ℕ → List ℕ → ℕ → 
 GrowsBlock a buffer at new next =
     (start : ℕ) (all : List Attribute) → start ≤ at → slice_range buffer start at
     ≡ canonical_block all → slice_range new start next ≡ canonical_block (all ++ a ∷ [])
+
+-- what putting an attribute at a cursor does, and what it returns: if that is 0, the attribute is
+-- there and is read back, and otherwise nothing has changed
+pub record Puts (a : Attribute) (buffer : List ℕ) (at : ℕ) (new : List ℕ) (next answer : ℕ)
+    : Type 0 where
+  pub answers : AnswersPut a buffer at answer
+  pub written : answer ≡ 0 → PutsAttribute a buffer at new next
+  pub block : answer ≡ 0 → GrowsBlock a buffer at new next
+  pub reads_back : answer ≡ 0 → Starts (drop at new) a (drop next new)
+  pub unchanged : answer ≢ 0 → (new ≡ buffer) × (next ≡ at)

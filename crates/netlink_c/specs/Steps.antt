@@ -1,4 +1,4 @@
--- Steps of a walk by a cursor.
+-- Steps of a walk with a cursor.
 use Rattle.std.specs.Prelude.{◌≡◌, ℕ, ◌+◌, ◌<◌, ◌≤◌, List, drop, length}
 use Rattle.netlink_packet_core.specs.Nla.{attribute_with}
 use Rattle.netlink_packet_core.specs.Walk.{Starts}
@@ -7,8 +7,8 @@ use Rattle.netlink_c.specs.Parts.{part_of, part_from}
 use Rattle.netlink_c.specs.declared.frame.Part.{Part}
 use Rattle.netlink_c.specs.declared.walk.AttributeItem.{AttributeItem}
 
--- From a place on the bytes are an attribute, of this kind and with this part of them as its value,
--- then its padding, and then what stands from the next place on.
+-- Starting at offset `at`, the bytes are an attribute, with this kind and with this part of the
+-- bytes as its value, then its padding, and then the bytes starting at offset `next`.
 pub record StartsAttributeAt (bytes : List ℕ) (at : ℕ) (item : AttributeItem)
     (next : ℕ) : Type 0 where
   pub starts : Starts (drop at bytes)
@@ -17,9 +17,8 @@ pub record StartsAttributeAt (bytes : List ℕ) (at : ℕ) (item : AttributeItem
   pub inside : item.offset + item.size ≤ length bytes
   pub forward : (at < next) × (next ≤ length bytes)
 
--- From a place on the bytes are a frame, which is this part of them, then its padding, and then
--- what
--- stands from the next place on.
+-- Starting at offset `at`, the bytes are a frame, which is this part of the bytes, then its
+-- padding, and then the bytes starting at offset `next`.
 pub record StartsFrameAt (bytes : List ℕ) (at : ℕ) (item : Part) (next : ℕ) : Type 0 where
   pub starts : StartsFrame (drop at bytes) (part_of item bytes) (drop next bytes)
   pub offset : item.offset ≡ at

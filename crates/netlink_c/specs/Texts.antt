@@ -1,4 +1,4 @@
--- The cause that numbers tell.
+-- The error that numbers identify.
 use Rattle.std.specs.Prelude.{◌≡◌, ◌<◌, ◌^◌, ◌⊎◌, ◌==◌, ◌&&◌, ℕ, Bool, true, false, List, Option, Some, None, nat_lt, if◌then◌else◌}
 use Rattle.netlink_packet_core.specs.Causes.{cause_text}
 use Rattle.netlink_packet_core.specs.DecodeError.{DecodeError}
@@ -6,7 +6,7 @@ use Rattle.netlink_packet_core.specs.DecodeError.TheVariants.{InvalidBuffer, Inv
 use Rattle.netlink_c.specs.Out.{CopiesOut}
 use Rattle.netlink_c.specs.declared.fault.FaultNumbers.{FaultNumbers}
 
--- the cause is told by its numbers: it has no words of its own, and a length field of 32 bits
+-- an error that its numbers identify: it holds no string, and its length field fits in 32 bits
 abbrev pub HasNumbersAlone : DecodeError → Type 0
 HasNumbersAlone (InvalidBuffer name received minimum_length) = ⊥
 HasNumbersAlone (FrameCut length size inside) = length < 2 ^ 32
@@ -37,7 +37,7 @@ cause_from fault =
     else if fault.cause == 16 then Some OutOfMemory
     else None
 
--- the text of the cause is copied out, or memory was refused for it and nothing is changed
+-- the error text is copied out, or the allocation for it failed and the buffer is unchanged
 abbrev pub IsTextOut : DecodeError → List ℕ → List ℕ → ℕ → ℕ → Type 0
 IsTextOut e buffer new size answer = CopiesOut (cause_text e) buffer new size answer
     ⊎ ((answer ≡ 16) × (new ≡ buffer))

@@ -1,20 +1,22 @@
-//! What a call answers where there is no cause.
+//! What a function returns if it has no `DecodeError` to report.
 
-/// The call did what it is for.
+/// The function succeeded.
 pub const OK: u32 = 0;
 
-/// There is no room in the buffer from the cursor on (the number of `BufferTooSmall`); nothing was
-/// changed.
+/// There is not enough room in the buffer (the number of `BufferTooSmall`). Nothing is changed,
+/// except that a function with a `size` sets it to the size that is needed. No `FaultNumbers` is
+/// written.
 pub const NO_ROOM: u32 = 8;
 
-/// A request for memory was refused (the number of `OutOfMemory`).
+/// An allocation failed (the number of `OutOfMemory`).
 pub const NO_MEMORY: u32 = 16;
 
 /// A walk is at its end.
 pub const END: u32 = 32;
 
-/// A value, a nest or a frame is longer than its length field can say; nothing was changed.
+/// A value, a nest or a frame is longer than its length field can count. Nothing is changed.
 pub const TOO_LONG: u32 = 33;
 
-/// A place is not one that such a call can have; nothing was changed.
+/// An offset, an index, a size or the numbers of an error are not valid for the function. Nothing
+/// is changed.
 pub const NO_PLACE: u32 = 34;

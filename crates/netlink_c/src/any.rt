@@ -1,4 +1,4 @@
-//! A protocol of any bytes.
+//! A protocol that accepts any bytes.
 
 ghost use Rattle.std.proofs.Common.{rules};
 ghost use Rattle.std.proofs.lemmas.Grind.{common_steps};
@@ -13,19 +13,19 @@ use std::alloc::{AllocError, Global};
 use std::error::Error;
 use std::fmt;
 
-/// A message of any type from 16 on, with any bytes.
+/// A message with any type of 16 or greater, and with any bytes.
 #[derive(Debug, Drop, PartialEq, Eq)]
 pub struct AnyMessage {
     kind: ProtocolType,
     bytes: Vec<u8>,
 }
 
-/// Why a payload is no message of this protocol.
+/// Why a payload cannot be decoded.
 #[derive(Clone, Copy, Debug, PartialEq, Eq)]
 pub enum AnyError {
-    /// The message type is below 16.
+    /// The message type is less than 16.
     BelowLeastType,
-    /// A request for memory was refused.
+    /// An allocation failed.
     OutOfMemory,
 }
 
@@ -47,7 +47,7 @@ impl From<AllocError> for AnyError {
 
     ghost from_gives = { λ _ e. e ≡ OutOfMemory };
 
-    /// `OutOfMemory`, so that `?` hands on a refused request for memory.
+    /// Returns `OutOfMemory`, so that `?` propagates a failed allocation.
     fn from(_refused: AllocError) -> Self {
         Self::OutOfMemory
     }
@@ -72,7 +72,7 @@ impl NetlinkSerializable for AnyMessage {
         frame.extend_from_slice(&self.bytes)
     }
 
-    /// Asks for no memory.
+    /// Does not allocate.
     fn is_written_as(&self, _alloc: Global, bytes: &[u8]) -> Result<bool, AllocError> {
         Ok(bytes == self.bytes.as_slice())
     }
@@ -85,7 +85,8 @@ impl NetlinkDeserializable for AnyMessage {
 
     ghost wants_memory = { wants_memory };
 
-    /// The type and a copy of the payload; a type below 16 is refused.
+    /// Returns the type and a copy of the payload. Returns `BelowLeastType` if the type is less
+    /// than 16, and `OutOfMemory` if the allocation for the copy fails.
     fn deserialize(
         alloc: Global,
         header: &NetlinkHeader,

@@ -13,16 +13,15 @@ ghost use Rattle.netlink_c.specs.Ends.{AnswersEnd, AnswersPutFrame, IsStretch, P
 ghost use Rattle.netlink_c.specs.Ends.{begun_size, frame_bytes};
 
 use crate::answers::{NO_PLACE, NO_ROOM, OK, TOO_LONG};
-use crate::frame::HeaderFields;
 use netlink_packet_core::{
     Emitable, NETLINK_HEADER_LEN, NLA_HEADER_SIZE, NetlinkHeader, nlmsg_align, put_u16, put_u32,
 };
 
-/// Ends a nest: the bytes from behind the header at `start` up to the cursor become its value.
+/// Ends a nest: the bytes after the header at `start`, up to the cursor, become its value.
 ///
-/// Answers 0; `NO_PLACE` where the cursor is not in the buffer, or not a multiple of 4 behind the
-/// start, or less than 4; or else `TOO_LONG` where the value has more than `NLA_VALUE_MAX` bytes.
-/// Writes the length field, and nothing else. Asks for no memory.
+/// Returns 0; `NO_PLACE` if the cursor is outside the buffer, fewer than 4 bytes after the start,
+/// or at a distance that is not a multiple of 4; otherwise `TOO_LONG` if the value has more than
+/// `NLA_VALUE_MAX` bytes. Writes the length field, and nothing else. Does not allocate.
 #[unsafe(no_mangle)]
 pub extern "C" fn nlp_nest_end(buffer: &mut [u8], cursor: usize, start: usize) -> u32
     ensures answers { AnswersEnd 4 (2 ^ 16) (length buffer.old) start cursor result }
@@ -45,18 +44,18 @@ pub extern "C" fn nlp_nest_end(buffer: &mut [u8], cursor: usize, start: usize) -
     OK
 }
 
-/// Begins a frame: adds its header, whose length field counts what is put here, then the bytes that
-/// the sub-protocol has in front of its attributes, and zeros up to a multiple of 4.
+/// Begins a frame: puts its header, whose length field counts what is put here, then the bytes of
+/// the sub-protocol's fixed header, and zeros up to a multiple of 4.
 ///
-/// The length that the caller's header has is not looked at. Answers 0, and the cursor is then
-/// behind the zeros; `TOO_LONG` where the length does not fit 32 bits; or else `NO_ROOM`. What is
-/// put from then on belongs to the frame, once `nlp_frame_end` is given the old cursor. Asks for no
-/// memory.
+/// Ignores the length in the caller's header. Returns 0, and moves the cursor past the zeros;
+/// `TOO_LONG` if the length does not fit in 32 bits; otherwise `NO_ROOM` if there is no room. What
+/// is put after that belongs to the frame once `nlp_frame_end` is called with the old cursor. Does
+/// not allocate.
 #[unsafe(no_mangle)]
 pub extern "C" fn nlp_frame_put(
     buffer: &mut [u8],
     cursor: &mut usize,
-    header: &HeaderFields,
+    header: &NetlinkHeader,
     fixed: &[u8],
 ) -> u32
     ensures answers { AnswersPutFrame (length fixed.now) (length buffer.old) cursor.old result }
@@ -76,13 +75,8 @@ pub extern "C" fn nlp_frame_put(
     if at > buffer.len() || buffer.len() - at < whole {
         return NO_ROOM;
     }
-    let begun = NetlinkHeader {
-        length: size as u32,
-        message_type: header.message_type,
-        flags: header.flags,
-        sequence_number: header.sequence_number,
-        port_number: header.port_number,
-    };
+    let mut begun = *header;
+    begun.length = size as u32;
     put_frame_at(buffer, at, whole, &begun, fixed);
     *cursor = at + whole;
     OK
@@ -90,9 +84,9 @@ pub extern "C" fn nlp_frame_put(
 
 /// Ends a frame: its length field becomes the number of bytes from `start` up to the cursor.
 ///
-/// Answers 0; `NO_PLACE` where the cursor is not in the buffer, or not a multiple of 4 behind the
-/// start, or less than 16; or else `TOO_LONG` where the length does not fit 32 bits. Writes the
-/// length field, and nothing else. Asks for no memory.
+/// Returns 0; `NO_PLACE` if the cursor is outside the buffer, fewer than 16 bytes after the start,
+/// or at a distance that is not a multiple of 4; otherwise `TOO_LONG` if the length does not fit in
+/// 32 bits. Writes the length field, and nothing else. Does not allocate.
 #[unsafe(no_mangle)]
 pub extern "C" fn nlp_frame_end(buffer: &mut [u8], cursor: usize, start: usize) -> u32
     ensures answers { AnswersEnd 16 (2 ^ 32) (length buffer.old) start cursor result }
@@ -114,15 +108,15 @@ pub extern "C" fn nlp_frame_end(buffer: &mut [u8], cursor: usize, start: usize) 
     OK
 }
 
-/// Whether from the start up to the cursor there are bytes of the buffer, a multiple of 4, and at
-/// least this many.
+/// Returns whether the bytes from the start up to the cursor are in the buffer, and are at least
+/// `least` and a multiple of 4.
 fn is_stretch(room: usize, start: usize, cursor: usize, least: usize) -> bool
     ensures { IsTrue result ↔ IsStretch room start cursor least }
 {
     start <= cursor && cursor <= room && cursor - start >= least && (cursor - start) % 4 == 0
 }
 
-/// Writes a frame of this size with its padding at a place.
+/// Writes a frame of this size, with its padding, at an offset.
 fn put_frame_at(buffer: &mut [u8], at: usize, whole: usize, header: &NetlinkHeader, fixed: &[u8])
     requires size { whole ≡ begun_size (length fixed.now) }
     requires room { at + whole ≤ length buffer.old }
@@ -132,7 +126,7 @@ fn put_frame_at(buffer: &mut [u8], at: usize, whole: usize, header: &NetlinkHead
     write_frame(&mut buffer[at..at + whole], header, fixed);
 }
 
-/// Fills the buffer with a header of this length, the bytes, and zeros.
+/// Fills the buffer with the header, the bytes, and zeros.
 #[tactic(auto, using(crate::proofs::EndLemmas::frame_sizes))]
 fn write_frame(buffer: &mut [u8], header: &NetlinkHeader, fixed: &[u8])
     requires room { length fixed.now + 16 ≤ length buffer.old }

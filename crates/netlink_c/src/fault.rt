@@ -1,4 +1,4 @@
-//! The numbers of a cause.
+//! The numbers of an error.
 
 ghost use Rattle.std.specs.Prelude.{◌≡◌, ◌<◌, if◌then◌else◌};
 ghost use Rattle.netlink_packet_core.specs.Causes.{cause_number};
@@ -6,22 +6,23 @@ ghost use Rattle.netlink_c.specs.Fault.{numbers_of};
 
 use netlink_packet_core::DecodeError;
 
-/// The numbers of a cause (`struct nlp_fault`).
+/// The numbers of an error (`struct nlp_fault`).
 #[derive(Clone, Copy, Debug, PartialEq, Eq)]
 #[repr(C)]
 pub struct FaultNumbers {
-    /// The number of the cause, 1 to 16.
+    /// The number of the `DecodeError` variant, 1 to 16.
     pub cause: u32,
-    /// 1 where the fault was found inside a larger call, else 0.
+    /// 1 if the error was found inside a larger call, else 0.
     pub inside: u32,
-    /// The bytes that there are, where the cause has such a number, else 0.
+    /// The number of bytes available, if the error has it, else 0. For `NlaInvalidLength` it is the
+    /// minimum length, 4.
     pub size: usize,
-    /// What a length field says or what is wanted, in bytes, where the cause has such a number,
-    /// else 0.
+    /// The value of a length field, or the number of bytes needed, if the error has it, else 0.
     pub wanted: usize,
 }
 
-/// Writes the numbers of a cause, and answers the cause's own.
+/// Writes the numbers of an error into `fault`, and returns the number of its variant, which is not
+/// 0.
 #[tactic(auto, using(crate::proofs::RefusalLemmas::cause_some))]
 pub(crate) fn refused(fault: &mut FaultNumbers, cause: &DecodeError) -> u32
     ensures number { result ≡ cause_number cause.now }
@@ -39,7 +40,7 @@ pub(crate) fn refused(fault: &mut FaultNumbers, cause: &DecodeError) -> u32
     number
 }
 
-/// Whether the fault was found inside, the bytes that there are, and what is wanted.
+/// Returns `inside`, `size` and `wanted` for an error.
 fn other_numbers(cause: &DecodeError) -> (bool, usize, usize)
     ensures inside { (if result.0 then 1 else 0) ≡ (numbers_of cause.now).inside }
     ensures size { result.1 ≡ (numbers_of cause.now).size }

@@ -1,47 +1,33 @@
-//! A frame in place: whether it is whole, its header, its payload, and the bodies of done and error
-//! messages.
+//! A frame in place: whether it is complete, its header, its payload, and the bodies of done and
+//! error messages.
 
 ghost use Rattle.std.specs.Prelude.{◌≡◌, ◌≢◌, ◌+◌, ◌≤◌, ◌<◌, length, drop, false};
 ghost use Rattle.netlink_packet_core.specs.DecodeError.{DecodeError};
 ghost use Rattle.netlink_packet_core.specs.Header.{HoldsFrame, field, header_of, payload_of};
 ghost use Rattle.netlink_packet_core.specs.Numbers.{signed};
 ghost use Rattle.netlink_packet_core.specs.Refusal.{IsFrameFault};
-ghost use Rattle.netlink_c.specs.Bodies.{IsShortDone, IsShortError, IsShortHeader, fields_of};
+ghost use Rattle.netlink_c.specs.Bodies.{IsShortDone, IsShortError, IsShortHeader};
 ghost use Rattle.netlink_c.specs.Fault.{Refuses};
 ghost use Rattle.netlink_c.specs.Parts.{part_of};
 
 use crate::answers::OK;
 use crate::fault::{FaultNumbers, refused};
-use netlink_packet_core::{DecodeError, DoneBuffer, NETLINK_HEADER_LEN, NetlinkBuffer};
+use netlink_packet_core::{
+    DecodeError, DoneBuffer, NETLINK_HEADER_LEN, NetlinkBuffer, NetlinkHeader,
+};
 
-/// A part of bytes (`struct nlp_part`): where it starts, and how many bytes it has.
+/// A part of a buffer (`struct nlp_part`).
 #[derive(Clone, Copy, Debug, PartialEq, Eq)]
 #[repr(C)]
 pub struct Part {
-    /// Where the part starts, in bytes from the start of what was given.
+    /// The offset of the part, in bytes from the start of the buffer.
     pub offset: usize,
-    /// Its number of bytes.
+    /// The size of the part in bytes.
     pub size: usize,
 }
 
-/// The five fields of a header (`struct nlp_header`), laid out as `struct nlmsghdr`.
-#[derive(Clone, Copy, Debug, PartialEq, Eq)]
-#[repr(C)]
-pub struct HeaderFields {
-    /// The size of the message in bytes, its header included.
-    pub length: u32,
-    /// What the message is: one of `NLMSG_*`, or a type of the sub-protocol.
-    pub message_type: u16,
-    /// The `NLM_F_*` bits.
-    pub flags: u16,
-    /// The number that ties an answer to its request.
-    pub sequence_number: u32,
-    /// The address of the sending socket.
-    pub port_number: u32,
-}
-
-/// Whether the bytes hold a whole frame: 0, or `FrameShort`, `FrameCut` or `FrameLength`. Wraps
-/// `NetlinkBuffer::new_checked`.
+/// Checks that the bytes begin with a complete frame. Returns 0, or the number of `FrameShort`,
+/// `FrameCut` or `FrameLength`. Wraps `NetlinkBuffer::new_checked`. Does not allocate.
 #[unsafe(no_mangle)]
 pub extern "C" fn nlp_frame_check(bytes: &[u8], fault: &mut FaultNumbers) -> u32
     ensures whole { result ≡ 0 → HoldsFrame bytes.now }
@@ -54,16 +40,17 @@ pub extern "C" fn nlp_frame_check(bytes: &[u8], fault: &mut FaultNumbers) -> u32
     }
 }
 
-/// The five fields of the header that the bytes begin with: 0, or `FrameShort` where there are
-/// fewer than 16 bytes. The length field may say anything.
+/// Reads the header that the bytes begin with (`struct nlp_header`, laid out as `struct nlmsghdr`).
+/// Returns 0, or the number of `FrameShort` if there are fewer than 16 bytes. The length field may
+/// hold any value. Does not allocate.
 #[unsafe(no_mangle)]
 pub extern "C" fn nlp_frame_header(
     bytes: &[u8],
-    header: &mut HeaderFields,
+    header: &mut NetlinkHeader,
     fault: &mut FaultNumbers,
 ) -> u32
     ensures fields { result ≡ 0 → (16 ≤ length bytes.now)
-        × (header.new ≡ fields_of (header_of bytes.now)) }
+        × (header.new ≡ header_of bytes.now) }
     ensures unfaulted { result ≡ 0 → fault.new ≡ fault.old }
     ensures refuses { result ≢ 0 → Refuses (IsShortHeader bytes.now) result fault.new
         × (header.new ≡ header.old) }
@@ -73,7 +60,7 @@ pub extern "C" fn nlp_frame_header(
         return refused(fault, &DecodeError::frame_short(size, false));
     }
     let view = NetlinkBuffer::new(bytes);
-    *header = HeaderFields {
+    *header = NetlinkHeader {
         length: view.length(),
         message_type: view.message_type(),
         flags: view.flags(),
@@ -83,8 +70,8 @@ pub extern "C" fn nlp_frame_header(
     OK
 }
 
-/// Where the payload of the frame lies that the bytes hold whole: 0, or `FrameShort`, `FrameCut` or
-/// `FrameLength`. Wraps `NetlinkBuffer::payload`.
+/// Finds the payload of the complete frame that the bytes begin with. Returns 0, or the number of
+/// `FrameShort`, `FrameCut` or `FrameLength`. Wraps `NetlinkBuffer::payload`. Does not allocate.
 #[unsafe(no_mangle)]
 pub extern "C" fn nlp_frame_payload(
     bytes: &[u8],
@@ -112,8 +99,9 @@ pub extern "C" fn nlp_frame_payload(
     }
 }
 
-/// The body of a message of type `NLMSG_DONE`: its code, and where the bytes behind it lie. 0, or
-/// `DoneShort` where there are fewer than 4 bytes. Wraps `DoneBuffer`.
+/// Reads the body of a message of type `NLMSG_DONE`: its code, and where the bytes after the code
+/// are. Returns 0, or the number of `DoneShort` if there are fewer than 4 bytes. Wraps
+/// `DoneBuffer`. Does not allocate.
 #[unsafe(no_mangle)]
 pub extern "C" fn nlp_done_body(
     payload: &[u8],

@@ -1,9 +1,12 @@
-//! The library for C: views, walks, writing, normal forms and texts, over slices and numbers alone.
+//! The library for C: views, walks, writing, canonical forms and error texts, over slices, integers
+//! and structs of integers.
 //!
-//! Each call states the clauses of the call of `netlink_packet_core` or `netlink_tree` that it
-//! wraps. A call answers 0, an answer of `answers`, or the number of a cause, whose other numbers
-//! it then writes into a `FaultNumbers`. No call has a condition. A slice crosses as a pointer and
-//! a number of bytes.
+//! Most functions wrap a function of `netlink_packet_core` or `netlink_tree`, and their clauses use
+//! the definitions of that crate. A function returns a constant of `answers` or an error, except
+//! for `nlp_attrs_is_canonical`, which returns a `bool`. For an error such as `FrameShort`, the
+//! result is the number of that variant of `DecodeError`, and the numbers of the error are written
+//! into a `FaultNumbers`. No function has a `requires` clause. In C, a slice is a pointer and a
+//! number of bytes.
 #![tactic(auto)]
 
 pub mod answered;

@@ -1,4 +1,4 @@
-//! Normal forms: what is canonical, and the canonical form of bytes, written into a caller's
+//! Canonical forms: whether bytes are canonical, and writing their canonical form into the caller's
 //! buffer.
 
 ghost use Rattle.std.specs.Prelude.{◌≡◌, ◌↔◌, ◌⊎◌, ◌≢◌, ◌≤◌, [], List, None, Some, IsTrue, take};
@@ -23,8 +23,8 @@ use crate::fault::{FaultNumbers, refused};
 use netlink_packet_core::{is_canonical_frame, is_canonical_nlas, normalize, normalize_nlas};
 use std::alloc::Global;
 
-/// Whether the bytes are a canonical block: attributes one after another, each with the whole of
-/// its padding, of zeros. Wraps `is_canonical_nlas`. Asks for no memory.
+/// Returns whether the bytes are a canonical block: attributes one after another, each with all of
+/// its padding, as zeros. Wraps `is_canonical_nlas`. Does not allocate.
 #[unsafe(no_mangle)]
 pub extern "C" fn nlp_attrs_is_canonical(bytes: &[u8]) -> bool
     ensures canonical { IsTrue result ↔ IsCanonicalBlock bytes.now }
@@ -32,13 +32,14 @@ pub extern "C" fn nlp_attrs_is_canonical(bytes: &[u8]) -> bool
     is_canonical_nlas(bytes)
 }
 
-/// Writes the canonical block of the bytes: the attributes that they walk as, each with its padding
-/// of zeros.
+/// Writes the canonical block for the bytes: the attributes that walking them yields, each padded
+/// with zeros.
 ///
-/// Answers 0, and the block is then the first `size` bytes; `NlaBufferTooSmall`,
-/// `NlaLengthMismatch` or `NlaInvalidLength` where the walk has that fault; `OutOfMemory`; or
-/// `NO_ROOM`, and `size` is then what is wanted. Only 0 changes the buffer. Wraps `normalize_nlas`,
-/// which asks for memory of the block's size.
+/// Returns 0 on success; the block is then the first `size` bytes of `buffer`. Returns
+/// `NlaBufferTooSmall`, `NlaLengthMismatch` or `NlaInvalidLength` if that error ends the walk, and
+/// `OutOfMemory` if an allocation fails. Returns `NO_ROOM`, and sets `size` to the size that is
+/// needed, if the block does not fit in `buffer`. Changes `buffer` only if it returns 0. Wraps
+/// `normalize_nlas`, which allocates at most once, for the size of the block.
 #[unsafe(no_mangle)]
 pub extern "C" fn nlp_attrs_normalize(
     alloc: Global,
@@ -64,10 +65,12 @@ pub extern "C" fn nlp_attrs_normalize(
     }
 }
 
-/// Whether the bytes are a canonical frame, for any type from 16 on with any bytes: 1 or 0 in
-/// `canonical`.
+/// Sets `canonical` to 1 if the bytes are a canonical frame, and to 0 if they are not. If the type
+/// is 16 or greater, the payload may be any bytes.
 ///
-/// Answers 0; or `OutOfMemory`. Wraps `is_canonical_frame`.
+/// Returns 0 on success. Returns `OutOfMemory`, and leaves `canonical` unchanged, if an allocation
+/// fails. Wraps `is_canonical_frame`, and allocates only to copy the payload of a message with a
+/// type of 16 or greater.
 #[unsafe(no_mangle)]
 pub extern "C" fn nlp_frame_is_canonical(
     alloc: Global,
@@ -90,13 +93,14 @@ pub extern "C" fn nlp_frame_is_canonical(
     }
 }
 
-/// Writes the canonical frame of the message whose frame the bytes begin with, for any type from 16
-/// on with any bytes.
+/// Writes the canonical frame of the message whose frame is at the start of the bytes. If the type
+/// is 16 or greater, the payload may be any bytes.
 ///
-/// Answers 0, and the frame is then the first `size` bytes; the cause for which
-/// `NetlinkMessage::deserialize` refuses; `TooLong`; `OutOfMemory`; or `NO_ROOM`, and `size` is
-/// then what is wanted. Only 0 changes the buffer. Wraps `normalize`, which asks for memory of the
-/// frame's size.
+/// Returns 0 on success; the frame is then the first `size` bytes of `buffer`. Returns the error of
+/// `NetlinkMessage::deserialize` if that rejects the bytes, `TooLong` if the length of the message
+/// does not fit in 32 bits, and `OutOfMemory` if an allocation fails. Returns `NO_ROOM`, and sets
+/// `size` to the size that is needed, if the frame does not fit in `buffer`. Changes `buffer` only
+/// if it returns 0. Wraps `normalize`, which allocates for the payload and for the frame.
 #[unsafe(no_mangle)]
 pub extern "C" fn nlp_frame_normalize(
     alloc: Global,
@@ -124,7 +128,9 @@ pub extern "C" fn nlp_frame_normalize(
     }
 }
 
-/// Puts the bytes in front where there is room, and tells their size.
+/// Sets `size` to the number of bytes, and writes them at the start of `buffer`, leaving the rest
+/// unchanged. Returns 0 on success. Returns `NO_ROOM`, and leaves `buffer` unchanged, if they do
+/// not fit.
 pub(crate) fn copy_out(bytes: &[u8], buffer: &mut [u8], size: &mut usize) -> u32
     ensures copies { CopiesOut bytes.now buffer.old buffer.new size.new result }
     ensures answers { (result ≡ 0) ⊎ (result ≡ 8) }

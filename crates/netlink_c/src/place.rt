@@ -1,4 +1,4 @@
-//! A value written in place.
+//! A value overwritten in place.
 
 ghost use Rattle.std.specs.Prelude.{◌≡◌, ◌≢◌, ◌↔◌, List, Option, length};
 ghost use Rattle.netlink_packet_core.specs.Attribute.{Attribute};
@@ -8,13 +8,14 @@ ghost use Rattle.netlink_packet_core.specs.Walk.{Walk};
 ghost use Rattle.netlink_c.specs.declared.answers.TheConstants.{NO_PLACE};
 
 use crate::answers::{NO_PLACE, OK};
-use netlink_packet_core::nla_place;
+use netlink_packet_core::write_nla_value;
 
-/// Writes a value over that of the attribute with this index, which counts from 0, also in front of
-/// a fault.
+/// Overwrites the value of the attribute at `index`, which counts from 0, even if the block is
+/// malformed further on.
 ///
-/// Answers 0 exactly where there is such an attribute and its value has the same size in bytes;
-/// else `NO_PLACE`, and the block stays as it was. Stands on `nla_place`. Asks for no memory.
+/// Returns 0 if and only if there is such an attribute and its value has the same size in bytes.
+/// Otherwise returns `NO_PLACE`, and the block is unchanged. Wraps `write_nla_value`. Does not
+/// allocate.
 #[unsafe(no_mangle)]
 pub extern "C" fn nlp_attr_write(block: &mut [u8], index: usize, value: &[u8]) -> u32
     ensures done { (all : List Attribute) (fault : Option DecodeError) → Walk block.old all fault
@@ -22,11 +23,9 @@ pub extern "C" fn nlp_attr_write(block: &mut [u8], index: usize, value: &[u8]) -
     ensures written { result ≡ 0 → IsWritten block.old index value.now block.new }
     ensures unchanged { result ≢ 0 → (result ≡ NO_PLACE) × (block.new ≡ block.old) }
 {
-    match nla_place(&block[..], index) {
-        Some((start, end)) if end - start == value.len() => {
-            block[start..end].copy_from_slice(value);
-            OK
-        }
-        _ => NO_PLACE,
+    if write_nla_value(block, index, value) {
+        OK
+    } else {
+        NO_PLACE
     }
 }

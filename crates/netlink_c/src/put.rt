@@ -1,4 +1,4 @@
-//! Attributes, written into a caller's buffer from a cursor on.
+//! Attributes, written into a caller's buffer at a cursor.
 
 ghost use Rattle.std.specs.Prelude.{◌≡◌, ◌≢◌, ◌+◌, ◌<◌, ◌≤◌, ◌^◌, ◌++◌, ◌∷◌, [], drop, length};
 ghost use Rattle.netlink_packet_core.specs.Attribute.{padded, value_max};
@@ -7,7 +7,7 @@ ghost use Rattle.netlink_packet_core.specs.Numbers.{bytes_le};
 ghost use Rattle.netlink_packet_core.specs.Storage.{put_at};
 ghost use Rattle.netlink_packet_core.specs.Views.{nested};
 ghost use Rattle.netlink_packet_core.specs.Walk.{Starts};
-ghost use Rattle.netlink_c.specs.Put.{AnswersPut, GrowsBlock, PutsAttribute};
+ghost use Rattle.netlink_c.specs.Put.{AnswersPut, GrowsBlock, Puts, PutsAttribute};
 
 use crate::answers::{NO_ROOM, OK, TOO_LONG};
 use netlink_packet_core::{
@@ -15,11 +15,12 @@ use netlink_packet_core::{
     nla_fits,
 };
 
-/// Adds an attribute from the cursor on, its kind as it is, with its padding of zeros.
+/// Puts an attribute at the cursor, its kind unchanged, padded with zeros.
 ///
-/// Answers 0, and the cursor is then behind the padding; `TOO_LONG` where the value has more than
-/// `NLA_VALUE_MAX` bytes; or else `NO_ROOM`. What was put is what `nlp_attrs_next` answers from the
-/// old cursor on. Wraps `emit_nla`. Asks for no memory.
+/// Returns 0, and moves the cursor past the padding; `TOO_LONG` if the value has more than
+/// `NLA_VALUE_MAX` bytes; otherwise `NO_ROOM` if there is no room. Only 0 changes the buffer or the
+/// cursor. `nlp_attrs_next` reads the attribute back at the old cursor. Wraps `emit_nla`. Does not
+/// allocate.
 #[unsafe(no_mangle)]
 pub extern "C" fn nlp_attr_put(
     buffer: &mut [u8],
@@ -27,21 +28,13 @@ pub extern "C" fn nlp_attr_put(
     kind: u16,
     value: &[u8],
 ) -> u32
-    ensures answers { AnswersPut (attribute_with kind value.now) buffer.old cursor.old result }
-    ensures written { result ≡ 0
-        → PutsAttribute (attribute_with kind value.now) buffer.old cursor.old buffer.new
-        cursor.new }
-    ensures block { result ≡ 0
-        → GrowsBlock (attribute_with kind value.now) buffer.old cursor.old buffer.new cursor.new }
-    ensures reads_back { result ≡ 0
-        → Starts (drop cursor.old buffer.new) (attribute_with kind value.now)
-        (drop cursor.new buffer.new) }
-    ensures unchanged { result ≢ 0 → (buffer.new ≡ buffer.old) × (cursor.new ≡ cursor.old) }
+    ensures puts { Puts (attribute_with kind value.now) buffer.old cursor.old
+        buffer.new cursor.new result }
 {
     put(buffer, cursor, &Value { kind, value })
 }
 
-/// Adds an attribute whose value is a number of 1 byte, as `nlp_attr_put` does.
+/// Puts an attribute whose value is a `u8`, as `nlp_attr_put` does.
 #[unsafe(no_mangle)]
 pub extern "C" fn nlp_attr_put_u8(
     buffer: &mut [u8],
@@ -49,23 +42,14 @@ pub extern "C" fn nlp_attr_put_u8(
     kind: u16,
     value: u8,
 ) -> u32
-    ensures answers { AnswersPut (attribute_with kind (value ∷ [])) buffer.old cursor.old result }
-    ensures written { result ≡ 0
-        → PutsAttribute (attribute_with kind (value ∷ [])) buffer.old cursor.old buffer.new
-        cursor.new }
-    ensures block { result ≡ 0
-        → GrowsBlock (attribute_with kind (value ∷ [])) buffer.old cursor.old buffer.new
-        cursor.new }
-    ensures reads_back { result ≡ 0
-        → Starts (drop cursor.old buffer.new) (attribute_with kind (value ∷ []))
-        (drop cursor.new buffer.new) }
-    ensures unchanged { result ≢ 0 → (buffer.new ≡ buffer.old) × (cursor.new ≡ cursor.old) }
+    ensures puts { Puts (attribute_with kind (value ∷ [])) buffer.old cursor.old
+        buffer.new cursor.new result }
 {
     let text = [value];
     put(buffer, cursor, &Value { kind, value: &text })
 }
 
-/// Adds an attribute whose value is a number of 2 bytes in native order, as `nlp_attr_put` does.
+/// Puts an attribute whose value is a `u16` in native byte order, as `nlp_attr_put` does.
 #[unsafe(no_mangle)]
 pub extern "C" fn nlp_attr_put_u16(
     buffer: &mut [u8],
@@ -73,25 +57,15 @@ pub extern "C" fn nlp_attr_put_u16(
     kind: u16,
     value: u16,
 ) -> u32
-    ensures answers { AnswersPut (attribute_with kind (bytes_le value 2)) buffer.old cursor.old
-        result }
-    ensures written { result ≡ 0
-        → PutsAttribute (attribute_with kind (bytes_le value 2)) buffer.old cursor.old buffer.new
-        cursor.new }
-    ensures block { result ≡ 0
-        → GrowsBlock (attribute_with kind (bytes_le value 2)) buffer.old cursor.old buffer.new
-        cursor.new }
-    ensures reads_back { result ≡ 0
-        → Starts (drop cursor.old buffer.new) (attribute_with kind (bytes_le value 2))
-        (drop cursor.new buffer.new) }
-    ensures unchanged { result ≢ 0 → (buffer.new ≡ buffer.old) × (cursor.new ≡ cursor.old) }
+    ensures puts { Puts (attribute_with kind (bytes_le value 2)) buffer.old cursor.old
+        buffer.new cursor.new result }
 {
     let mut text = [0u8; 2];
     let _written = emit_u16(&mut text, value);
     put(buffer, cursor, &Value { kind, value: &text })
 }
 
-/// Adds an attribute whose value is a number of 4 bytes in native order, as `nlp_attr_put` does.
+/// Puts an attribute whose value is a `u32` in native byte order, as `nlp_attr_put` does.
 #[unsafe(no_mangle)]
 pub extern "C" fn nlp_attr_put_u32(
     buffer: &mut [u8],
@@ -99,25 +73,15 @@ pub extern "C" fn nlp_attr_put_u32(
     kind: u16,
     value: u32,
 ) -> u32
-    ensures answers { AnswersPut (attribute_with kind (bytes_le value 4)) buffer.old cursor.old
-        result }
-    ensures written { result ≡ 0
-        → PutsAttribute (attribute_with kind (bytes_le value 4)) buffer.old cursor.old buffer.new
-        cursor.new }
-    ensures block { result ≡ 0
-        → GrowsBlock (attribute_with kind (bytes_le value 4)) buffer.old cursor.old buffer.new
-        cursor.new }
-    ensures reads_back { result ≡ 0
-        → Starts (drop cursor.old buffer.new) (attribute_with kind (bytes_le value 4))
-        (drop cursor.new buffer.new) }
-    ensures unchanged { result ≢ 0 → (buffer.new ≡ buffer.old) × (cursor.new ≡ cursor.old) }
+    ensures puts { Puts (attribute_with kind (bytes_le value 4)) buffer.old cursor.old
+        buffer.new cursor.new result }
 {
     let mut text = [0u8; 4];
     let _written = emit_u32(&mut text, value);
     put(buffer, cursor, &Value { kind, value: &text })
 }
 
-/// Adds an attribute whose value is a number of 8 bytes in native order, as `nlp_attr_put` does.
+/// Puts an attribute whose value is a `u64` in native byte order, as `nlp_attr_put` does.
 #[unsafe(no_mangle)]
 pub extern "C" fn nlp_attr_put_u64(
     buffer: &mut [u8],
@@ -125,25 +89,15 @@ pub extern "C" fn nlp_attr_put_u64(
     kind: u16,
     value: u64,
 ) -> u32
-    ensures answers { AnswersPut (attribute_with kind (bytes_le value 8)) buffer.old cursor.old
-        result }
-    ensures written { result ≡ 0
-        → PutsAttribute (attribute_with kind (bytes_le value 8)) buffer.old cursor.old buffer.new
-        cursor.new }
-    ensures block { result ≡ 0
-        → GrowsBlock (attribute_with kind (bytes_le value 8)) buffer.old cursor.old buffer.new
-        cursor.new }
-    ensures reads_back { result ≡ 0
-        → Starts (drop cursor.old buffer.new) (attribute_with kind (bytes_le value 8))
-        (drop cursor.new buffer.new) }
-    ensures unchanged { result ≢ 0 → (buffer.new ≡ buffer.old) × (cursor.new ≡ cursor.old) }
+    ensures puts { Puts (attribute_with kind (bytes_le value 8)) buffer.old cursor.old
+        buffer.new cursor.new result }
 {
     let mut text = [0u8; 8];
     let _written = emit_u64(&mut text, value);
     put(buffer, cursor, &Value { kind, value: &text })
 }
 
-/// Adds an attribute whose value is the bytes and one zero behind them, as a text of C has it, as
+/// Puts an attribute whose value is the bytes followed by one zero, as a C string has it, as
 /// `nlp_attr_put` does.
 #[unsafe(no_mangle)]
 pub extern "C" fn nlp_attr_put_str(
@@ -152,42 +106,25 @@ pub extern "C" fn nlp_attr_put_str(
     kind: u16,
     text: &[u8],
 ) -> u32
-    ensures answers { AnswersPut (attribute_with kind (text.now ++ 0 ∷ [])) buffer.old cursor.old
-        result }
-    ensures written { result ≡ 0
-        → PutsAttribute (attribute_with kind (text.now ++ 0 ∷ [])) buffer.old cursor.old buffer.new
-        cursor.new }
-    ensures block { result ≡ 0
-        → GrowsBlock (attribute_with kind (text.now ++ 0 ∷ [])) buffer.old cursor.old buffer.new
-        cursor.new }
-    ensures reads_back { result ≡ 0
-        → Starts (drop cursor.old buffer.new) (attribute_with kind (text.now ++ 0 ∷ []))
-        (drop cursor.new buffer.new) }
-    ensures unchanged { result ≢ 0 → (buffer.new ≡ buffer.old) × (cursor.new ≡ cursor.old) }
+    ensures puts { Puts (attribute_with kind (text.now ++ 0 ∷ [])) buffer.old cursor.old
+        buffer.new cursor.new result }
 {
     put(buffer, cursor, &Text { kind, text })
 }
 
-/// Begins a nest: adds an attribute with no value yet, its kind with the bit of nested attributes
-/// alone. What is put from then on is its value, once `nlp_nest_end` is given the old cursor.
+/// Begins a nest: puts an attribute without a value, whose kind has the nested bit set and the
+/// byte-order bit clear. What is put after that becomes its value once `nlp_nest_end` is called
+/// with the old cursor. Returns what `nlp_attr_put` returns.
 #[unsafe(no_mangle)]
 pub extern "C" fn nlp_nest_begin(buffer: &mut [u8], cursor: &mut usize, kind: u16) -> u32
-    ensures answers { AnswersPut (attribute_with (nested kind) []) buffer.old cursor.old result }
-    ensures written { result ≡ 0
-        → PutsAttribute (attribute_with (nested kind) []) buffer.old cursor.old buffer.new
-        cursor.new }
-    ensures block { result ≡ 0
-        → GrowsBlock (attribute_with (nested kind) []) buffer.old cursor.old buffer.new cursor.new }
-    ensures reads_back { result ≡ 0
-        → Starts (drop cursor.old buffer.new) (attribute_with (nested kind) [])
-        (drop cursor.new buffer.new) }
-    ensures unchanged { result ≢ 0 → (buffer.new ≡ buffer.old) × (cursor.new ≡ cursor.old) }
+    ensures puts { Puts (attribute_with (nested kind) []) buffer.old cursor.old
+        buffer.new cursor.new result }
 {
     let kind = kind % NLA_F_NET_BYTEORDER + NLA_F_NESTED;
     put(buffer, cursor, &Value { kind, value: &[] })
 }
 
-/// Adds an attribute where there is room.
+/// Puts an attribute at the cursor if there is room.
 #[tactic(auto, using(crate::proofs::PutLemmas::put_reads_back))]
 fn put<T: Nla>(buffer: &mut [u8], cursor: &mut usize, nla: &T) -> u32
     ensures answers { AnswersPut (attribute_with (T.kind_of nla.now) (T.value_of nla.now))
@@ -216,7 +153,7 @@ fn put<T: Nla>(buffer: &mut [u8], cursor: &mut usize, nla: &T) -> u32
     OK
 }
 
-/// Writes an attribute of this size at a place.
+/// Writes an attribute of this size at an offset.
 #[tactic(auto, using(crate::proofs::PutLemmas::put_sizes))]
 fn emit_at<T: Nla>(nla: &T, buffer: &mut [u8], at: usize, size: usize)
     requires fits { length (T.value_of nla.now) ≤ value_max }
@@ -255,7 +192,7 @@ impl<'a> Nla for Value<'a> {
     }
 }
 
-/// An attribute of a kind and a text, which ends with a zero.
+/// An attribute of a kind and a C string: the bytes and one zero.
 #[derive(Clone, Copy)]
 struct Text<'a> {
     kind: u16,

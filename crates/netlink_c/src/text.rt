@@ -1,4 +1,4 @@
-//! The text of a cause, written into a caller's buffer.
+//! The text of an error, written into the caller's buffer.
 
 ghost use Rattle.std.specs.Prelude.{◌≡◌, ◌≢◌, None, Some};
 ghost use Rattle.netlink_packet_core.specs.DecodeError.{DecodeError};
@@ -12,12 +12,13 @@ use crate::normal::copy_out;
 use netlink_packet_core::DecodeError;
 use std::alloc::Global;
 
-/// Writes the text of the cause that has these numbers, in UTF-8, with no zero behind it.
+/// Writes the text of the error that these numbers identify, in UTF-8, without a zero at its end.
 ///
-/// Answers 0, and the text is then the first `size` bytes; `NO_ROOM`, and `size` is then what is
-/// wanted; `NO_PLACE` where the numbers are of no cause, or of one with words of its own
-/// (`InvalidBuffer` and `Message`); or `OutOfMemory`. Only 0 changes the buffer. Wraps the
-/// `Display` of `DecodeError`; asks for memory for the text.
+/// Returns 0 on success; the text is then the first `size` bytes of `buffer`. Returns `NO_PLACE` if
+/// the numbers identify no error, or one that holds a string (`InvalidBuffer` or `Message`).
+/// Returns `NO_ROOM`, and sets `size` to the size that is needed, if the text does not fit in
+/// `buffer`. Returns `NO_MEMORY` if an allocation fails. Changes `buffer` only if it returns 0.
+/// Wraps the `Display` of `DecodeError`, and allocates for the text.
 #[unsafe(no_mangle)]
 pub extern "C" fn nlp_fault_text(
     alloc: Global,
@@ -39,7 +40,7 @@ pub extern "C" fn nlp_fault_text(
     text_out(alloc, &cause, buffer, size)
 }
 
-/// Writes the text of a cause.
+/// Writes the text of an error as `nlp_fault_text` does. Returns 0, `NO_ROOM` or `NO_MEMORY`.
 fn text_out(alloc: Global, cause: &DecodeError, buffer: &mut [u8], size: &mut usize) -> u32
     ensures text { IsTextOut cause.now buffer.old buffer.new size.new result }
     ensures unchanged { result ≢ 0 → buffer.new ≡ buffer.old }
@@ -51,7 +52,7 @@ fn text_out(alloc: Global, cause: &DecodeError, buffer: &mut [u8], size: &mut us
     }
 }
 
-/// The cause that has these numbers, where they tell it.
+/// Returns the error that these numbers identify, or `None` if there is none or it holds a string.
 fn cause_of(fault: &FaultNumbers) -> Option<DecodeError>
     ensures { result ≡ cause_from fault.now }
 {

@@ -1,4 +1,4 @@
-//! The frames of a datagram and the attributes of a block, one after another, by a cursor.
+//! Walking the frames of a datagram, and the attributes of a block, with a cursor.
 
 ghost use Rattle.std.specs.Prelude.{◌≡◌, ◌≢◌, ◌↔◌, ◌⊎◌, ◌+◌, ◌≤◌, ◌<◌, length, drop, false};
 ghost use Rattle.netlink_packet_core.specs.Attribute.{padding};
@@ -13,23 +13,25 @@ use crate::frame::Part;
 use netlink_packet_core::{NLA_HEADER_SIZE, NlasIterator, nla_align};
 use netlink_tree::Frames;
 
-/// An attribute of a block (`struct nlp_attr`): its kind, and where its value lies.
+/// An attribute of a block (`struct nlp_attr`): its kind, and the location of its value.
 #[derive(Clone, Copy, Debug, PartialEq, Eq)]
 #[repr(C)]
 pub struct AttributeItem {
     /// The kind with its two flag bits.
     pub kind: u16,
-    /// Where the value starts, in bytes from the start of the block.
+    /// The offset of the value in bytes, from the start of the block.
     pub offset: usize,
-    /// The number of bytes of the value.
+    /// The size of the value in bytes.
     pub size: usize,
 }
 
-/// The frame at the cursor, in bytes from the datagram's start, and the cursor behind it and its
-/// padding.
+/// Writes the location of the frame at `cursor` into `item`, and moves the cursor past the frame
+/// and its padding. The offset is relative to the start of the datagram.
 ///
-/// Answers 0; or `END` where no bytes are left; or `FrameShort`, `FrameCut` or `FrameLength`, and
-/// the cursor is then at the end. Wraps `Frames`. Asks for no memory.
+/// Returns 0 on success. Returns `END`, and leaves the cursor unchanged, if and only if the cursor
+/// is at or past the end of the datagram. Returns `FrameShort`, `FrameCut` or `FrameLength`, and
+/// moves the cursor to the end, if there is no complete frame at the cursor. Changes `item` only if
+/// it returns 0. Wraps `Frames`. Does not allocate.
 #[tactic(auto, using(crate::proofs::WalkLemmas::frame_fits))]
 #[unsafe(no_mangle)]
 pub extern "C" fn nlp_frames_next(
@@ -66,13 +68,15 @@ pub extern "C" fn nlp_frames_next(
     }
 }
 
-/// The attribute at the cursor, in bytes from the block's start, and the cursor behind it and its
-/// padding.
+/// Writes the kind of the attribute at `cursor`, and the location of its value, into `item`, and
+/// moves the cursor past the attribute and its padding. The offset is relative to the start of the
+/// block.
 ///
-/// Answers 0; or `END` where no bytes are left; or `NlaBufferTooSmall`, `NlaLengthMismatch` or
-/// `NlaInvalidLength`, and the cursor is then at the end.
-/// The attributes inside a nest are walked by the same call on its value. Wraps `NlasIterator`.
-/// Asks for no memory.
+/// Returns 0 on success. Returns `END`, and leaves the cursor unchanged, if and only if the cursor
+/// is at or past the end of the block. Returns `NlaBufferTooSmall`, `NlaLengthMismatch` or
+/// `NlaInvalidLength`, and moves the cursor to the end, if there is no complete attribute at the
+/// cursor. Changes `item` only if it returns 0. To walk the attributes inside a nest, call this
+/// function on its value. Wraps `NlasIterator`. Does not allocate.
 #[unsafe(no_mangle)]
 pub extern "C" fn nlp_attrs_next(
     bytes: &[u8],
@@ -112,7 +116,8 @@ pub extern "C" fn nlp_attrs_next(
     }
 }
 
-/// The place behind so many bytes and their padding, or the end.
+/// Returns the offset past the `size` bytes at `at` and their padding, or the end of the bytes if
+/// that comes first. Requires `at + size <= bytes.len()`, and that `size` is not 0.
 #[inline(always)]
 fn behind(bytes: &[u8], at: usize, size: usize) -> usize
     requires inside { (at + size ≤ length bytes.now) × (0 < size) }

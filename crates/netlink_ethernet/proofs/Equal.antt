@@ -1,4 +1,4 @@
--- Two protocols are equal by the derived `==` exactly if they are the same value.
+-- Two protocols are equal by the derived `==` if and only if they are the same value.
 use Rattle.std.proofs.Common.{◌≡◌, ◌↔◌, ℕ, zero, suc, Bool, true, false, nat_eq, List, [], ◌∷◌, IsTrue, inl, inr, ap, arith}
 use Rattle.std.proofs.lemmas.Grind.{common_steps}
 use denote.Enum.Compared.{Each, by}
@@ -8,7 +8,7 @@ use Rattle.netlink_ethernet.specs.contracts.protocol.EthernetProtocol.{as_values
 use Rattle.netlink_ethernet.specs.contracts.protocol.EthernetProtocolPartialEq.TheImpl
 use Rattle.netlink_ethernet.specs.declared.protocol.EthernetProtocol.{EthernetProtocol}
 
--- so many variants with no field, and then one of a number
+-- n variants without fields, and then one with a number
 abbrev parts_of : ℕ → List (List Field)
 parts_of zero = (u16-field ∷ []) ∷ []
 parts_of (suc n) = [] ∷ parts_of n

@@ -1,4 +1,4 @@
--- The constants hold the table's rows, the numbers rise, and the conversions agree.
+-- The constants hold the table's rows, the numbers are ascending, and the conversions agree.
 use Rattle.std.proofs.Common.{◌≡◌, ◌≢◌, add-one, ℕ, zero, suc, List, [], ◌∷◌, length, true, Bool, ◌&&◌, nat_lt, map, refl, arith, inl, inr}
 use Rattle.std.proofs.lemmas.Bool.{cases_eq, eq-eqb, ne_eqb}
 use Rattle.std.proofs.lemmas.Bool.Decides.{nat_tests}
@@ -63,7 +63,7 @@ first_with-no_row n (p ∷ ps) h =
     let later : ¬ Contains (map number_of ps) n = λ (k, below, same). h (suc k, omega arith, same) in
     rw (ne_eqb (number_of p) n other) (first_with-no_row n ps later)
 
--- a number that no row has
+-- a number that is in no row
 pub protocol_of-no_row : (n : ℕ) → ¬ Contains numbers n → protocol_of n ≡ Other n
 unfolding protocol_of numbers
 protocol_of-no_row n h = first_with-no_row n named h

@@ -1,4 +1,4 @@
--- The search in the numbers, and how many comparisons it takes.
+-- The search for a number, and how many comparisons it takes.
 use Rattle.std.proofs.Common.{◌≡◌, ℕ, zero, suc, ◌+◌, ◌-◌, ◌*◌, ◌^◌, ◌<◌, ◌≤◌, List, length, slice_index, slice_get, Some, get_or, sym, ap, ◌∙◌, arith, inl, inr, true, false, Ordering, Less, Equal, Greater}
 use Rattle.std.proofs.Math.Nat.{pow-succ'}
 use Rattle.std.proofs.lemmas.Bool.{cases_lt}
@@ -14,7 +14,7 @@ use Rattle.netlink_ethernet.proofs.Rows as rows
 
 -- ---- the rows that are left
 
--- of a list that rises strictly, each number is below those after it
+-- in a strictly ascending list, each number is less than those after it
 rises_by : (xs : List ℕ) → IsStrictlyIncreasing xs → (i d : ℕ) → i + suc d < length xs → slice_index xs i < slice_index xs (i + suc d)
 rises_by xs rise i zero h = let e : i + suc zero ≡ i + 1 = omega arith in rw e (rise i (omega arith))
 rises_by xs rise i (suc d) h =
@@ -29,7 +29,8 @@ rows_rise i j h fits =
     let e : j ≡ i + suc (j - suc i) = omega arith in
     rw e (rises_by numbers rise i (j - suc i) (rw rows.length-numbers (omega arith)))
 
--- the rows below low have numbers below the sought one, and those from high on above it
+-- the rows before low have numbers less than the sought one, and those from high onward greater
+-- ones
 abbrev pub IsWithin : ℕ → ℕ → ℕ → Type 0
 IsWithin sought low high =
     ((k : ℕ) → k < low → slice_index numbers k < sought) × ((k : ℕ) → high ≤ k → k < 102 → sought < slice_index numbers k)
@@ -54,7 +55,7 @@ within_earlier_rows sought low high middle (below, above) row more = (
   ]),
 )
 
--- where no row is left, none has the number
+-- if no row is left, none has the number
 pub protocol_of-none_left : (sought low high : ℕ) → IsWithin sought low high → high ≤ low → protocol_of sought ≡ Other sought
 protocol_of-none_left sought low high (below, above) meet =
     rows.protocol_of-no_row sought (λ (k, fits, same).
@@ -76,7 +77,7 @@ protocol_of-found sought middle p row same found =
 
 -- ---- the comparisons
 
--- what the tests of an answer of `cmp` say of two numbers
+-- what `is_lt` and `is_eq` of a result of `cmp` imply about two numbers
 pub less_from_is_lt : (x y : ℕ) (o : Ordering) → o ≡ nat_cmp x y → is_lt o ≡ true → x < y
 less_from_is_lt x y Less e t = ranked x y Less e
 less_from_is_lt x y Equal e t = grind arith
@@ -105,7 +106,7 @@ halved used size next some within half = elim (cases_lt used 7) [
       absurd (omega arith)
 ]
 
--- each comparison at least halves the rows that are left, so that seven are enough
+-- each comparison at least halves the rows that are left, so seven are enough
 pub one_more : (old now new size next : ℕ) → new ≡ now + 1 → old ≤ now → 0 < size → size < 2 ^ (7 - (now - old)) → 2 * next ≤ size
     → (new ≤ old + 7) × (next < 2 ^ (7 - (new - old)))
 one_more old now new size next one before some within half =

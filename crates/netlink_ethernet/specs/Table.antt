@@ -1,4 +1,4 @@
--- The Ethernet protocols that have names: of each its number and its printed name.
+-- The Ethernet protocols that have names: the number and the printed name of each.
 use Rattle.std.specs.Prelude.{ℕ, List, [], ◌∷◌, ◌++◌, codes, map, false, ⊤, ◌==◌, if◌then◌else◌}
 use Rattle.std.specs.Fmt.{digits}
 use Rattle.std.specs.List.{Contains}
@@ -12,7 +12,7 @@ pub record Row : Type 0 where
 abbrev pub row : ℕ → List ℕ → Row
 row number name = record { number = number; name = name }
 
--- a number in hexadecimal: 0x and its digits in lower case, without leading zeros
+-- a number in hexadecimal: 0x and its lowercase digits, without leading zeros
 abbrev pub hexadecimal : ℕ → List ℕ
 hexadecimal n = codes "0x" ++ digits 16 false n
 
@@ -128,7 +128,7 @@ number_of p = (row_of p).number
 abbrev pub name_of : EthernetProtocol → List ℕ
 name_of p = (row_of p).name
 
--- the 102 protocols that have names, by rising number
+-- the 102 protocols that have names, by ascending number
 unfoldable pub named : List EthernetProtocol
 named =
     E802_3 ∷ Ax25 ∷ All ∷ E802_2 ∷ Snap ∷ Ddcmp ∷ WanPpp ∷ PppMp ∷
@@ -146,11 +146,11 @@ named =
     Yt921x ∷ Edsa ∷ Dsa8021Q ∷ DsaA5psw ∷ Ife ∷ AfIucv ∷
     []
 
--- their numbers, which rise
+-- their numbers, in ascending order
 unfoldable pub numbers : List ℕ
 numbers = map number_of named
 
--- the first of the protocols that has the number, or else Other of it
+-- the first protocol with the number, or else `Other` with it
 unfoldable pub first_with : ℕ → List EthernetProtocol → EthernetProtocol
 first_with n [] = Other n
 first_with n (p ∷ ps) = if number_of p == n then p else first_with n ps
@@ -163,7 +163,7 @@ abbrev pub IsOther : EthernetProtocol → Type 0
 IsOther (Other n) = ⊤
 IsOther _ = ⊥
 
--- not Other of a number that has a name
+-- the protocol is not `Other` with a number that has a name
 abbrev pub IsProper : EthernetProtocol → Type 0
 IsProper (Other n) = ¬ Contains numbers n
 IsProper _ = ⊤

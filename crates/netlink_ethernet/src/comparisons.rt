@@ -1,4 +1,4 @@
-//! The numbers that have names, in rising order, and the only call that reads them.
+//! The numbers that have names, in ascending order, and the only function that reads them.
 
 ghost use Rattle.std.specs.Prelude.{◌≡◌, ◌<◌, ◌+◌, ℕ, slice_index};
 ghost use Rattle.std.specs.List.Sorted.{IsStrictlyIncreasing};
@@ -8,7 +8,7 @@ ghost use Rattle.netlink_ethernet.specs.Table.{numbers};
 use std::cmp::Ordering;
 use std::marker::Model;
 
-/// How many rows the table has.
+/// The number of rows in the table.
 pub(crate) const ROWS: usize = 102;
 
 const NUMBERS: [u16; ROWS] = [
@@ -23,16 +23,16 @@ const NUMBERS: [u16; ROWS] = [
     0x9988, 0xdada, 0xdadb, 0xe001, 0xed3e, 0xfbfb,
 ];
 
-/// The numbers rise strictly, so one comparison also settles every row on one side of the row
-/// compared.
+/// States that the numbers are strictly ascending, so that one comparison also rules out every row
+/// on one side of the row compared.
 fn numbers_rise()
     ensures rise { IsStrictlyIncreasing NUMBERS }
 {}
 
-/// A count of the comparisons of numbers with those of the table.
+/// A count of comparisons between a number and those of the table.
 ///
-/// No other call reads the table's numbers, so that a look-up learns of them by comparisons
-/// that are counted. A contract speaks of a value of this type as its count.
+/// No other function reads the table's numbers, so a lookup can learn about them only by
+/// comparisons that are counted. In contracts, a value of this type is its count.
 #[derive(Debug, Drop)]
 pub struct Comparisons {
     count: u32,
@@ -45,25 +45,25 @@ impl Model for Comparisons {
 }
 
 impl Comparisons {
-    /// A count of no comparisons.
+    /// Returns a count of zero.
     pub fn new() -> Comparisons
         ensures none { result ≡ 0 }
     {
         Comparisons { count: 0 }
     }
 
-    /// How many comparisons were made.
+    /// Returns the number of comparisons made.
     pub fn count(&self) -> u32
         ensures count { result ≡ self.now }
     {
         self.count
     }
 
-    /// Compares the sought number, in host order, with the number of the row at the index, and adds
-    /// one to the count.
+    /// Compares `sought`, in host byte order, with the number in row `index`, and adds one to the
+    /// count.
     ///
-    /// The rows are those of the 102 numbers that have names, by rising number, from index 0; so
-    /// the index has to be below 102. The count has to be below `u32::MAX`.
+    /// The rows are the 102 numbers that have names, in ascending order. Requires `index < 102`,
+    /// and that the count is less than `u32::MAX`.
     pub fn compare(&mut self, sought: u16, index: usize) -> Ordering
         requires row { index < 102 }
         requires room { self.old < u32.MAX }

@@ -9,9 +9,9 @@ use std::fmt;
 
 /// The protocol that an Ethernet frame carries.
 ///
-/// Each variant but `Other` stands for one number, and is named after linux/if_ether.h: `DnaDl`
+/// Each variant except `Other` represents one number, and is named after linux/if_ether.h: `DnaDl`
 /// after `ETH_P_DNA_DL`, and so on. Not every release of that file has all of them. A number
-/// converted by `From` is `Other` only if no variant stands for it.
+/// converted by `From` is `Other` only if no variant represents it.
 #[derive(Clone, Copy, Debug, PartialEq, Eq, Hash)]
 pub enum EthernetProtocol {
     // Ethernet II types.
@@ -118,13 +118,13 @@ pub enum EthernetProtocol {
     Xdsa,
     Map,
     Mctp,
-    /// The protocol of this number.
+    /// A protocol with this number.
     Other(u16),
 }
 
 impl EthernetProtocol {
-    /// The protocol's number, in host order: that of its variant in the table, or the one
-    /// that `Other` holds. It is never refused.
+    /// Returns the protocol's number, in host byte order: the number of its variant in the table,
+    /// or the number that `Other` holds.
     pub fn value(&self) -> u16
         ensures number { result ≡ number_of self.now }
     {
@@ -235,7 +235,7 @@ impl EthernetProtocol {
         }
     }
 
-    /// The printed name, or `None` for `Other`.
+    /// Returns the printed name, or `None` for `Other`.
     fn name(&self) -> Option<&'static str>
         ensures { MatchOption result (IsOther self.now) (λ name. name.now ≡ name_of self.now) }
     {
@@ -347,7 +347,8 @@ impl EthernetProtocol {
     }
 }
 
-/// The protocol of a number in host order: the variant that stands for it, or else `Other` of it.
+/// Converts a number in host byte order to its protocol: the variant that represents the number, or
+/// else `Other` with it.
 impl From<u16> for EthernetProtocol {
     ghost from_gives = { λ number protocol. protocol ≡ protocol_of number };
 
@@ -356,7 +357,7 @@ impl From<u16> for EthernetProtocol {
     }
 }
 
-/// The protocol's number, as `EthernetProtocol::value`.
+/// Converts a protocol to its number, as `EthernetProtocol::value` does.
 impl From<EthernetProtocol> for u16 {
     ghost from_gives = { λ protocol number. number ≡ number_of protocol };
 
@@ -365,8 +366,8 @@ impl From<EthernetProtocol> for u16 {
     }
 }
 
-/// Prints the protocol's name, or for `Other` its number as `0x` and lower-case hexadecimal
-/// digits without leading zeros.
+/// Prints the protocol's name, or for `Other` its number as `0x` and lowercase hexadecimal digits
+/// without leading zeros.
 impl fmt::Display for EthernetProtocol {
     ghost output = { λ protocol. Some (name_of protocol) };
 

@@ -1,4 +1,4 @@
-//! The protocols that have names, by rising number, and the search for a number's protocol.
+//! The protocols that have names, by ascending number, and the search for a number's protocol.
 
 ghost use Rattle.std.specs.Prelude.{◌≡◌, ◌≤◌, ◌<◌, ◌+◌, ◌-◌, ◌*◌, Some, slice_get};
 ghost use Rattle.netlink_ethernet.specs.Table.{named, protocol_of};
@@ -111,17 +111,17 @@ const PROTOCOLS: [EthernetProtocol; ROWS] = [
     EthernetProtocol::AfIucv,
 ];
 
-/// The protocol of the row at the index.
+/// Returns the protocol in row `index`. Requires `index < 102`.
 fn protocol_at(index: usize) -> EthernetProtocol
     requires { index < 102 }
     ensures { slice_get named index ≡ Some result }
 {
-    // By reference the table is part of the program; by value it would be built at each call.
+    // By reference, the table is part of the program; by value, every call would build it.
     *&PROTOCOLS[index]
 }
 
-/// The row in the middle of those from `low` up to `high`, so that at most half of them are left on
-/// either side.
+/// Returns the middle row of those from `low` up to, but not including, `high`, which leaves at
+/// most half of them on either side. Requires `low < high`.
 fn middle_of(low: usize, high: usize) -> usize
     requires { low < high }
     ensures from { low ≤ result }
@@ -132,11 +132,11 @@ fn middle_of(low: usize, high: usize) -> usize
     low + (high - low) / 2
 }
 
-/// The protocol of the number, which is in host order, as `EthernetProtocol::from` gives it: the
-/// variant that stands for the number, or else `Other` of it.
+/// Returns the protocol for a number in host byte order, as `EthernetProtocol::from` does: the
+/// variant that represents it, or else `Other` with it.
 ///
-/// It is found by comparisons with the rows of the table, of which at least one and at most seven
-/// are made, and these are added to the count. So there has to be room for seven more.
+/// Makes at least one and at most seven comparisons with the rows of the table, and adds them to
+/// the count. Requires a count of at most `u32::MAX - 7`.
 pub fn look_up(sought: u16, comparisons: &mut Comparisons) -> EthernetProtocol
     requires room { comparisons.old ≤ u32.MAX - 7 }
     ensures protocol { result ≡ protocol_of sought }

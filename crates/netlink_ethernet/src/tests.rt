@@ -1,4 +1,6 @@
-//! Every number, there and back, and printed names.
+//! The round trip of every number, and printed names.
+
+mod memory_not_asked;
 
 use crate::laws::{number_kept, protocol_kept, protocols_equal};
 use crate::{Comparisons, EthernetProtocol, look_up};

@@ -1,4 +1,4 @@
--- What a loop over a walk has shown.
+-- The lines that a loop over a walk has appended.
 use Rattle.std.proofs.Common.{◌≡◌, ℕ, List, [], ◌∷◌, ◌++◌, sym, ap, ◌∙◌, append_assoc, append-nil}
 use Rattle.netlink_packet_core.specs.Attribute.{Attribute}
 use Rattle.netlink_frame.specs.Lines.{nla_line, nla_lines}

@@ -1,4 +1,4 @@
--- What a loop over the frames of a datagram has shown.
+-- The lines that a loop over the frames of a datagram has appended.
 use Rattle.std.proofs.Common.{◌≡◌, ℕ, List, [], ◌∷◌, ◌++◌, sym, ap, ◌∙◌, append_assoc, append-nil}
 use Rattle.netlink_frame.specs.Lines.{frame_line, frame_lines}
 

@@ -1,4 +1,4 @@
--- What is shown, as far as a loop has come.
+-- What has been appended so far, part by part.
 use Rattle.std.proofs.Common.{◌≡◌, ℕ, zero, suc, ◌+◌, ◌/◌, ◌%◌, ◌<◌, List, [], ◌∷◌, ◌++◌, length, take, slice_index, refl, ap, ◌∙◌, arith, add-one, append_assoc}
 use Rattle.std.specs.Prelude.{decimal}
 use Rattle.netlink_packet_core.specs.Attribute.{Attribute}
@@ -13,7 +13,7 @@ more_digits (b ∷ bytes) zero less = refl
 more_digits (b ∷ bytes) (suc i) less =
     ap (λ (more : List ℕ). hex_digit (b / 16) ∷ (hex_digit (b % 16) ∷ more)) (more_digits bytes i (omega arith))
 
--- two digits more behind a text and the digits of the bytes so far
+-- two more digits, after a text and the digits of the bytes so far
 pub two_digits : (front bytes old new pair : List ℕ) (i : ℕ) → i < length bytes → old ≡ front ++ hex_digits (take i bytes)
     → new ≡ old ++ pair
     → pair ≡ hex_digit (slice_index bytes i / 16) ∷ (hex_digit (slice_index bytes i % 16) ∷ [])
@@ -24,7 +24,7 @@ two_digits front bytes old new pair i less so_far added is =
     rw (add-one, more_digits bytes i less)
     (added ∙ ap (λ (t : List ℕ). t ++ pair) so_far ∙ ap (λ (t : List ℕ). (front ++ digits) ++ t) is ∙ append_assoc front digits both)
 
--- the parts of an attribute's line, added one after another
+-- the parts of an attribute's line, appended one after another
 line_joins : (t0 t1 t2 t3 t4 kind size value : List ℕ) → t1 ≡ t0 ++ kind → t2 ≡ t1 ++ (32 ∷ (size ++ (32 ∷ []))) → t3 ≡ t2 ++ value
     → t4 ≡ t3 ++ (10 ∷ [])
     → t4 ≡ t0 ++ (kind ++ (32 ∷ (size ++ (32 ∷ (value ++ (10 ∷ []))))))
@@ -33,7 +33,7 @@ line_joins t0 t1 t2 t3 t4 kind size value first second third fourth =
     (third ∙ ap (λ (t : List ℕ). t ++ value) (second ∙ ap (λ (t : List ℕ). t ++ (32 ∷ (size ++ (32 ∷ [])))) first))
     ∙ simp append_assoc
 
--- an attribute's line, added so
+-- an attribute's line, appended in these parts
 pub line_added : (t0 t1 t2 t3 t4 value : List ℕ) (a : Attribute) (kind : ℕ) → t1 ≡ t0 ++ hex_digits (kind / 256 ∷ (kind % 256 ∷ []))
     → t2 ≡ t1 ++ (32 ∷ (decimal (length value) ++ (32 ∷ [])))
     → t3 ≡ t2 ++ shown value → t4 ≡ t3 ++ (10 ∷ []) → kind ≡ a.kind → value ≡ a.value → t4 ≡ t0 ++ nla_line a
@@ -42,7 +42,7 @@ line_added t0 t1 t2 t3 t4 value a kind first second third fourth same_kind same_
     ∙ ap (λ (k : ℕ). t0 ++ nla_line (record { kind = k; value = value })) same_kind
     ∙ ap (λ (v : List ℕ). t0 ++ nla_line (record { kind = a.kind; value = v })) same_value
 
--- a name and bytes, added one after another
+-- a name and bytes, appended one after another
 pub name_joins : (t0 t1 t2 name bytes : List ℕ) → t1 ≡ t0 ++ name → t2 ≡ t1 ++ bytes → t2 ≡ t0 ++ (name ++ bytes)
 name_joins t0 t1 t2 name bytes first second = second ∙ ap (λ (t : List ℕ). t ++ bytes) first ∙ append_assoc t0 name bytes
 

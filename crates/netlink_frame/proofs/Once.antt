@@ -1,4 +1,5 @@
--- Each command has one output and one fault.
+-- Each command has at most one output and one error for an input, apart from the protocol's own
+-- words.
 use Rattle.std.proofs.Common.{◌≡◌, ◌++◌, List, [], ◌∷◌, ℕ, ℤ, ap, refl, sym, ◌∙◌, subst, inl, inr, arith, Option, Some, None}
 use Rattle.std.specs.Prelude.{◌≢◌, false, codes}
 use Rattle.std.specs.Fmt.{signed_decimal}
@@ -6,14 +7,15 @@ use Rattle.netlink_packet_core.specs.Attribute.{Attribute}
 use Rattle.netlink_packet_core.specs.Block.{canonical_block}
 use Rattle.netlink_packet_core.specs.Canonical.{Fits, IsNormalizeFault, canonical_frame}
 use Rattle.netlink_packet_core.specs.DecodeError.{DecodeError}
-use Rattle.netlink_packet_core.specs.DecodeError.TheVariants.{FrameShort, FrameCut, FrameLength, NlaBufferTooSmall, NlaLengthMismatch, NlaInvalidLength, OutOfMemory, TooLong}
+use Rattle.netlink_packet_core.specs.DecodeError.TheVariants.{OutOfMemory}
 use Rattle.netlink_packet_core.specs.Frame.{Frame, SamePayload}
 use Rattle.netlink_packet_core.specs.Payload.{raw_code}
 use Rattle.netlink_packet_core.specs.declared.header.NetlinkHeader.{NetlinkHeader}
 use Rattle.netlink_packet_core.specs.declared.payload.NetlinkPayload.{NetlinkPayload}
 use Rattle.netlink_packet_core.specs.declared.payload.NetlinkPayload.TheVariants.{Done, Error, Noop, Overrun, InnerMessage}
-use Rattle.netlink_packet_core.specs.Refusal.{IsFrameFault, IsRefusal, SameRefusal}
-use Rattle.netlink_packet_core.specs.Walk.{IsFault, Walk}
+use Rattle.netlink_packet_core.specs.Refusal.{IsRefusal, SameRefusal}
+use Rattle.netlink_packet_core.specs.Uniqueness.{Uniqueness}
+use Rattle.netlink_packet_core.specs.Walk.{Walk}
 use Rattle.netlink_packet_core.specs.declared.message.NetlinkMessage.{NetlinkMessage}
 use Rattle.netlink_tree.specs.FrameWalk.{FrameWalk}
 use Rattle.netlink_frame.specs.Lines.{frame_lines, header_lines, inner_text, message_lines, nla_lines, payload_words, shown}
@@ -29,28 +31,19 @@ IsFrame = Frame ping_pong_decoding
 abbrev pub IsRefused : List ℕ → DecodeError → Type 0
 IsRefused = IsRefusal ping_pong_decoding wants_memory
 
--- what the laws of the core say of the protocol
-pub record Uniqueness : Type 0 where
-  pub same : (bytes : List ℕ) (m n : NetlinkMessage PingPongMessage) → IsFrame bytes m → IsFrame bytes n
-      → (m.header ≡ n.header) × SamePayload ping_pong_decoding m.payload n.payload
-  pub fits : (bytes : List ℕ) (m n : NetlinkMessage PingPongMessage) → IsFrame bytes m → IsFrame bytes n → Fits ping_pong_encoding m
-      → Fits ping_pong_encoding n
-  pub written : (bytes : List ℕ) (m n : NetlinkMessage PingPongMessage) → IsFrame bytes m → IsFrame bytes n
-      → canonical_frame ping_pong_encoding m ≡ canonical_frame ping_pong_encoding n
-  pub refusal : (bytes : List ℕ) (e f : DecodeError) → IsRefused bytes e → IsRefused bytes f → e ≢ OutOfMemory → f ≢ OutOfMemory
-      → SameRefusal e f
-  pub frame : (bytes : List ℕ) (m : NetlinkMessage PingPongMessage) (e : DecodeError) → IsFrame bytes m → IsRefused bytes e
-      → e ≡ OutOfMemory
+-- the protocol has the uniqueness that the laws of `netlink_packet_core` state
+abbrev pub IsUnique : Type 0
+IsUnique = Uniqueness ping_pong_encoding ping_pong_decoding wants_memory
 
--- a message that fits has no fault but want of memory
-no_fault : Uniqueness → (bytes : List ℕ) (m : NetlinkMessage PingPongMessage) (e : DecodeError) → IsFrame bytes m
+-- normalizing the frame of a message that fits fails only with `OutOfMemory`
+no_fault : IsUnique → (bytes : List ℕ) (m : NetlinkMessage PingPongMessage) (e : DecodeError) → IsFrame bytes m
     → Fits ping_pong_encoding m → IsNormalizeFault ping_pong_encoding ping_pong_decoding wants_memory bytes e → e ≢ OutOfMemory → ⊥
 no_fault unique bytes m e frame fits (inl refusal) known = known (unique.frame bytes m e frame refusal)
 no_fault unique bytes m e frame fits (inr (inl (is, (n, other, long)))) known = let same = unique.fits bytes m n frame other fits in
     omega (arith, same.size)
 no_fault unique bytes m e frame fits (inr (inr (memory, more))) known = known memory
 
-fault_once : Uniqueness → (bytes : List ℕ) (e f : DecodeError) → IsNormalizeFault ping_pong_encoding ping_pong_decoding wants_memory bytes e
+fault_once : IsUnique → (bytes : List ℕ) (e f : DecodeError) → IsNormalizeFault ping_pong_encoding ping_pong_decoding wants_memory bytes e
     → IsNormalizeFault ping_pong_encoding ping_pong_decoding wants_memory bytes f → e ≢ OutOfMemory → f ≢ OutOfMemory → SameRefusal e f
 fault_once unique bytes e f (inr (inr (memory, more))) q known known' = absurd (known memory)
 fault_once unique bytes e f p (inr (inr (memory, more))) known known' = absurd (known' memory)
@@ -58,9 +51,9 @@ fault_once unique bytes e f (inl a) (inl b) known known' = unique.refusal bytes 
 fault_once unique bytes e f (inl a) (inr (inl (is, (m, frame, long)))) known known' = absurd (known (unique.frame bytes m e frame a))
 fault_once unique bytes e f (inr (inl (is, (m, frame, long)))) (inl b) known known' = absurd (known' (unique.frame bytes m f frame b))
 fault_once unique bytes e f (inr (inl (is, more))) (inr (inl (is', more'))) known known' =
-    subst (λ (x : DecodeError). SameRefusal x f) (sym is) (subst (λ (y : DecodeError). SameRefusal TooLong y) (sym is') refl)
+    inl (is ∙ sym is')
 
-pub normalizes_once : Uniqueness → (input first second : List ℕ) (e f : Option DecodeError) → Makes Normalize input first e
+pub normalizes_once : IsUnique → (input first second : List ℕ) (e f : Option DecodeError) → Makes Normalize input first e
     → Makes Normalize input second f → (first ≡ second) × SameFault e f
 unfolding Makes
 normalizes_once unique input first second None None (m, frame, fits, is) (n, frame', fits', is') =
@@ -72,8 +65,8 @@ normalizes_once unique input first second (Some e) None (none, known, fault) (m,
 normalizes_once unique input first second (Some e) (Some f) (none, known, fault) (none', known', fault') =
     (none ∙ sym none', fault_once unique input e f fault fault' known known')
 
--- a refused input has no message
-no_refusal : Uniqueness → (bytes : List ℕ) (m : NetlinkMessage PingPongMessage) (e : DecodeError) → IsFrame bytes m → IsRefused bytes e
+-- bytes rejected with an error other than `OutOfMemory` do not begin with the frame of a message
+no_refusal : IsUnique → (bytes : List ℕ) (m : NetlinkMessage PingPongMessage) (e : DecodeError) → IsFrame bytes m → IsRefused bytes e
     → e ≢ OutOfMemory → ⊥
 no_refusal unique bytes m e frame refusal known = known (unique.frame bytes m e frame refusal)
 
@@ -83,7 +76,7 @@ inner_once (Pong a) (Pong b) same = ap (λ (t : List ℕ). codes "pong " ++ show
 inner_once (Ping a) (Pong b) same = absurd (omega (arith, ap (λ (p : ℕ × List ℕ). p.0) same))
 inner_once (Pong a) (Ping b) same = absurd (omega (arith, ap (λ (p : ℕ × List ℕ). p.0) same))
 
--- payloads that say the same are shown alike
+-- payloads with the same content are printed identically
 words_once : (x y : NetlinkPayload PingPongMessage) → SamePayload ping_pong_decoding x y → payload_words x ≡ payload_words y
 words_once Noop Noop same = refl
 words_once (Done m) (Done n) (code, bytes) =
@@ -102,7 +95,7 @@ message_once m n (header, payload) =
     ap (λ (h : NetlinkHeader). header_lines h ++ (codes "payload " ++ (payload_words m.payload ++ (10 ∷ [])))) header
     ∙ ap (λ (t : List ℕ). header_lines n.header ++ (codes "payload " ++ (t ++ (10 ∷ [])))) (words_once m.payload n.payload payload)
 
-pub shows_once : Uniqueness → (input first second : List ℕ) (e f : Option DecodeError) → Makes Show input first e
+pub shows_once : IsUnique → (input first second : List ℕ) (e f : Option DecodeError) → Makes Show input first e
     → Makes Show input second f → (first ≡ second) × SameFault e f
 unfolding Makes
 shows_once unique input first second None None (m, frame, is) (n, frame', is') =
@@ -114,31 +107,22 @@ shows_once unique input first second (Some e) None (none, known, fault) (m, fram
 shows_once unique input first second (Some e) (Some f) (none, known, fault) (none', known', fault') =
     (none ∙ sym none', unique.refusal input e f fault fault' known known')
 
--- bytes walk in one way
+-- bytes have at most one walk
 abbrev pub WalkUnique : Type 0
 WalkUnique = (bytes : List ℕ) (a b : List Attribute) (f g : Option DecodeError) → Walk bytes a f → Walk bytes b g → (a ≡ b) × (f ≡ g)
 
--- a fault is itself, as a walk's faults are no free text
-fault_itself : (bytes : List ℕ) (e : DecodeError) → IsFault bytes e → SameRefusal e e
-fault_itself bytes (NlaBufferTooSmall size least) is = refl
-fault_itself bytes (NlaLengthMismatch size said) is = refl
-fault_itself bytes (NlaInvalidLength least said) is = refl
-fault_itself bytes e is = absurd is
-
-walk_itself : (bytes : List ℕ) (all : List Attribute) (e : Option DecodeError) → Walk bytes all e → SameFault e e
-walk_itself bytes [] None walk = tt
-walk_itself bytes [] (Some e) (some, is) = fault_itself bytes e is
-walk_itself bytes (a ∷ more) e (rest, starts, walk) = walk_itself rest more e walk
-
-same_fault : (bytes : List ℕ) (all : List Attribute) (e f : Option DecodeError) → Walk bytes all e → e ≡ f → SameFault e f
-same_fault bytes all e f walk same = subst (λ (x : Option DecodeError). SameFault e x) same (walk_itself bytes all e walk)
+same_fault : (e f : Option DecodeError) → e ≡ f → SameFault e f
+same_fault None None same = tt
+same_fault (Some e) (Some f) same = inl cc
+same_fault None (Some f) same = absurd cc
+same_fault (Some e) None same = absurd cc
 
 pub nlas_once : WalkUnique → (input first second : List ℕ) (e f : Option DecodeError) → Makes Nlas input first e → Makes Nlas input second f
     → (first ≡ second) × SameFault e f
 unfolding Makes
 nlas_once unique input first second e f (all, walk, is) (all', walk', is') =
     let same = unique input all all' e f walk walk' in
-    (is ∙ ap nla_lines same.0 ∙ sym is', same_fault input all e f walk same.1)
+    (is ∙ ap nla_lines same.0 ∙ sym is', same_fault e f same.1)
 
 pub canon_once : WalkUnique → (input first second : List ℕ) (e f : Option DecodeError) → Makes Canon input first e
     → Makes Canon input second f → (first ≡ second) × SameFault e f
@@ -150,28 +134,16 @@ canon_once unique input first second None (Some f) (all, walk, is) (none, known,
 canon_once unique input first second (Some e) None (none, known, (all, walk)) (all', walk', is') =
     absurd (let same = (unique input all all' (Some e) None walk walk').1 in cc)
 canon_once unique input first second (Some e) (Some f) (none, known, (all, walk)) (none', known', (all', walk')) =
-    (none ∙ sym none', same_fault input all (Some e) (Some f) walk (unique input all all' (Some e) (Some f) walk walk').1)
+    (none ∙ sym none', same_fault (Some e) (Some f) (unique input all all' (Some e) (Some f) walk walk').1)
 
--- a datagram is frames in one way
+-- a datagram has at most one walk
 abbrev pub FramesUnique : Type 0
 FramesUnique =
     (bytes : List ℕ) (a b : List (List ℕ)) (f g : Option DecodeError) → FrameWalk bytes a f → FrameWalk bytes b g → (a ≡ b) × (f ≡ g)
-
--- nor are the faults of its frames free text
-frame_fault_itself : (bytes : List ℕ) (e : DecodeError) → IsFrameFault false bytes e → SameRefusal e e
-frame_fault_itself bytes (FrameShort size inside) is = refl
-frame_fault_itself bytes (FrameCut said size inside) is = refl
-frame_fault_itself bytes (FrameLength said inside) is = refl
-frame_fault_itself bytes e is = absurd is
-
-frames_itself : (bytes : List ℕ) (all : List (List ℕ)) (e : Option DecodeError) → FrameWalk bytes all e → SameFault e e
-frames_itself bytes [] None walk = tt
-frames_itself bytes [] (Some e) (some, is) = frame_fault_itself bytes e is
-frames_itself bytes (frame ∷ more) e (rest, starts, walk) = frames_itself rest more e walk
 
 pub frames_once : FramesUnique → (input first second : List ℕ) (e f : Option DecodeError) → Makes Frames input first e
     → Makes Frames input second f → (first ≡ second) × SameFault e f
 unfolding Makes
 frames_once unique input first second e f (all, walk, is) (all', walk', is') =
     let same = unique input all all' e f walk walk' in
-    (is ∙ ap frame_lines same.0 ∙ sym is', subst (λ (x : Option DecodeError). SameFault e x) same.1 (frames_itself input all e walk))
+    (is ∙ ap frame_lines same.0 ∙ sym is', same_fault e f same.1)

@@ -1,4 +1,4 @@
--- The lines of what is shown. Every line ends with a line feed, 10.
+-- The lines that the program prints. Each line ends with a line feed, 10.
 use Rattle.std.specs.Prelude.{ℕ, ◌+◌, ◌/◌, ◌%◌, nat_lt, if◌then◌else◌, List, [], ◌∷◌, ◌++◌, codes, decimal, length}
 use Rattle.std.specs.Fmt.{signed_decimal}
 use Rattle.netlink_packet_core.specs.Attribute.{Attribute}
@@ -15,26 +15,26 @@ use Rattle.netlink_frame.specs.declared.ping_pong.PingPongMessage.TheVariants.{P
 abbrev pub hex_digit : ℕ → ℕ
 hex_digit n = if nat_lt n 10 then 48 + n else 87 + n
 
--- two hexadecimal digits a byte
+-- two hexadecimal digits per byte
 unfoldable pub hex_digits : List ℕ → List ℕ
 hex_digits [] = []
 hex_digits (b ∷ bytes) = hex_digit (b / 16) ∷ (hex_digit (b % 16) ∷ hex_digits bytes)
 
--- bytes as they are shown
+-- bytes as they are printed: two hexadecimal digits each, or `-` if there are none
 abbrev pub shown : List ℕ → List ℕ
 shown [] = codes "-"
 shown (b ∷ bytes) = hex_digits (b ∷ bytes)
 
--- a line of a name and a number in decimal
+-- a line with a name and a number in decimal
 abbrev pub number_line : List ℕ → ℕ → List ℕ
 number_line name n = name ++ (decimal n ++ (10 ∷ []))
 
--- which of the two messages it is, and its bytes
+-- the name of a message of the protocol, and its bytes
 abbrev pub inner_text : PingPongMessage → List ℕ
 inner_text (Ping bytes) = codes "ping " ++ shown bytes.items
 inner_text (Pong bytes) = codes "pong " ++ shown bytes.items
 
--- what a payload is, its code and its bytes
+-- the name of a payload, and the code and the bytes that it has
 abbrev pub payload_words : NetlinkPayload PingPongMessage → List ℕ
 payload_words Noop = codes "noop"
 payload_words (Done m) =
@@ -58,8 +58,8 @@ abbrev pub message_lines : NetlinkMessage PingPongMessage → List ℕ
 message_lines m =
     header_lines m.header ++ (codes "payload " ++ (payload_words m.payload ++ (10 ∷ [])))
 
--- the line of an attribute: its kind with the flags in four digits, the size of its value, and the
--- value
+-- the line of an attribute: its kind with the flags as four hexadecimal digits, the size of its
+-- value in decimal, and the value
 abbrev pub nla_line : Attribute → List ℕ
 nla_line a =
     hex_digits (a.kind / 256 ∷ (a.kind % 256 ∷ []))
@@ -70,7 +70,7 @@ abbrev pub nla_lines : List Attribute → List ℕ
 nla_lines [] = []
 nla_lines (a ∷ more) = nla_line a ++ nla_lines more
 
--- the line of a frame: its length and its type
+-- the line of a frame: its length and its type, in decimal
 abbrev pub frame_line : List ℕ → List ℕ
 frame_line frame =
     decimal (field 0 4 frame) ++ (codes " " ++ (decimal (field 4 2 frame) ++ (10 ∷ [])))

@@ -15,7 +15,7 @@ abbrev pub ping_pong_bytes : PingPongMessage → List ℕ
 ping_pong_bytes (Ping bytes) = bytes.items
 ping_pong_bytes (Pong bytes) = bytes.items
 
--- the two types read any payload
+-- a payload of either type decodes to itself, and one of any other type to nothing
 abbrev pub ping_pong_reading : NetlinkHeader → List ℕ → Option (ℕ × List ℕ)
 ping_pong_reading h payload =
     if h.message_type == 18 then Some (18, payload) else if h.message_type == 20 then Some
@@ -32,7 +32,7 @@ ping_pong_decoding = record {
   in_range = λ _. true;
 }
 
--- the errors that are want of memory
+-- whether an error means that an allocation failed
 abbrev pub wants_memory : DeserializeError → Bool
 wants_memory InvalidType = false
 wants_memory OutOfMemory = true

@@ -25,7 +25,7 @@ pong_is_lawful bytes = record {
   again = λ h kind size. rw kind refl;
 }
 
--- what a value stands for is lawful
+-- what a value represents is lawful
 pub value_is_lawful : (v : PingPongMessage)
     → IsLawful ping_pong_decoding (ping_pong_type v, ping_pong_bytes v)
 value_is_lawful (Ping bytes) = ping_is_lawful bytes.items
@@ -40,13 +40,14 @@ by_type false true payload pair gives = let same : (20, payload) ≡ pair = cc i
     subst (IsLawful ping_pong_decoding) same (pong_is_lawful payload)
 by_type false false payload pair gives = cc
 
--- and so is what is read
+-- and so is what a payload decodes to
 pub reading_is_lawful : (h : NetlinkHeader) (payload : List ℕ) (pair : ℕ × List ℕ)
     → ping_pong_reading h payload ≡ Some pair → IsLawful ping_pong_decoding pair
 reading_is_lawful h payload pair gives =
     by_type (h.message_type == 18) (h.message_type == 20) payload pair gives
 
--- a test that compares the variants, and then their bytes, tells values by what they stand for
+-- if `eq` compares the variants and then their bytes, two values are equal if and only if they
+-- represent the same type and encoding
 pub equal_pairs : (eq : PingPongMessage → PingPongMessage → Bool)
     → ((a b : Vec ℕ Global) → eq (Ping a) (Ping b) ≡ bytes_eq a.items b.items)
     → ((a b : Vec ℕ Global) → eq (Pong a) (Pong b) ≡ bytes_eq a.items b.items)

@@ -1,5 +1,5 @@
 -- What a command writes for an input, the fault that it ends with, and what a run did.
-use Rattle.std.specs.Prelude.{◌≡◌, ◌≢◌, ℕ, List, [], Option, None, Some, Result, Ok, Err, codes}
+use Rattle.std.specs.Prelude.{◌≡◌, ◌≢◌, ℕ, Bool, true, false, ⊤, List, [], Option, None, Some, Result, Ok, Err, codes}
 use Rattle.std.specs.Io.KnownBytes.{Appends}
 use Rattle.netlink_packet_core.specs.Attribute.{Attribute}
 use Rattle.netlink_packet_core.specs.Block.{canonical_block}
@@ -55,6 +55,12 @@ abbrev pub Wrote : Command → List ℕ → Option (List ℕ) → Option (List �
     → Type 0
 Wrote command input old new fault =
     (output : List ℕ) × Makes command input output fault × Appends old new output
+
+-- how a run ends, by whether its output was written and by the error of its command
+abbrev pub outcome : Bool → Option DecodeError → Result ⊤ Fault
+outcome false fault = Err Write
+outcome true None = Ok tt
+outcome true (Some e) = Err (Decode e)
 
 -- what a run over the whole input did; want of memory, and a failed read or write, decide nothing
 -- here

@@ -10,11 +10,11 @@ use Rattle.netlink_packet_core.specs.declared.header.NetlinkHeader.{NetlinkHeade
 use Rattle.netlink_frame.specs.Zeros.{are_zeros, zeros_decoding, zeros_reading, zeros_bytes}
 use Rattle.netlink_frame.specs.declared.samples.Zeros.{Zeros}
 
-are_zeros-replicate : (n : ℕ) → are_zeros (replicate n 0) ≡ true
+pub are_zeros-replicate : (n : ℕ) → are_zeros (replicate n 0) ≡ true
 are_zeros-replicate zero = refl
 are_zeros-replicate (suc n) = are_zeros-replicate n
 
--- zeros are as many zeros
+-- bytes that are all zero are a list of that many zeros
 pub all_zeros : (bytes : List ℕ) → are_zeros bytes ≡ true → bytes ≡ replicate (length bytes) 0
 all_zeros [] e = refl
 all_zeros (b ∷ bytes) e =
@@ -31,7 +31,7 @@ zeros_are_lawful n = record {
   again = λ h kind size. rw (kind, are_zeros-replicate n) refl;
 }
 
--- what a value stands for is lawful
+-- what a value represents is lawful
 pub value_is_lawful : (v : Zeros) → IsLawful zeros_decoding (18, zeros_bytes v)
 value_is_lawful v = zeros_are_lawful v.0
 
@@ -51,14 +51,14 @@ by_type false all_zero true true payload n pair zeros gives =
 by_type false all_zero true false payload n pair zeros gives = cc
 by_type false all_zero false has_width payload n pair zeros gives = cc
 
--- and so is what is read
+-- and so is what a payload decodes to
 pub reading_is_lawful : (h : NetlinkHeader) (payload : List ℕ) (pair : ℕ × List ℕ)
     → zeros_reading h payload ≡ Some pair → IsLawful zeros_decoding pair
 reading_is_lawful h payload pair gives =
     by_type (h.message_type == 18) (are_zeros payload) (h.message_type == 19) (length payload == 8)
     payload (number_le payload) pair (all_zeros payload) gives
 
--- counts are equal exactly if they stand for the same
+-- two counts are equal if and only if they represent the same type and encoding
 pub equal_pairs : (v w : Zeros)
     → (nat_eq v.0 w.0 ≡ true) ↔ (zeros_decoding.stands_for v ≡ zeros_decoding.stands_for w)
 equal_pairs v w = (

@@ -1,24 +1,26 @@
-//! The words of the program.
+//! The commands of the program.
 
 ghost use Rattle.std.specs.Prelude.{◌≡◌, ◌↔◌, Some, codes};
 
-/// What is made of an input.
+/// A command: what the program writes for an input.
 #[derive(Clone, Copy, Debug, PartialEq, Eq)]
 pub enum Command {
-    /// The canonical frame of the message whose frame the input begins with.
+    /// The canonical frame of the message whose frame is at the start of the input.
     Normalize,
     /// The six lines of that message.
     Show,
-    /// The lines of the attributes that the input is, up to a fault.
+    /// The lines of the attributes of the input, up to the error that ends the walk, if there is
+    /// one.
     Nlas,
     /// The canonical block of those attributes.
     Canon,
-    /// The lines of the frames that the input is as a datagram, up to a fault.
+    /// The lines of the frames of the input as a datagram, up to the error that ends the walk, if
+    /// there is one.
     Frames,
 }
 
 impl Command {
-    /// The command of a word, `None` for every other text.
+    /// Returns the command that `word` names, or `None` for any other string.
     pub fn from_text(word: &str) -> Option<Command>
         ensures normalize { (result ≡ Some Command.Normalize) ↔ (word.now ≡ codes "normalize") }
         ensures show { (result ≡ Some Command.Show) ↔ (word.now ≡ codes "show") }

@@ -60,8 +60,5 @@ pub fn ended<R: Read, W: Write>(
     let Some(command) = command else {
         return Ending::Usage(Usage);
     };
-    match run(alloc, command, reader, writer) {
-        Ok(()) => Ending::Done,
-        Err(fault) => Ending::Failed(fault),
-    }
+    Ending::from(run(alloc, command, reader, writer))
 }

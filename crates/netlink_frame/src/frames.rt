@@ -1,4 +1,5 @@
-//! What the program shows of a datagram. `nlas` says why the two have loops of their own.
+//! What the program prints for a datagram. `nlas` explains why each of the two modules has its own
+//! loop.
 
 ghost use Rattle.std.specs.Prelude.{◌≡◌, List, ℕ, Option, IfOk, IfErr, string_bytes};
 ghost use Rattle.netlink_packet_core.specs.DecodeError.{DecodeError};
@@ -11,8 +12,9 @@ use netlink_tree::Frames;
 use netlink_tree::laws::frames_unique;
 use std::alloc::{AllocError, Global};
 
-/// The lines of a datagram's frames, up to its end or a fault: the length and the type of each in
-/// decimal. `OutOfMemory` is the only error.
+/// Returns the lines of a datagram's frames, up to its end or the error that ends the walk, which
+/// `frames_fault` returns. A line has the length and the type of a frame, in decimal. Returns
+/// `OutOfMemory`, and no other error, if an allocation fails.
 pub fn frames_text(alloc: Global, datagram: &[u8]) -> Result<String, DecodeError>
     ensures lines { IfOk result
         (λ text. (all : List (List ℕ)) × (fault : Option DecodeError)
@@ -26,8 +28,9 @@ pub fn frames_text(alloc: Global, datagram: &[u8]) -> Result<String, DecodeError
     Ok(shown_frames(alloc, datagram)?)
 }
 
-/// The fault that the frames of a datagram end with (`FrameShort`, `FrameCut` or `FrameLength`), or
-/// `None` where they end without one: `frames_fault` of `netlink_tree`. Asks for no memory.
+/// Returns the error that ends the walk of a datagram (`FrameShort`, `FrameCut` or `FrameLength`),
+/// or `None` if the walk ends without one. Wraps `frames_fault` of `netlink_tree`. Does not
+/// allocate.
 pub fn frames_fault(datagram: &[u8]) -> Option<DecodeError>
     ensures fault { (all : List (List ℕ)) × FrameWalk datagram.now all result }
     ensures each { (all : List (List ℕ)) (fault : Option DecodeError)
@@ -36,7 +39,7 @@ pub fn frames_fault(datagram: &[u8]) -> Option<DecodeError>
     netlink_tree::frames_fault(datagram)
 }
 
-/// The lines of frames.
+/// Returns the lines of a datagram's frames, or `AllocError` if an allocation fails.
 fn shown_frames(alloc: Global, datagram: &[u8]) -> Result<String, AllocError>
     ensures { IfOk result
         (λ text. (all : List (List ℕ)) × (fault : Option DecodeError)
@@ -52,7 +55,8 @@ fn shown_frames(alloc: Global, datagram: &[u8]) -> Result<String, AllocError>
     Ok(text)
 }
 
-/// The line of a frame.
+/// Returns the line of a frame. Requires bytes that hold a complete frame. Returns `AllocError` if
+/// an allocation fails.
 fn line_text(alloc: Global, frame: &[u8]) -> Result<String, AllocError>
     requires { HoldsFrame frame.now }
     ensures { IfOk result (λ text. string_bytes text ≡ frame_line frame.now) }

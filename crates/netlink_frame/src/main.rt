@@ -19,7 +19,9 @@ use crate::run::Fault;
 use netlink_program::Ending;
 use std::{env, io};
 
-/// Ends with status 0; with 1 and the fault's text on standard error; or with 2 and the usage.
+/// Runs the command that the arguments name. Exits with status 0 if the whole output is written. If
+/// the run fails, prints the error text to standard error and exits with status 1. If the arguments
+/// name no command, prints the usage there and exits with status 2.
 fn main(rt: HostRuntime) -> Ending<Fault, Usage> {
     let command = asked(env::args(&rt).ok());
     ended(rt.alloc(), command, &mut rt.reader(), &mut io::writer(&rt))

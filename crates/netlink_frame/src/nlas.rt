@@ -1,7 +1,7 @@
-//! What the program shows of attributes.
+//! What the program prints for attributes.
 //!
-//! The loops are those of `frames` over another walk. One writer of lines for both would need a
-//! trait for walks with their items and lines, and be longer than the two.
+//! The loops are those of `frames`, over a different walk. A common function for both would need a
+//! trait for walks, with their items and lines, and would be longer than the two.
 
 ghost use Rattle.std.specs.Prelude.{◌≡◌, ◌/◌, ◌%◌, ◌++◌, [], ◌∷◌, List, Option, IfOk, IfErr, OnOk, string_bytes};
 ghost use Rattle.netlink_packet_core.specs.Attribute.{Attribute};
@@ -16,9 +16,10 @@ use netlink_packet_core::{DecodeError, NlaBuffer, NlasIterator};
 use std::alloc::{AllocError, Global};
 use std::fmt::Write;
 
-/// The lines of a block's attributes, up to its end or a fault: the kind with its flags as four
-/// lower-case hexadecimal digits, the size of the value in decimal, and the value's bytes as two
-/// such digits each, or `-` where there are none. `OutOfMemory` is the only error.
+/// Returns the lines of a block's attributes, up to its end or the error that ends the walk, which
+/// `nlas_fault` returns. A line has the kind with its flags as four lower-case hexadecimal digits,
+/// the size of the value in decimal, and the bytes of the value as two such digits each, or `-` if
+/// there are none. Returns `OutOfMemory`, and no other error, if an allocation fails.
 pub fn nlas_text(alloc: Global, block: &[u8]) -> Result<String, DecodeError>
     ensures lines { IfOk result
         (λ text. (all : List Attribute) × (fault : Option DecodeError) × Walk block.now all fault
@@ -32,9 +33,9 @@ pub fn nlas_text(alloc: Global, block: &[u8]) -> Result<String, DecodeError>
     Ok(walked_text(alloc, block)?)
 }
 
-/// The fault that the walk of a block ends with (`NlaBufferTooSmall`, `NlaLengthMismatch` or
-/// `NlaInvalidLength`), or `None` where it ends without one: `nlas_fault` of the library.
-/// Asks for no memory.
+/// Returns the error that ends the walk of a block (`NlaBufferTooSmall`, `NlaLengthMismatch` or
+/// `NlaInvalidLength`), or `None` if the walk ends without one. Wraps `nlas_fault` of
+/// `netlink_packet_core`. Does not allocate.
 pub fn nlas_fault(block: &[u8]) -> Option<DecodeError>
     ensures fault { (all : List Attribute) × Walk block.now all result }
     ensures each { (all : List Attribute) (fault : Option DecodeError) → Walk block.now all fault
@@ -43,7 +44,7 @@ pub fn nlas_fault(block: &[u8]) -> Option<DecodeError>
     netlink_packet_core::nlas_fault(block)
 }
 
-/// The lines of a walk.
+/// Returns the lines of a block's attributes, or `AllocError` if an allocation fails.
 fn walked_text(alloc: Global, block: &[u8]) -> Result<String, AllocError>
     ensures { IfOk result
         (λ text. (all : List Attribute) × (fault : Option DecodeError) × Walk block.now all fault
@@ -59,7 +60,8 @@ fn walked_text(alloc: Global, block: &[u8]) -> Result<String, AllocError>
     Ok(text)
 }
 
-/// Adds the line of an attribute.
+/// Appends the line of an attribute. Requires a view over a complete attribute. Returns
+/// `AllocError` if an allocation fails.
 fn push_line(text: &mut String, nla: &NlaBuffer<&[u8]>) -> Result<(), AllocError>
     requires { HoldsAttribute (shown nla.now) }
     ensures { OnOk result
@@ -77,7 +79,7 @@ fn push_line(text: &mut String, nla: &NlaBuffer<&[u8]>) -> Result<(), AllocError
     Ok(())
 }
 
-/// Adds the four digits of a kind with its flags.
+/// Appends the four digits of a kind with its flags. Returns `AllocError` if an allocation fails.
 fn push_kind(text: &mut String, kind: u16) -> Result<(), AllocError>
     ensures { OnOk result
         (string_bytes text.new

@@ -1,4 +1,4 @@
-//! A value written in place.
+//! Overwriting the value of an attribute in place.
 
 ghost use Rattle.std.specs.Prelude.{◌≡◌, ◌↔◌, List, Option, IsTrue, false, length};
 ghost use Rattle.netlink_packet_core.specs.Attribute.{Attribute};
@@ -8,9 +8,9 @@ ghost use Rattle.netlink_packet_core.specs.Walk.{Walk};
 
 use netlink_packet_core::write_nla_value;
 
-/// Writes a value over that of the attribute with this index, which counts from 0, also in front of
-/// a fault. True exactly where there is such an attribute and its value has the same size in bytes;
-/// otherwise the block stays as it was. Asks for no memory.
+/// Overwrites the value of the attribute at `index`, which counts from 0, even if the block is
+/// malformed further on. Returns true if and only if there is such an attribute and its value has
+/// the same size as `value`. Otherwise the block is unchanged. Does not allocate.
 pub fn overwrite(block: &mut [u8], index: usize, value: &[u8]) -> bool
     ensures answer { (all : List Attribute) (fault : Option DecodeError) → Walk block.old all fault
         → IsTrue result ↔ HasValueOf all index (length value.now) }

@@ -1,4 +1,4 @@
-//! A sub-protocol of two messages, each of some bytes.
+//! A sub-protocol with two messages, each of which carries bytes.
 
 ghost use Rattle.std.specs.Prelude.{◌≡◌, refl, Some};
 ghost use Rattle.netlink_frame.specs.PingPong.{error_text, ping_pong_decoding, ping_pong_encoding, wants_memory};
@@ -17,7 +17,7 @@ pub const PING_MESSAGE: u16 = 18;
 /// The message type of a pong.
 pub const PONG_MESSAGE: u16 = 20;
 
-/// A ping or a pong; its text is the bytes that it carries.
+/// A ping or a pong. Its encoding is the bytes that it carries.
 #[derive(Debug, Drop, PartialEq, Eq)]
 pub enum PingPongMessage {
     /// Type 18.
@@ -26,12 +26,12 @@ pub enum PingPongMessage {
     Pong(Vec<u8>),
 }
 
-/// Why a payload is no message of the protocol.
+/// Why a payload cannot be decoded.
 #[derive(Clone, Copy, Debug, PartialEq, Eq)]
 pub enum DeserializeError {
-    /// The header has another type than 18 and 20; of zeros, all that is refused.
+    /// The message type is neither 18 nor 20. `Zeros` returns this for everything that it rejects.
     InvalidType,
-    /// A request for memory was refused.
+    /// An allocation failed.
     OutOfMemory,
 }
 
@@ -55,7 +55,7 @@ impl From<AllocError> for DeserializeError {
 
     ghost from_gives = { λ _ e. e ≡ OutOfMemory };
 
-    /// `OutOfMemory`, so that `?` hands on a refused request for memory.
+    /// Returns `OutOfMemory`, so that `?` propagates a failed allocation.
     fn from(_refused: AllocError) -> Self {
         Self::OutOfMemory
     }
@@ -93,7 +93,7 @@ impl NetlinkSerializable for PingPongMessage {
         }
     }
 
-    /// Asks for no memory.
+    /// Does not allocate.
     fn is_written_as(&self, _alloc: Global, bytes: &[u8]) -> Result<bool, AllocError> {
         match self {
             PingPongMessage::Ping(text) | PingPongMessage::Pong(text) => {

@@ -1,6 +1,6 @@
 //! A run of the program over a reader and a writer.
 
-ghost use Rattle.std.specs.Prelude.{◌≡◌, ◌≢◌, [], None, Some, IfOk, IfErr, IfSome, IsOk, IsOkAnd};
+ghost use Rattle.std.specs.Prelude.{◌≡◌, ◌≢◌, [], Err, None, Some, IfOk, IfErr, IfSome, IsOkAnd};
 ghost use Rattle.std.specs.String.{string_bytes};
 ghost use Rattle.std.specs.Io.KnownBytes.{Keeps};
 ghost use Rattle.netlink_packet_core.specs.Frame.{Frame};
@@ -9,7 +9,7 @@ ghost use Rattle.netlink_packet_core.specs.declared.message.NetlinkMessage.{Netl
 ghost use Rattle.netlink_frame.specs.Lines.{message_lines};
 ghost use Rattle.netlink_frame.specs.PingPong.{ping_pong_decoding, wants_memory};
 ghost use Rattle.netlink_frame.specs.declared.ping_pong.PingPongMessage.{PingPongMessage};
-ghost use Rattle.netlink_frame.specs.Run.{Answers, IsEarly, Makes, fault_text, read_fault};
+ghost use Rattle.netlink_frame.specs.Run.{Answers, IsEarly, Makes, fault_text, outcome, read_fault};
 
 use crate::command::Command;
 use crate::frames::{frames_fault, frames_text};
@@ -18,7 +18,7 @@ use crate::ping_pong::PingPongMessage;
 use crate::text::show_text;
 use netlink_packet_core::{DecodeError, NetlinkMessage, normalize, normalize_nlas};
 use netlink_program::{ReadFault, read_all};
-use std::alloc::{AllocError, Global};
+use std::alloc::Global;
 use std::fmt;
 use std::io::{Read, Write};
 
@@ -56,18 +56,30 @@ impl From<ReadFault> for Fault {
     }
 }
 
-/// What a command makes of an input.
+impl From<DecodeError> for Fault {
+    ghost use Rattle.netlink_frame.specs.declared.run.Fault.TheVariants.{Decode};
+
+    ghost from_gives = { λ cause fault. fault ≡ Decode cause };
+
+    fn from(cause: DecodeError) -> Fault {
+        Fault::Decode(cause)
+    }
+}
+
+/// What a command makes of an input: what it writes, and the error that it then ends with.
 struct Answer {
     output: Vec<u8>,
     fault: Option<DecodeError>,
 }
 
-/// Writes what the command makes of all that the reader gives, in one piece, and ends with its
-/// fault.
+/// Writes what the command makes of all that the reader gives, in one piece, and returns the error
+/// that the command ends with.
 ///
-/// The reader's end has to come within 1048576 calls, each for at most 4096 bytes; an interrupted
-/// call counts, and is made again. A `Read` fault, and want of memory, have written nothing. A
-/// `Write` fault comes before a `Decode` that would have followed; empty output is not written.
+/// Returns `Read` if a call of the reader fails, or if its end does not come within 1,048,576
+/// calls, each for at most 4096 bytes (a call that is interrupted counts, and is made again), and
+/// `Decode(OutOfMemory)` if an allocation fails; then nothing is written. Returns `Write` if the
+/// writer fails, even if another error would have followed; then anything may have been written.
+/// Empty output is not written.
 pub fn run<R: Read, W: Write>(
     alloc: Global,
     command: Command,
@@ -80,11 +92,17 @@ pub fn run<R: Read, W: Write>(
         Answers command input (W.contents writer.old) (W.contents writer.new) result) }
 {
     let input = read_all(alloc, reader)?;
-    let Answer { output, fault } = match answer_to(alloc, command, input) {
-        Ok(answer) => answer,
-        Err(_) => return Err(Fault::Decode(DecodeError::OutOfMemory)),
-    };
-    if writer.write_all(output.as_slice()).is_err() {
+    let Answer { output, fault } = answer_to(alloc, command, input)?;
+    let is_written = writer.write_all(output.as_slice()).is_ok();
+    outcome(is_written, fault)
+}
+
+/// Returns how a run ends: with `Write` if its output was not written, else with the error of its
+/// command, if there is one.
+fn outcome(is_written: bool, fault: Option<DecodeError>) -> Result<(), Fault>
+    ensures is { result ≡ outcome is_written fault }
+{
+    if !is_written {
         return Err(Fault::Write);
     }
     match fault {
@@ -93,12 +111,14 @@ pub fn run<R: Read, W: Write>(
     }
 }
 
-/// The output of the command and its fault, or want of memory.
+/// Returns what the command writes for the input, and the error that it ends with. The only error
+/// is `OutOfMemory`.
 #[tactic(auto, unfolding(crate::specs::Run::Makes), using(crate::proofs::Ends::walks_end))]
-fn answer_to(alloc: Global, command: Command, input: Vec<u8>) -> Result<Answer, AllocError>
+fn answer_to(alloc: Global, command: Command, input: Vec<u8>) -> Result<Answer, DecodeError>
     ensures makes { IfOk result
         (λ answer. Makes command input.items answer.output.items answer.fault) }
     ensures fault { IfOk result (λ answer. IfSome answer.fault (λ e. e ≢ DecodeError.OutOfMemory)) }
+    ensures memory { IfErr result (λ e. e ≡ DecodeError.OutOfMemory) }
 {
     match command {
         Command::Normalize => whole(alloc, normalize::<PingPongMessage>(alloc, &input)),
@@ -109,7 +129,8 @@ fn answer_to(alloc: Global, command: Command, input: Vec<u8>) -> Result<Answer, 
     }
 }
 
-/// The lines of a message, or the refusal. The input is let go before there are lines.
+/// Returns the lines of a message, or the error if the input does not begin with one. Drops the
+/// input before it makes the lines.
 fn shown(alloc: Global, input: Vec<u8>) -> Result<Vec<u8>, DecodeError>
     ensures shows { IfOk result (λ v. (m : NetlinkMessage PingPongMessage)
         × Frame ping_pong_decoding input.items m × (v.items ≡ message_lines m)) }
@@ -125,20 +146,23 @@ fn shown(alloc: Global, input: Vec<u8>) -> Result<Vec<u8>, DecodeError>
     }
 }
 
-/// The output of a command that writes all or nothing; want of memory is no fault of the input.
-fn whole(alloc: Global, made: Result<Vec<u8>, DecodeError>) -> Result<Answer, AllocError>
+/// Returns the answer of a command that writes everything or nothing. `OutOfMemory` is no error of
+/// the input.
+fn whole(alloc: Global, made: Result<Vec<u8>, DecodeError>) -> Result<Answer, DecodeError>
     ensures output { IfOk made (λ output. IsOkAnd result
         (λ answer. (answer.output ≡ output) × (answer.fault ≡ None))) }
     ensures fault { IfErr made (λ e. IfOk result
         (λ answer. (answer.output.items ≡ []) × (answer.fault ≡ Some e)
         × (e ≢ DecodeError.OutOfMemory))) }
+    ensures memory { IfErr result
+        (λ e. (e ≡ DecodeError.OutOfMemory) × (made ≡ Err DecodeError.OutOfMemory)) }
 {
     match made {
         Ok(output) => Ok(Answer {
             output,
             fault: None,
         }),
-        Err(DecodeError::OutOfMemory) => Err(AllocError),
+        Err(DecodeError::OutOfMemory) => Err(DecodeError::OutOfMemory),
         Err(cause) => Ok(Answer {
             output: Vec::new(alloc),
             fault: Some(cause),
@@ -146,20 +170,18 @@ fn whole(alloc: Global, made: Result<Vec<u8>, DecodeError>) -> Result<Answer, Al
     }
 }
 
-/// The output of a command that writes lines up to a fault.
+/// Returns the answer of a command that writes lines up to an error.
 fn lines(
     made: Result<String, DecodeError>,
     fault: Option<DecodeError>,
-) -> Result<Answer, AllocError>
-    ensures answer { IfOk result (λ answer. IsOkAnd made
-        (λ text. answer.output.items ≡ string_bytes text) × (answer.fault ≡ fault)) }
-    ensures made { IfOk made (λ text. IsOk result) }
+) -> Result<Answer, DecodeError>
+    ensures ok { IfOk made (λ text. IsOkAnd result
+        (λ answer. (answer.output.items ≡ string_bytes text) × (answer.fault ≡ fault))) }
+    ensures err { IfErr made (λ e. result ≡ Err e) }
 {
-    match made {
-        Ok(text) => Ok(Answer {
-            output: text.into_bytes(),
-            fault,
-        }),
-        Err(_) => Err(AllocError),
-    }
+    let text = made?;
+    Ok(Answer {
+        output: text.into_bytes(),
+        fault,
+    })
 }

@@ -1,6 +1,6 @@
 //! A sub-protocol of zeros, for tests of long messages without their bytes.
 
-ghost use Rattle.std.specs.Prelude.{◌≡◌, IfErr, IfOk, IsTrue, None, OnErr, Some, false, refl};
+ghost use Rattle.std.specs.Prelude.{◌≡◌, ◌↔◌, IfErr, IfOk, IsOk, IsTrue, None, OnErr, Some, false, length, refl};
 ghost use Rattle.netlink_frame.specs.Zeros.{are_zeros, zeros_decoding, zeros_encoding};
 ghost use Rattle.netlink_frame.specs.ZerosLaws.{equal_pairs, reading_is_lawful, value_is_lawful};
 
@@ -8,7 +8,7 @@ use crate::ping_pong::DeserializeError;
 use netlink_packet_core::{
     NetlinkDeserializable, NetlinkHeader, NetlinkProtocol, NetlinkSerializable, parse_u64_le,
 };
-use std::alloc::Global;
+use std::alloc::{AllocError, Global};
 
 /// The message type of zeros.
 const ZEROS_MESSAGE: u16 = 18;
@@ -36,6 +36,23 @@ impl NetlinkSerializable for Zeros {
 
     fn serialize(&self, buffer: &mut [u8]) {
         buffer.fill(0);
+    }
+
+    /// Appends the zeros. Allocates only with the vector's own allocator, and only if there is no
+    /// room.
+    fn append(&self, frame: &mut Vec<u8>) -> Result<(), AllocError> {
+        frame.resize(frame.len() + self.0 as usize, 0)
+    }
+
+    /// Returns whether the bytes are that many zeros. Compares them in place. Does not allocate.
+    #[tactic(auto, using(crate::proofs::Zeros::zeros_are))]
+    fn is_written_as(&self, _alloc: Global, bytes: &[u8]) -> Result<bool, AllocError>
+        ensures says { IfOk result
+            (λ yes. IsTrue yes ↔ (bytes.now ≡ zeros_encoding.bytes_of self.now)) }
+        ensures size { OnErr result (length bytes.now ≡ length (zeros_encoding.bytes_of self.now)) }
+        ensures in_place { IsOk result }
+    {
+        Ok(bytes.len() == self.0 as usize && are_zeros(bytes))
     }
 }
 

@@ -1,4 +1,4 @@
-//! Rows of the program, and of what needs more than one crate.
+//! Tests of the program, and tests that need more than one crate.
 
 mod ample;
 mod attributes;

@@ -1,4 +1,4 @@
-//! What the program shows of a message.
+//! What the program prints for a message.
 
 ghost use Rattle.std.specs.Prelude.{◌≡◌, ◌/◌, ◌%◌, [], ◌∷◌, ◌++◌, IfOk, IfErr, OnOk, codes, string_bytes};
 ghost use Rattle.std.specs.Fmt.{signed_decimal};
@@ -8,9 +8,9 @@ use crate::ping_pong::PingPongMessage;
 use netlink_packet_core::{DecodeError, NetlinkHeader, NetlinkMessage, NetlinkPayload};
 use std::alloc::{AllocError, Global};
 
-/// The six lines of a message: its header's fields in decimal, and its payload, with bytes as two
-/// lower-case hexadecimal digits each, or `-` where there are none. `OutOfMemory` is the only
-/// error.
+/// Returns the six lines of a message: one for each field of its header, in decimal, and one for
+/// its payload. Bytes are two lower-case hexadecimal digits each, or `-` if there are none. Returns
+/// `OutOfMemory`, and no other error, if an allocation fails.
 pub fn show_text(
     alloc: Global,
     message: &NetlinkMessage<PingPongMessage>,
@@ -25,7 +25,7 @@ pub fn show_text(
     Ok(text)
 }
 
-/// The five lines of a header.
+/// Returns the five lines of a header, or `AllocError` if an allocation fails.
 fn header_text(alloc: Global, header: &NetlinkHeader) -> Result<String, AllocError>
     ensures { IfOk result (λ text. string_bytes text ≡ header_lines header.now) }
 {
@@ -37,14 +37,15 @@ fn header_text(alloc: Global, header: &NetlinkHeader) -> Result<String, AllocErr
     Ok(text)
 }
 
-/// A line of a name and a number.
+/// Returns a line with a name and a number in decimal, or `AllocError` if an allocation fails.
 fn number_text(alloc: Global, name: &str, number: u32) -> Result<String, AllocError>
     ensures { IfOk result (λ text. string_bytes text ≡ number_line name.now number) }
 {
     format!(in alloc; "{name}{number}\n")
 }
 
-/// Adds what a payload is, its code and its bytes.
+/// Appends the name of a payload, and the code and the bytes that it has. Returns `AllocError` if
+/// an allocation fails.
 fn push_payload(
     alloc: Global,
     text: &mut String,
@@ -79,7 +80,8 @@ fn push_payload(
     }
 }
 
-/// Adds a name, a code and bytes.
+/// Appends a name, a code in decimal, a space, and the bytes as they are printed. Returns
+/// `AllocError` if an allocation fails.
 fn push_coded(
     alloc: Global,
     text: &mut String,
@@ -97,7 +99,7 @@ fn push_coded(
     Ok(())
 }
 
-/// A name, a code and a space.
+/// Returns a name, a code in decimal and a space, or `AllocError` if an allocation fails.
 fn code_text(alloc: Global, name: &str, code: i32) -> Result<String, AllocError>
     ensures { IfOk result
         (λ text. string_bytes text ≡ name.now ++ (signed_decimal code ++ codes " ")) }
@@ -105,7 +107,7 @@ fn code_text(alloc: Global, name: &str, code: i32) -> Result<String, AllocError>
     format!(in alloc; "{name}{code} ")
 }
 
-/// Adds a name and bytes.
+/// Appends a name, and the bytes as they are printed. Returns `AllocError` if an allocation fails.
 fn push_named(text: &mut String, name: &str, bytes: &[u8]) -> Result<(), AllocError>
     ensures { OnOk result
         (string_bytes text.new ≡ string_bytes text.old ++ (name.now ++ shown bytes.now)) }
@@ -115,7 +117,8 @@ fn push_named(text: &mut String, name: &str, bytes: &[u8]) -> Result<(), AllocEr
     Ok(())
 }
 
-/// Adds the bytes as they are shown.
+/// Appends the bytes as they are printed: two digits each, or `-` if there are none. Returns
+/// `AllocError` if an allocation fails.
 pub(crate) fn push_shown(text: &mut String, bytes: &[u8]) -> Result<(), AllocError>
     ensures { OnOk result (string_bytes text.new ≡ string_bytes text.old ++ shown bytes.now) }
 {
@@ -125,7 +128,8 @@ pub(crate) fn push_shown(text: &mut String, bytes: &[u8]) -> Result<(), AllocErr
     push_digits(text, bytes)
 }
 
-/// Adds two digits a byte, with room for all of them first.
+/// Appends two hexadecimal digits per byte, after reserving room for all of them. Returns
+/// `AllocError` if an allocation fails.
 pub(crate) fn push_digits(text: &mut String, bytes: &[u8]) -> Result<(), AllocError>
     ensures { OnOk result (string_bytes text.new ≡ string_bytes text.old ++ hex_digits bytes.now) }
 {
@@ -136,7 +140,7 @@ pub(crate) fn push_digits(text: &mut String, bytes: &[u8]) -> Result<(), AllocEr
     Ok(())
 }
 
-/// The two digits of a byte.
+/// Returns the two hexadecimal digits of a byte.
 #[inline(always)]
 fn pair(byte: u8) -> &'static str
     ensures { result.now ≡ hex_digit (byte / 16) ∷ (hex_digit (byte % 16) ∷ []) }
@@ -145,7 +149,7 @@ fn pair(byte: u8) -> &'static str
     &PAIRS[start..start + 2]
 }
 
-/// The two digits of each byte, one after another.
+/// The two hexadecimal digits of each byte value, in order.
 const PAIRS: &str = "\
 000102030405060708090a0b0c0d0e0f101112131415161718191a1b1c1d1e1f\
 202122232425262728292a2b2c2d2e2f303132333435363738393a3b3c3d3e3f\

@@ -1,27 +1,25 @@
 -- An input has one output and one refusal.
-use Rattle.std.proofs.Common.{◌≡◌, ◌++◌, ◌≤◌, List, [], ◌∷◌, ℕ, ℤ, ap, refl, sym, ◌∙◌, subst, inl, arith, Option, Some, None, drop, length}
+use Rattle.std.proofs.Common.{◌≡◌, ◌++◌, List, [], ◌∷◌, ℕ, ℤ, ap, refl, sym, ◌∙◌, subst, inl, arith, Option, Some, None, drop, length}
 use Rattle.std.specs.Prelude.{◌≢◌, true, codes}
 use Rattle.netlink_packet_core.specs.Block.{canonical_block}
 use Rattle.netlink_packet_core.specs.DecodeError.{DecodeError}
 use Rattle.netlink_packet_core.specs.DecodeError.TheVariants.{FrameShort, OutOfMemory}
 use Rattle.netlink_packet_core.specs.Frame.{Body, Frame, SamePayload}
 use Rattle.netlink_packet_core.specs.Payload.{InnerInRange}
-use Rattle.netlink_packet_core.specs.Refusal.{IsRefusal, SameRefusal}
+use Rattle.netlink_packet_core.specs.Refusal.{IsRefusal}
+use Rattle.netlink_packet_core.specs.Uniqueness.{Uniqueness}
 use Rattle.netlink_packet_core.specs.declared.header.NetlinkHeader.{NetlinkHeader}
 use Rattle.netlink_packet_core.specs.declared.message.NetlinkMessage.{NetlinkMessage}
 use Rattle.netlink_packet_core.specs.declared.payload.NetlinkPayload.{NetlinkPayload}
 use Rattle.netlink_packet_core.specs.declared.payload.NetlinkPayload.TheVariants.{Done, Error, Noop, Overrun, InnerMessage}
-use Rattle.netlink_route.specs.AddressHeader.{address_verb_type}
 use Rattle.netlink_route.specs.AddressLaws.{address_verb_types, same_address_front, same_address_verb}
 use Rattle.netlink_route.specs.Error.{wants_memory}
-use Rattle.netlink_route.specs.LinkHeader.{verb_type}
 use Rattle.netlink_route.specs.LinkLaws.{same_front, same_verb, verb_types}
-use Rattle.netlink_route.specs.Message.{address_attributes, link_attributes, route_decoding, route_in_range}
+use Rattle.netlink_route.specs.Message.{address_attributes, link_attributes, route_decoding, route_encoding, route_in_range}
+use Rattle.netlink_route.specs.MessageLaws.{types_apart}
 use Rattle.netlink_route.specs.TypedLaws.{equal_blocks}
 use Rattle.netlink_route.specs.declared.address_header.AddressVerb.{AddressVerb}
-use Rattle.netlink_route.specs.declared.address_header.AddressVerb.TheVariants as address
 use Rattle.netlink_route.specs.declared.link_header.LinkVerb.{LinkVerb}
-use Rattle.netlink_route.specs.declared.link_header.LinkVerb.TheVariants as link
 use Rattle.netlink_route.specs.declared.message.RouteMessage.{RouteMessage}
 use Rattle.netlink_route.specs.declared.message.RouteMessage.TheVariants as route
 use Rattle.netlink_links.specs.Address.{address_line}
@@ -38,30 +36,11 @@ IsFrame = Frame route_decoding
 abbrev pub IsRefused : List ℕ → DecodeError → Type 0
 IsRefused = IsRefusal route_decoding wants_memory
 
--- what the laws of the core say of the protocol
-pub record Uniqueness : Type 0 where
-  pub same : (bytes : List ℕ) (m n : NetlinkMessage RouteMessage) → IsFrame bytes m → IsFrame bytes n
-      → (m.header ≡ n.header) × SamePayload route_decoding m.payload n.payload
-  pub refusal : (bytes : List ℕ) (e f : DecodeError) → IsRefused bytes e → IsRefused bytes f → e ≢ OutOfMemory → f ≢ OutOfMemory
-      → SameRefusal e f
-  pub frame : (bytes : List ℕ) (m : NetlinkMessage RouteMessage) (e : DecodeError) → IsFrame bytes m → IsRefused bytes e
-      → e ≡ OutOfMemory
+-- the protocol has the uniqueness that the laws of `netlink_packet_core` state
+abbrev pub IsUnique : Type 0
+IsUnique = Uniqueness route_encoding route_decoding wants_memory
 
 -- ---- messages that say the same have one line
-
-link_type_most : (verb : LinkVerb) → verb_type verb ≤ 19
-link_type_most link.New = omega arith
-link_type_most link.Del = omega arith
-link_type_most link.Get = omega arith
-link_type_most link.Set = omega arith
-
-address_type_least : (verb : AddressVerb) → 20 ≤ address_verb_type verb
-address_type_least address.New = omega arith
-address_type_least address.Del = omega arith
-address_type_least address.Get = omega arith
-
-types_apart : (a : LinkVerb) (b : AddressVerb) → verb_type a ≡ address_verb_type b → ⊥
-types_apart a b same = absurd (omega (arith, link_type_most a, address_type_least b, same))
 
 inner_once : (v w : RouteMessage) → route_in_range v ≡ true → route_in_range w ≡ true
     → route_decoding.stands_for v ≡ route_decoding.stands_for w → payload_line (InnerMessage v) ≡ payload_line (InnerMessage w)
@@ -99,7 +78,7 @@ body_in_range h payload (Error m) body = tt
 body_in_range h payload Noop body = tt
 body_in_range h payload (Overrun bytes) body = tt
 
-line_once : Uniqueness → (bytes : List ℕ) (m n : NetlinkMessage RouteMessage) → IsFrame bytes m → IsFrame bytes n
+line_once : IsUnique → (bytes : List ℕ) (m n : NetlinkMessage RouteMessage) → IsFrame bytes m → IsFrame bytes n
     → (m.header ≡ n.header) × (message_line m ≡ message_line n)
 line_once unique bytes m n first second =
     let same = unique.same bytes m n first second in (
@@ -118,11 +97,11 @@ IsEnd left = (e : DecodeError) × IsRefused left e × (e ≢ OutOfMemory)
 nothing_ends : IsEnd []
 nothing_ends = (FrameShort 0 true, inl (omega arith, refl, refl), λ same. absurd (cc))
 
-no_frame : Uniqueness → (bytes left : List ℕ) (m : NetlinkMessage RouteMessage) → bytes ≡ left → IsEnd left → IsFrame bytes m → ⊥
+no_frame : IsUnique → (bytes left : List ℕ) (m : NetlinkMessage RouteMessage) → bytes ≡ left → IsEnd left → IsFrame bytes m → ⊥
 no_frame unique bytes left m is (e, refused, known) frame =
     known (unique.frame bytes m e frame (subst (λ (b : List ℕ). IsRefused b e) (sym is) refused))
 
-messages_once : Uniqueness → (input : List ℕ) (all more : List (NetlinkMessage RouteMessage)) (left rest : List ℕ)
+messages_once : IsUnique → (input : List ℕ) (all more : List (NetlinkMessage RouteMessage)) (left rest : List ℕ)
     → Messages input all left → Messages input more rest → IsEnd left → IsEnd rest → (lines all ≡ lines more) × (left ≡ rest)
 messages_once unique input [] [] left rest is other end stop = (refl, sym is ∙ other)
 messages_once unique input [] (n ∷ more) left rest is (frame, passed) end stop =
@@ -136,7 +115,7 @@ messages_once unique input (m ∷ all) (n ∷ more) left rest (first, passed) (s
     let same = messages_once unique (drop (aligned m.header.length) input) all more left rest passed behind end stop in
     (ap (λ (x : List ℕ). x ++ lines all) one.1 ∙ ap (λ (x : List ℕ). message_line n ++ x) same.0, same.1)
 
-refused_once : Uniqueness → (input left rest : List ℕ) (r s : Refused) → left ≡ rest → IsRefusedAt input left r
+refused_once : IsUnique → (input left rest : List ℕ) (r s : Refused) → left ≡ rest → IsRefusedAt input left r
     → IsRefusedAt input rest s → SameRefused (Some r) (Some s)
 refused_once unique input left rest r s same first second =
     let size = ap (λ (b : List ℕ). length b) same in (
@@ -149,7 +128,7 @@ abbrev ended : (input left : List ℕ) (r : Refused) → IsRefusedAt input left 
 ended input left r at = (r.cause, at.refusal, at.known)
 
 -- one output and one refusal
-pub once : Uniqueness → (input first second : List ℕ) (e f : Option Refused) → Makes input first e → Makes input second f
+pub once : IsUnique → (input first second : List ℕ) (e f : Option Refused) → Makes input first e → Makes input second f
     → (first ≡ second) × SameRefused e f
 unfolding Makes
 once unique input first second None None (all, passed, is) (more, later, other) =

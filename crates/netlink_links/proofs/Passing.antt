@@ -10,6 +10,7 @@ use Rattle.netlink_route.specs.Message.{route_decoding}
 use Rattle.netlink_route.specs.declared.message.RouteMessage.{RouteMessage}
 use Rattle.netlink_links.specs.Lines.{lines, message_line}
 use Rattle.netlink_links.specs.Messages.{Makes, Messages, aligned}
+use Rattle.netlink_links.specs.declared.messages.Refused.{Refused}
 
 -- nothing is left, or something
 pub none_left : (left : List ℕ) → length left ≡ 0 → left ≡ []
@@ -42,9 +43,19 @@ pub makes_all : (input left output : List ℕ) (done : List (NetlinkMessage Rout
 unfolding Makes
 makes_all input left output done passed none is = (done, subst (λ (l : List ℕ). Messages input done l) none passed, is)
 
-pub makes_front : (input left output : List ℕ) (done : List (NetlinkMessage RouteMessage)) (at : ℕ) (cause : DecodeError)
-    → Messages input done left → output ≡ lines done → left ≢ [] → IsRefusal route_decoding wants_memory left cause → cause ≢ OutOfMemory
-    → length input ≡ at + length left → Makes input output (Some (record { at = at; cause = cause }))
+pub makes_front : (input left output : List ℕ) (done : List (NetlinkMessage RouteMessage)) (refused : Refused) (at : ℕ)
+    (cause : DecodeError) → Messages input done left → output ≡ lines done → left ≢ [] → IsRefusal route_decoding wants_memory left cause → cause ≢ OutOfMemory
+    → length input ≡ at + length left → refused.at ≡ at → refused.cause ≡ cause → Makes input output (Some refused)
 unfolding Makes
-makes_front input left output done at cause passed is some refusal known place =
-    (done, left, passed, is, record { some = some; refusal = refusal; known = known; place = place })
+makes_front input left output done refused at cause passed is some refusal known place same_at same_cause = (
+  done,
+  left,
+  passed,
+  is,
+  record {
+    some = some;
+    refusal = subst (λ (e : DecodeError). IsRefusal route_decoding wants_memory left e) (sym same_cause) refusal;
+    known = subst (λ (e : DecodeError). e ≢ OutOfMemory) (sym same_cause) known;
+    place = place ∙ ap (λ (n : ℕ). n + length left) (sym same_at);
+  },
+)

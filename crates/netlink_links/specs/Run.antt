@@ -1,5 +1,5 @@
 -- What a run did.
-use Rattle.std.specs.Prelude.{ℕ, List, ◌++◌, Option, None, Some, Result, Ok, Err, codes, decimal}
+use Rattle.std.specs.Prelude.{ℕ, Bool, true, false, ⊤, List, ◌++◌, Option, None, Some, Result, Ok, Err, codes, decimal}
 use Rattle.std.specs.Io.KnownBytes.{Appends}
 use Rattle.netlink_packet_core.specs.Causes.{cause_text}
 use Rattle.netlink_program.specs.declared.reading.ReadFault.{ReadFault}
@@ -13,6 +13,12 @@ use Rattle.netlink_links.specs.declared.run.Fault.TheVariants as fault
 abbrev pub Wrote : List ℕ → Option (List ℕ) → Option (List ℕ) → Option Refused → Type 0
 Wrote input old new refused =
     (output : List ℕ) × Makes input output refused × Appends old new output
+
+-- how a run ends, by whether its output was written and by the rejected message
+abbrev pub outcome : Bool → Option Refused → Result ⊤ Fault
+outcome false refused = Err fault.Write
+outcome true None = Ok tt
+outcome true (Some refused) = Err (fault.Refused refused)
 
 -- what a run over the whole input did; want of memory, and a failed read or write, decide nothing
 -- here

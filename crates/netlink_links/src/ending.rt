@@ -60,8 +60,5 @@ pub fn ended<R: Read, W: Write>(
     if !is_asked {
         return Ending::Usage(Usage);
     }
-    match run(alloc, reader, writer) {
-        Ok(()) => Ending::Done,
-        Err(fault) => Ending::Failed(fault),
-    }
+    Ending::from(run(alloc, reader, writer))
 }

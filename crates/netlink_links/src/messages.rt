@@ -1,6 +1,6 @@
 //! The messages of an input, one behind another.
 
-ghost use Rattle.std.specs.Prelude.{◌≡◌, ◌≢◌, ◌≤◌, [], IfErr, IfOk, drop, length, string_bytes};
+ghost use Rattle.std.specs.Prelude.{◌≡◌, ◌≢◌, ◌≤◌, [], IfErr, IfOk, IsErr, IsOkAnd, drop, length, string_bytes};
 ghost use Rattle.netlink_packet_core.specs.Frame.{Frame};
 ghost use Rattle.netlink_packet_core.specs.Refusal.{IsRefusal};
 ghost use Rattle.netlink_packet_core.specs.declared.message.NetlinkMessage.{NetlinkMessage};
@@ -45,14 +45,8 @@ pub(crate) fn answer_to(alloc: Global, input: &[u8]) -> Result<Answer, AllocErro
                 rest = behind(rest, size);
             }
             Err(cause) => {
-                if cause.is_out_of_memory() {
-                    return Err(AllocError);
-                }
-                let at = input.len() - rest.len();
-                return Ok(Answer {
-                    output,
-                    fault: Some(Refused { at, cause }),
-                });
+                let fault = Some(rejection(input.len() - rest.len(), cause)?);
+                return Ok(Answer { output, fault });
             }
         }
     }
@@ -60,6 +54,21 @@ pub(crate) fn answer_to(alloc: Global, input: &[u8]) -> Result<Answer, AllocErro
         output,
         fault: None,
     })
+}
+
+/// Returns the rejected message at this byte of the input, or an error if the cause is that an
+/// allocation failed.
+fn rejection(at: usize, cause: DecodeError) -> Result<Refused, AllocError>
+    ensures memory { cause ≡ DecodeError.OutOfMemory → IsErr result }
+    ensures refused { cause ≢ DecodeError.OutOfMemory
+        → IsOkAnd result (λ r. (r.at ≡ at) × (r.cause ≡ cause)) }
+    ensures known { IfOk result
+        (λ r. (r.at ≡ at) × (r.cause ≡ cause) × (cause ≢ DecodeError.OutOfMemory)) }
+{
+    if cause.is_out_of_memory() {
+        return Err(AllocError);
+    }
+    Ok(Refused { at, cause })
 }
 
 /// What stands behind so many bytes.

@@ -2,11 +2,11 @@
 
 ghost use Rattle.std.specs.Prelude.{◌≡◌, Some, IfErr, IfSome};
 ghost use Rattle.std.specs.Io.KnownBytes.{Keeps};
-ghost use Rattle.netlink_links.specs.Run.{Answers, IsEarly, fault_text, read_fault};
+ghost use Rattle.netlink_links.specs.Run.{Answers, IsEarly, fault_text, outcome, read_fault};
 
 use crate::messages::{Answer, Refused, answer_to};
 use netlink_program::{ReadFault, read_all};
-use std::alloc::Global;
+use std::alloc::{AllocError, Global};
 use std::fmt;
 use std::io::{Read, Write};
 
@@ -47,6 +47,16 @@ impl From<ReadFault> for Fault {
     }
 }
 
+impl From<AllocError> for Fault {
+    ghost use Rattle.netlink_links.specs.declared.run.Fault.TheVariants.{OutOfMemory};
+
+    ghost from_gives = { λ _ fault. fault ≡ OutOfMemory };
+
+    fn from(_failed: AllocError) -> Fault {
+        Fault::OutOfMemory
+    }
+}
+
 /// Writes the lines of all messages that the reader gives, in one piece, and ends with the first
 /// refusal.
 ///
@@ -60,11 +70,17 @@ pub fn run<R: Read, W: Write>(alloc: Global, reader: &mut R, writer: &mut W) -> 
         Answers input (W.contents writer.old) (W.contents writer.new) result) }
 {
     let input = read_all(alloc, reader)?;
-    let Answer { output, fault } = match answer_to(alloc, input.as_slice()) {
-        Ok(answer) => answer,
-        Err(_) => return Err(Fault::OutOfMemory),
-    };
-    if writer.write_all(output.as_bytes()).is_err() {
+    let Answer { output, fault } = answer_to(alloc, input.as_slice())?;
+    let is_written = writer.write_all(output.as_bytes()).is_ok();
+    outcome(is_written, fault)
+}
+
+/// Returns how a run ends: with `Write` if its output was not written, else with the rejected
+/// message, if there is one.
+fn outcome(is_written: bool, fault: Option<Refused>) -> Result<(), Fault>
+    ensures is { result ≡ outcome is_written fault }
+{
+    if !is_written {
         return Err(Fault::Write);
     }
     match fault {

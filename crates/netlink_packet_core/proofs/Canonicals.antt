@@ -1,4 +1,5 @@
--- A canonical frame that is of a message is what is written of it, and none of its cuts is a frame.
+-- A canonical frame of a message is the encoding of that message, and none of its proper prefixes
+-- is a frame.
 use Rattle.std.proofs.Common.{◌≡◌, ℕ, ◌+◌, ◌<◌, ◌≤◌, Bool, List, [], ◌++◌, take, drop, length, Some, inl, inr, true, arith, sym, ap, refl, ◌∙◌, subst}
 use Rattle.std.proofs.lemmas.List.{length-take, take-take, nil_from_length, append-nil}
 use Rattle.netlink_bytes.specs.Numbers.{number_le}
@@ -16,12 +17,12 @@ use Rattle.netlink_packet_core.specs.declared.message.NetlinkMessage.{NetlinkMes
 use Rattle.netlink_packet_core.specs.declared.payload.NetlinkPayload.{NetlinkPayload}
 use Rattle.netlink_packet_core.specs.declared.payload.NetlinkPayload.TheVariants.{Done, Error, Noop, Overrun, InnerMessage}
 
--- what canonical bytes are, by a header and a payload
+-- what canonical bytes are, in terms of a header and a payload
 pub record CanonicalParts {I : Type 0} (decoding : Decoding I) (bytes : List ℕ) (h : NetlinkHeader) (payload : List ℕ) : Type 0 where
   pub whole : bytes ≡ header_bytes h ++ payload
   pub body : IsCanonicalBody decoding h payload
 
--- a canonical frame is a header and a payload, with nothing behind them
+-- a canonical frame is a header and a payload, with nothing after them
 pub canonical_parts : {I : Type 0} (decoding : Decoding I) (bytes : List ℕ) (h : NetlinkHeader) (payload : List ℕ)
     → IsCanonicalFrame decoding bytes → Begins bytes h payload → CanonicalParts decoding bytes h payload
 canonical_parts decoding bytes h payload canonical begins =
@@ -45,14 +46,14 @@ canonical_parts decoding bytes h payload canonical begins =
       };
     }
 
--- and is a whole frame
+-- and it is a complete frame
 pub canonical_holds : {I : Type 0} (decoding : Decoding I) (bytes : List ℕ) → IsCanonicalFrame decoding bytes → HoldsFrame bytes
 canonical_holds decoding bytes canonical =
     let long = canonical.header in
     let whole = canonical.whole in
     record { header = long; least = omega arith; most = omega arith }
 
--- what a canonical payload reads as is of its type, and is written as it
+-- what a canonical payload decodes to has its type, and is encoded as it
 pub body_back : {I : Type 0} {eq : I → I → Bool} {encoding : Encoding I} {decoding : Decoding I} → Laws eq encoding decoding
     → (x : NetlinkPayload I) (h : NetlinkHeader) (payload : List ℕ) → Body decoding h payload x → IsCanonicalBody decoding h payload
     → (payload_type encoding x ≡ h.message_type) × (payload_bytes encoding x ≡ payload)
@@ -67,7 +68,7 @@ body_back {encoding = encoding} {decoding = decoding} laws (InnerMessage v) h pa
     let own : (encoding.type_of v, encoding.bytes_of v) ≡ (h.message_type, payload) = sym (laws.own_pair v) ∙ pairs in
     (ap (λ (q : ℕ × List ℕ). q.0) own, ap (λ (q : ℕ × List ℕ). q.1) own)
 
--- a canonical frame of a message is what is written of it
+-- a canonical frame of a message is the encoding of that message
 pub canonical_is_written : {I : Type 0} {eq : I → I → Bool} {encoding : Encoding I} {decoding : Decoding I} → Laws eq encoding decoding
     → (bytes : List ℕ) (m : NetlinkMessage I) → IsCanonicalFrame decoding bytes → Frame decoding bytes m
     → canonical_frame encoding m ≡ bytes
@@ -80,14 +81,14 @@ canonical_is_written {encoding = encoding} {decoding = decoding} laws bytes m ca
     ap (λ (j : NetlinkHeader). header_bytes j ++ payload_bytes encoding m.payload) same
     ∙ (ap (λ (q : List ℕ). header_bytes h ++ q) back.1 ∙ sym parts.whole)
 
--- the first k bytes keep their number, and from 4 on the length field
+-- the first k bytes have size k, and if k is at least 4 they have the same length field
 cut_size : (bytes : List ℕ) (k : ℕ) → k ≤ length bytes → length (take k bytes) ≡ k
 cut_size bytes k within = omega (arith, length-take k bytes)
 
 cut_field : (bytes : List ℕ) (k : ℕ) → 4 ≤ k → field 0 4 (take k bytes) ≡ field 0 4 bytes
 cut_field bytes k long = ap number_le (take-take 4 k bytes (omega arith))
 
--- a proper cut of bytes that are as long as they say holds no frame
+-- a proper prefix of bytes whose length field is their size holds no frame
 pub cut_holds_none : (bytes : List ℕ) (k : ℕ) → field 0 4 bytes ≡ length bytes → k < length bytes → HoldsFrame (take k bytes) → ⊥
 cut_holds_none bytes k whole proper holds =
     let size = cut_size bytes k (omega arith) in
@@ -96,7 +97,7 @@ cut_holds_none bytes k whole proper holds =
     let said = cut_field bytes k (omega arith) in
     omega arith
 
--- and its fault is that of a cut
+-- and its error is that of truncated bytes
 pub cut_short : (bytes : List ℕ) (k : ℕ) → k ≤ length bytes → k < 16 → IsFrameFault true (take k bytes) (FrameShort k true)
 cut_short bytes k within few = let size = cut_size bytes k within in (omega arith, sym size, refl)
 

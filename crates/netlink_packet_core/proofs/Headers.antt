@@ -1,4 +1,4 @@
--- A header's text read again, and the text of a header that was read.
+-- A header read back from its encoding, and the encoding of a header that was read.
 use Rattle.std.proofs.Common.{◌≡◌, ℕ, ◌+◌, ◌-◌, ◌<◌, ◌≤◌, ◌^◌, List, ◌++◌, length, take, drop, refl, ap, sym, ◌∙◌, append_assoc, arith, length-append, length-drop}
 use Rattle.std.proofs.lemmas.List.{take-append-drop, take-append-le, length-take, drop-drop, take_at}
 use Rattle.netlink_bytes.specs.Numbers.{IsBytes, number_le, bytes_le}
@@ -8,12 +8,12 @@ use Rattle.netlink_packet_core.specs.Sizes.{length-header_bytes, length-header_a
 use Rattle.netlink_packet_core.specs.Frame.{Begins}
 use Rattle.netlink_packet_core.specs.declared.header.NetlinkHeader.{NetlinkHeader}
 
--- headers of the same fields are one
+-- headers with the same fields are the same
 pub same_header : (a b : NetlinkHeader) → a.length ≡ b.length → a.message_type ≡ b.message_type → a.flags ≡ b.flags
     → a.sequence_number ≡ b.sequence_number → a.port_number ≡ b.port_number → a ≡ b
 same_header a b p q r s t = λ i. record { length = p i; message_type = q i; flags = r i; sequence_number = s i; port_number = t i }
 
--- a header reads back from its text, whatever follows
+-- a header reads back from its encoding, whatever follows
 pub header_of-header_bytes : (h : NetlinkHeader) (more : List ℕ) → HeaderInRange h → header_of (header_bytes h ++ more) ≡ h
 unfolding bytes_le
 header_of-header_bytes h more fits = same_header _ _
@@ -23,7 +23,7 @@ header_of-header_bytes h more fits = same_header _ _
     (number_le-bytes_le h.sequence_number 4 fits.sequence_number)
     (number_le-bytes_le h.port_number 4 fits.port_number)
 
--- what stands behind a header's text
+-- what follows the encoding of a header
 pub drop-header_bytes : (h : NetlinkHeader) (more : List ℕ) → drop 16 (header_bytes h ++ more) ≡ more
 unfolding bytes_le
 drop-header_bytes h more = refl
@@ -31,7 +31,7 @@ drop-header_bytes h more = refl
 enough : (at w : ℕ) (bytes : List ℕ) → at + w ≤ length bytes → w ≤ length (drop at bytes)
 enough at w bytes long = omega (arith, length-drop at bytes)
 
--- a number in the middle, and what follows it
+-- an integer at an offset, and what follows it
 next_number : (at w : ℕ) (bytes : List ℕ) → IsBytes bytes → at + w ≤ length bytes
     → drop at bytes ≡ bytes_le (number_le (take w (drop at bytes))) w ++ drop (at + w) bytes
 next_number at w bytes each long =
@@ -47,7 +47,7 @@ joined a b c d e x0 x1 x2 x3 x4 x5 p q r s t =
     p ∙ ap (λ (m : List ℕ). a ++ m) (q ∙ ap (λ (m : List ℕ). b ++ m) (r ∙ ap (λ (m : List ℕ). c ++ m) (s ∙ ap (λ (m : List ℕ). d ++ m) t)))
     ∙ sym (five a b c d e x5)
 
--- bytes are the text of the header that they begin with, and the rest
+-- bytes are the encoding of the header that they begin with, and the rest
 pub header_bytes-header_of : (bytes : List ℕ) → IsBytes bytes → 16 ≤ length bytes → bytes ≡ header_bytes (header_of bytes) ++ drop 16 bytes
 header_bytes-header_of bytes each long =
     joined (bytes_le (field 0 4 bytes) 4) (bytes_le (field 4 2 bytes) 2) (bytes_le (field 6 2 bytes) 2) (bytes_le (field 8 4 bytes) 4)
@@ -68,7 +68,7 @@ header_in_range bytes each long = record {
   port_number = next_fits 12 4 bytes each (omega arith);
 }
 
--- bytes that hold a whole frame begin with its header and its payload
+-- bytes that hold a complete frame begin with its header and its payload
 pub begins-whole : (bytes : List ℕ) → IsBytes bytes → HoldsFrame bytes → Begins bytes (header_of bytes) (payload_of bytes)
 begins-whole bytes each holds = record {
   rest = drop (field 0 4 bytes - 16) (drop 16 bytes);
@@ -110,7 +110,7 @@ pub same_start : (bytes : List ℕ) (h g : NetlinkHeader) (p q : List ℕ) → B
 same_start bytes h g p q a b =
     (sym (header-begins bytes h p a) ∙ header-begins bytes g q b, sym (payload-begins bytes h p a) ∙ payload-begins bytes g q b)
 
--- what follows a whole frame is no part of what the bytes begin with
+-- what follows a complete frame is not part of what the bytes begin with
 pub begins-before : (bytes more : List ℕ) (h : NetlinkHeader) (payload : List ℕ) → Begins bytes h payload → Begins (bytes ++ more) h payload
 begins-before bytes more h payload b = record {
   rest = b.rest ++ more;

@@ -1,4 +1,4 @@
--- What normalising answers, of bytes that are the frame of a message and of canonical ones.
+-- The result of normalizing bytes that are the frame of a message, and canonical bytes.
 use Rattle.std.proofs.Common.{◌≡◌, ℕ, ◌+◌, ◌<◌, ◌^◌, Bool, true, List, length, inl, inr, arith, sym, ap, refl, subst, Some, None}
 use Rattle.netlink_bytes.specs.declared.error.DecodeError.{DecodeError}
 use Rattle.netlink_bytes.specs.declared.error.DecodeError.TheVariants.{DoneShort, ErrorShort, Message, OutOfMemory}
@@ -14,7 +14,7 @@ use Rattle.netlink_packet_core.proofs.Once.{frame_once, written_same, body_in_ra
 use Rattle.netlink_packet_core.specs.declared.header.NetlinkHeader.{NetlinkHeader}
 use Rattle.netlink_packet_core.specs.declared.message.NetlinkMessage.{NetlinkMessage}
 
--- a canonical payload is refused for want of memory alone
+-- a canonical payload is rejected only with `OutOfMemory`
 canonical_body_refused : {I E : Type 0} (decoding : Decoding I) (wants : E → Bool) (h : NetlinkHeader) (payload : List ℕ) (e : DecodeError)
     → IsCanonicalBody decoding h payload → IsBodyFault decoding wants h payload e → e ≡ OutOfMemory
 canonical_body_refused decoding wants h payload (ErrorShort size inside) is (inl fault) = let long = is.error fault.0 in
@@ -39,13 +39,13 @@ canonical_refused decoding wants bytes e canonical (inl fault) =
 canonical_refused decoding wants bytes e canonical (inr (h, payload, begins, fault)) =
     canonical_body_refused decoding wants h payload e (canonical_parts decoding bytes h payload canonical begins).body fault
 
--- a message that was read fits where its length does
+-- a message that was read fits if its length does
 fits_read : {I : Type 0} (encoding : Encoding I) (decoding : Decoding I) (bytes : List ℕ) (m : NetlinkMessage I) → Frame decoding bytes m
     → 16 + length (payload_bytes encoding m.payload) < 2 ^ 32 → Fits encoding m
 fits_read encoding decoding bytes m (payload, begins, body) size =
     record { size = size; header = begins.in_range; payload = (body_in_range decoding m.payload m.header payload body).0 }
 
--- two messages of one frame fit alike
+-- of two messages of one frame, both fit or neither does
 pub fits_alike : {I : Type 0} {eq : I → I → Bool} {encoding : Encoding I} {decoding : Decoding I} → Laws eq encoding decoding
     → (bytes : List ℕ) (m n : NetlinkMessage I) → Frame decoding bytes m → Frame decoding bytes n → Fits encoding n → Fits encoding m
 fits_alike {encoding = encoding} {decoding = decoding} laws bytes m n f k fits =
@@ -61,7 +61,7 @@ long_alike {encoding = encoding} laws bytes m n f k long =
     let size : length (payload_bytes encoding m.payload) ≡ length (payload_bytes encoding n.payload) = ap length same.text in
     omega (arith, long)
 
--- and are written alike
+-- and they have the same encoding
 pub written_alike : {I : Type 0} {eq : I → I → Bool} {encoding : Encoding I} {decoding : Decoding I} → Laws eq encoding decoding
     → (bytes : List ℕ) (m n : NetlinkMessage I) → Frame decoding bytes m → Frame decoding bytes n
     → canonical_frame encoding m ≡ canonical_frame encoding n
@@ -76,14 +76,14 @@ canonical_fits {encoding = encoding} {decoding = decoding} laws bytes m canonica
     ap length (body_back laws m.payload m.header payload body parts.body).1 in
     fits_read encoding decoding bytes m (payload, begins, body) (omega (arith, begins.size, begins.in_range.length))
 
--- what is written of a message that was read is canonical
+-- the encoding of a message that was read is canonical
 pub read_is_canonical : {I : Type 0} {eq : I → I → Bool} {encoding : Encoding I} {decoding : Decoding I} → Laws eq encoding decoding
     → (bytes : List ℕ) (m : NetlinkMessage I) → Frame decoding bytes m → Fits encoding m
     → IsCanonicalFrame decoding (canonical_frame encoding m)
 read_is_canonical {decoding = decoding} laws bytes m (payload, begins, body) fits =
     written_is_canonical laws m fits (body_in_range decoding m.payload m.header payload body).1
 
--- and only it is written of what it is the frame of
+-- and it is the encoding of any message that it is the frame of
 pub written_again : {I : Type 0} {eq : I → I → Bool} {encoding : Encoding I} {decoding : Decoding I} → Laws eq encoding decoding
     → (bytes answer : List ℕ) (m n : NetlinkMessage I) → Frame decoding bytes m → Fits encoding m → answer ≡ canonical_frame encoding m
     → Frame decoding answer n → canonical_frame encoding n ≡ answer

@@ -1,4 +1,4 @@
--- Bytes are the frame of one message.
+-- Bytes are the frame of at most one message.
 use Rattle.std.proofs.Common.{◌≡◌, ℕ, ◌+◌, Bool, List, length, Some, inl, inr, arith, sym, ap, refl, ◌∙◌, subst, IsTrue, nat_eq, ◌&&◌}
 use Rattle.netlink_bytes.specs.Numbers.{IsSigned}
 use Rattle.netlink_packet_core.specs.Payload.{payload_bytes, payload_type, PayloadInRange, InnerInRange}
@@ -14,7 +14,7 @@ use Rattle.netlink_packet_core.specs.declared.message.NetlinkMessage.{NetlinkMes
 use Rattle.netlink_packet_core.specs.declared.payload.NetlinkPayload.{NetlinkPayload}
 use Rattle.netlink_packet_core.specs.declared.payload.NetlinkPayload.TheVariants.{Done, Error, Noop, Overrun, InnerMessage}
 
--- two done messages of one payload have one code and the same bytes
+-- two done messages of one payload have the same code and the same bytes
 done_same : (a b : DoneMessage) (payload : List ℕ) → IsDone payload a → IsDone payload b
     → (a.code ≡ b.code) × (a.extended_ack.items ≡ b.extended_ack.items)
 done_same a b payload (inl p) (inl q) = (p.1 ∙ sym q.1, p.2 ∙ sym q.2)
@@ -22,7 +22,7 @@ done_same a b payload (inl p) (inr q) = absurd (omega (arith, ap length p.0, len
 done_same a b payload (inr p) (inl q) = absurd (omega (arith, ap length q.0, length-code_and_rest payload _ _ p))
 done_same a b payload (inr p) (inr q) = code_once payload _ _ _ _ p q
 
--- two payloads of one body say the same
+-- two payloads of one body have the same content
 payload_same : {I : Type 0} (decoding : Decoding I) (x y : NetlinkPayload I) (h : NetlinkHeader) (payload : List ℕ)
     → Body decoding h payload x → Body decoding h payload y → SamePayload decoding x y
 payload_same decoding (Done a) (Done b) h payload p q = done_same a b payload p.1 q.1
@@ -52,7 +52,7 @@ payload_same decoding (InnerMessage a) (Overrun b) h payload p q = p.0.3 q.0
 payload_same decoding (InnerMessage a) (InnerMessage b) h payload p q =
     let same : Some (decoding.stands_for a) ≡ Some (decoding.stands_for b) = sym p.2 ∙ q.2 in cc
 
--- and payloads that say the same have one type and one text
+-- and payloads with the same content have the same type and encoding
 pub same_text : {I : Type 0} {eq : I → I → Bool} {encoding : Encoding I} {decoding : Decoding I} → Laws eq encoding decoding
     → (x y : NetlinkPayload I) → SamePayload decoding x y
     → (payload_type encoding x ≡ payload_type encoding y) × (payload_bytes encoding x ≡ payload_bytes encoding y)
@@ -80,7 +80,7 @@ pub record SameMessage {I : Type 0} (encoding : Encoding I) (m n : NetlinkMessag
   pub kind : payload_type encoding m.payload ≡ payload_type encoding n.payload
   pub text : payload_bytes encoding m.payload ≡ payload_bytes encoding n.payload
 
--- two messages of one frame have one header, one type and one text
+-- two messages of one frame have the same header, type and encoding
 pub frame_once : {I : Type 0} {eq : I → I → Bool} {encoding : Encoding I} {decoding : Decoding I} → Laws eq encoding decoding
     → (bytes : List ℕ) (m n : NetlinkMessage I) → Frame decoding bytes m → Frame decoding bytes n → SameMessage encoding m n
 frame_once {decoding = decoding} laws bytes m n p q =
@@ -88,7 +88,7 @@ frame_once {decoding = decoding} laws bytes m n p q =
     let both = same_text laws m.payload n.payload same.1 in
     record { header = same.0; kind = both.0; text = both.1 }
 
--- and one canonical frame
+-- and the same canonical frame
 pub written_same : {I : Type 0} (encoding : Encoding I) (m n : NetlinkMessage I) → SameMessage encoding m n
     → canonical_frame encoding m ≡ canonical_frame encoding n
 written_same encoding m n same =

@@ -1,4 +1,4 @@
--- What a frame is of is refused for want of memory alone, and not even that where nothing is
+-- The frame of a message is rejected only with `OutOfMemory`, and not even with that if nothing is
 -- copied.
 use Rattle.std.proofs.Common.{◌≡◌, ℕ, List, length, refl, ap, subst, arith, inl, inr, Bool, true, Some, None}
 use Rattle.netlink_bytes.specs.declared.error.DecodeError.{DecodeError}
@@ -16,7 +16,7 @@ use Rattle.netlink_packet_core.specs.declared.payload.NetlinkPayload.{NetlinkPay
 use Rattle.netlink_packet_core.specs.declared.payload.NetlinkPayload.TheVariants.{Done, Error, Noop, Overrun, InnerMessage}
 use Rattle.netlink_packet_core.specs.declared.message.NetlinkMessage.{NetlinkMessage}
 
--- a whole frame has no fault
+-- a complete frame has no error of a frame
 pub no_frame_fault : (within : Bool) (bytes : List ℕ) (e : DecodeError) → HoldsFrame bytes → IsFrameFault within bytes e → ⊥
 no_frame_fault within bytes (FrameShort size inside) holds fault = omega (arith, holds.header, fault.0)
 no_frame_fault within bytes (FrameCut said size inside) holds fault = omega (arith, holds.most, fault.1)
@@ -67,7 +67,7 @@ body_read decoding wants h payload (InnerMessage v) e is (inr (inl fault)) = abs
 body_read decoding wants h payload (InnerMessage v) e is (inr (inr (inl fault))) = absurd (is.0.3 fault.0)
 body_read decoding wants h payload (InnerMessage v) e is (inr (inr (inr fault))) = inner_read decoding wants h payload _ e is.2 fault.1
 
--- the refusal of bytes that begin with a header and a payload is the payload's
+-- the error for bytes that begin with a header and a payload is that of the payload
 pub body_refusal : {I E : Type 0} (decoding : Decoding I) (wants : E → Bool) (bytes : List ℕ) (h : NetlinkHeader) (payload : List ℕ)
     (e : DecodeError) → Begins bytes h payload → IsRefusal decoding wants bytes e → IsBodyFault decoding wants h payload e
 body_refusal decoding wants bytes h payload e begins (inl fault) =
@@ -77,13 +77,13 @@ body_refusal decoding wants bytes h payload e begins (inr (g, p, start, fault)) 
     subst (λ (k : NetlinkHeader). IsBodyFault decoding wants k payload e) same.0
     (subst (λ (q : List ℕ). IsBodyFault decoding wants g q e) same.1 fault)
 
--- a frame is refused for want of memory alone
+-- the frame of a message is rejected only with `OutOfMemory`
 pub frame_refused : {I E : Type 0} (decoding : Decoding I) (wants : E → Bool) (bytes : List ℕ) (m : NetlinkMessage I) (e : DecodeError)
     → Frame decoding bytes m → IsRefusal decoding wants bytes e → e ≡ OutOfMemory
 frame_refused decoding wants bytes m e (payload, begins, body) refusal =
     body_read decoding wants m.header payload m.payload e body (body_refusal decoding wants bytes m.header payload e begins refusal)
 
--- where nothing is copied and the protocol is not asked, memory is not wanted
+-- if nothing is copied and the protocol is not called, there is no `OutOfMemory`
 nothing_wanted : {I E : Type 0} (decoding : Decoding I) (wants : E → Bool) (h : NetlinkHeader) (payload : List ℕ)
     → HasNothingToCopy h.message_type payload → IsBodyFault decoding wants h payload OutOfMemory → ⊥
 nothing_wanted decoding wants h payload (inl a) (inl b) = omega (arith, a, b.0)

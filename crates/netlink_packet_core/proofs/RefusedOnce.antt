@@ -1,4 +1,4 @@
--- Bytes are refused in one way.
+-- Bytes are rejected in only one way.
 use Rattle.std.proofs.Common.{ℕ, List, refl, arith, inl, inr, Bool, true}
 use Rattle.std.specs.Prelude.{◌≢◌}
 use Rattle.netlink_bytes.specs.declared.error.DecodeError.{DecodeError}
@@ -10,17 +10,17 @@ use Rattle.netlink_packet_core.proofs.Refusals.{no_frame_fault, body_refusal}
 use Rattle.netlink_packet_core.specs.declared.header.NetlinkHeader.{NetlinkHeader}
 
 frame_fault_once : (bytes : List ℕ) (e f : DecodeError) → IsFrameFault true bytes e → IsFrameFault true bytes f → SameRefusal e f
-frame_fault_once bytes (FrameShort size inside) (FrameShort size' inside') (a, b, c) (a', b', c') = cc
+frame_fault_once bytes (FrameShort size inside) (FrameShort size' inside') (a, b, c) (a', b', c') = inl cc
 frame_fault_once bytes (FrameShort size inside) (FrameCut said' size' inside') (a, b, c) (a', b', c', d', e') = absurd (omega arith)
 frame_fault_once bytes (FrameShort size inside) (FrameLength said' inside') (a, b, c) (a', b', c', d') = absurd (omega arith)
 frame_fault_once bytes (FrameShort size inside) _ p q = absurd q
 frame_fault_once bytes (FrameCut said size inside) (FrameShort size' inside') (a, b, c, d, e) (a', b', c') = absurd (omega arith)
-frame_fault_once bytes (FrameCut said size inside) (FrameCut said' size' inside') (a, b, c, d, e) (a', b', c', d', e') = cc
+frame_fault_once bytes (FrameCut said size inside) (FrameCut said' size' inside') (a, b, c, d, e) (a', b', c', d', e') = inl cc
 frame_fault_once bytes (FrameCut said size inside) (FrameLength said' inside') (a, b, c, d, e) (a', b', c', d') = absurd (omega arith)
 frame_fault_once bytes (FrameCut said size inside) _ p q = absurd q
 frame_fault_once bytes (FrameLength said inside) (FrameShort size' inside') (a, b, c, d) (a', b', c') = absurd (omega arith)
 frame_fault_once bytes (FrameLength said inside) (FrameCut said' size' inside') (a, b, c, d) (a', b', c', d', e') = absurd (omega arith)
-frame_fault_once bytes (FrameLength said inside) (FrameLength said' inside') (a, b, c, d) (a', b', c', d') = cc
+frame_fault_once bytes (FrameLength said inside) (FrameLength said' inside') (a, b, c, d) (a', b', c', d') = inl cc
 frame_fault_once bytes (FrameLength said inside) _ p q = absurd q
 frame_fault_once bytes _ f p q = absurd p
 
@@ -28,7 +28,7 @@ error_fault_once : (payload : List ℕ) (e f : DecodeError) → IsErrorFault pay
     → f ≢ OutOfMemory → SameRefusal e f
 error_fault_once payload OutOfMemory f p q known known' = absurd (known refl)
 error_fault_once payload (ErrorShort size inside) OutOfMemory p q known known' = absurd (known' refl)
-error_fault_once payload (ErrorShort size inside) (ErrorShort size' inside') (a, b, c) (a', b', c') known known' = cc
+error_fault_once payload (ErrorShort size inside) (ErrorShort size' inside') (a, b, c) (a', b', c') known known' = inl cc
 error_fault_once payload (ErrorShort size inside) _ p q known known' = absurd q
 error_fault_once payload _ f p q known known' = absurd p
 
@@ -36,7 +36,7 @@ done_fault_once : (payload : List ℕ) (e f : DecodeError) → IsDoneFault paylo
     → SameRefusal e f
 done_fault_once payload OutOfMemory f p q known known' = absurd (known refl)
 done_fault_once payload (DoneShort size inside) OutOfMemory p q known known' = absurd (known' refl)
-done_fault_once payload (DoneShort size inside) (DoneShort size' inside') (a, b, c, d) (a', b', c', d') known known' = cc
+done_fault_once payload (DoneShort size inside) (DoneShort size' inside') (a, b, c, d) (a', b', c', d') known known' = inl cc
 done_fault_once payload (DoneShort size inside) _ p q known known' = absurd q
 done_fault_once payload _ f p q known known' = absurd p
 
@@ -50,7 +50,7 @@ inner_fault_once : {I E : Type 0} (decoding : Decoding I) (wants : E → Bool) (
 inner_fault_once decoding wants h payload OutOfMemory f p q known known' = absurd (known refl)
 inner_fault_once decoding wants h payload (Message a) OutOfMemory p q known known' = absurd (known' refl)
 inner_fault_once decoding wants h payload (Message a) (Message b) (none, (r, is)) (none', (s, is')) known known' =
-    (h.message_type, r, s, is, is')
+    inr (h.message_type, r, s, is, is')
 inner_fault_once decoding wants h payload (Message a) _ p q known known' = absurd q
 inner_fault_once decoding wants h payload _ f p q known known' = absurd p
 

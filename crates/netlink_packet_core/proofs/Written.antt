@@ -1,4 +1,4 @@
--- What is written of a message is canonical, and reads back.
+-- The encoding of a message is canonical, and reads back.
 use Rattle.std.proofs.Common.{◌≡◌, ◌↔◌, ℕ, ◌+◌, ◌<◌, ◌≤◌, ◌^◌, Bool, true, List, ◌++◌, drop, length, Some, inr, arith, sym, ap, refl, ◌∙◌, subst, append_assoc, IsTrue}
 use Rattle.netlink_bytes.specs.Numbers.{unsigned}
 use Rattle.netlink_packet_core.specs.Header.{header_bytes, header_of, field, HeaderInRange}
@@ -20,12 +20,12 @@ pub record Laws {I : Type 0} (eq : I → I → Bool) (encoding : Encoding I) (de
       → (eq v w ≡ true) ↔ (decoding.stands_for v ≡ decoding.stands_for w)
   pub value_is_lawful : (v : I) → IsTrue (decoding.in_range v) → IsLawful decoding (decoding.stands_for v)
 
--- a value's own type and text are lawful
+-- a value's own type and encoding are lawful
 own_is_lawful : {I : Type 0} {eq : I → I → Bool} {encoding : Encoding I} {decoding : Decoding I} → Laws eq encoding decoding → (v : I)
     → IsTrue (decoding.in_range v) → IsLawful decoding (encoding.type_of v, encoding.bytes_of v)
 own_is_lawful {decoding = decoding} laws v in_range = subst (IsLawful decoding) (laws.own_pair v) (laws.value_is_lawful v in_range)
 
--- a payload's text reads as the payload, in a header of its type and size
+-- an encoded payload reads as the payload, under a header with its type and size
 body_of : {I : Type 0} {eq : I → I → Bool} {encoding : Encoding I} {decoding : Decoding I} → Laws eq encoding decoding
     → (x : NetlinkPayload I) → PayloadInRange x → InnerInRange decoding x → (h : NetlinkHeader) → h.message_type ≡ payload_type encoding x
     → h.length ≡ 16 + length (payload_bytes encoding x) → Body decoding h (payload_bytes encoding x) x
@@ -56,7 +56,7 @@ finalized_in_range laws m fits i = record {
   port_number = fits.header.port_number;
 }
 
--- what is written reads back, whatever follows
+-- an encoding reads back, whatever follows
 pub reads_before : {I : Type 0} {eq : I → I → Bool} {encoding : Encoding I} {decoding : Decoding I} → Laws eq encoding decoding
     → (m : NetlinkMessage I) → Fits encoding m → InnerInRange decoding m.payload → (more : List ℕ)
     → Frame decoding (canonical_frame encoding m ++ more) (finalized encoding m)
@@ -72,7 +72,7 @@ reads_before {encoding = encoding} laws m fits i more =
       body_of laws m.payload fits.payload i h refl refl,
     )
 
--- what a payload's type says of the size of its text
+-- what a payload's type implies about the size of its encoding
 sizes : {I : Type 0} {eq : I → I → Bool} {encoding : Encoding I} {decoding : Decoding I} → Laws eq encoding decoding
     → (x : NetlinkPayload I) → InnerInRange decoding x
     → (payload_type encoding x ≡ 1 → length (payload_bytes encoding x) ≡ 0)
@@ -98,14 +98,14 @@ own_reads laws Noop i h kind size own = absurd (own.0 kind)
 own_reads laws (Overrun bytes) i h kind size own = absurd (own.3 kind)
 own_reads laws (InnerMessage v) i h kind size own = (own_is_lawful laws v i).again h kind size
 
--- what the grammar says of a header and a payload
+-- what the grammar requires of a header and a payload
 pub record IsCanonicalBody {I : Type 0} (decoding : Decoding I) (h : NetlinkHeader) (payload : List ℕ) : Type 0 where
   pub noop : h.message_type ≡ 1 → length payload ≡ 0
   pub error : h.message_type ≡ 2 → 4 ≤ length payload
   pub done : h.message_type ≡ 3 → 4 ≤ length payload
   pub own : IsOwnType h.message_type → decoding.reading h payload ≡ Some (h.message_type, payload)
 
--- a header, and a payload of its length of which the grammar says so, are a canonical frame
+-- a header and a payload of its length that satisfy the grammar are a canonical frame
 canonical_from : {I : Type 0} (decoding : Decoding I) (h : NetlinkHeader) (payload : List ℕ) → HeaderInRange h
     → h.length ≡ 16 + length payload → IsCanonicalBody decoding h payload → IsCanonicalFrame decoding (header_bytes h ++ payload)
 canonical_from decoding h payload in_range says body =
@@ -127,7 +127,7 @@ canonical_from decoding h payload in_range says body =
           (subst (λ (q : List ℕ). IsOwnType h.message_type → decoding.reading h q ≡ Some (h.message_type, q)) (sym rest) body.own);
     }
 
--- what is written is canonical
+-- an encoding is canonical
 pub written_is_canonical : {I : Type 0} {eq : I → I → Bool} {encoding : Encoding I} {decoding : Decoding I} → Laws eq encoding decoding
     → (m : NetlinkMessage I) → Fits encoding m → InnerInRange decoding m.payload → IsCanonicalFrame decoding (canonical_frame encoding m)
 written_is_canonical {encoding = encoding} {decoding = decoding} laws m fits i =
@@ -136,7 +136,7 @@ written_is_canonical {encoding = encoding} {decoding = decoding} laws m fits i =
     canonical_from decoding h (payload_bytes encoding m.payload) (finalized_in_range laws m fits i) refl
     (record { noop = of_type.0; error = of_type.1; done = of_type.2; own = own_reads laws m.payload i h refl refl })
 
--- and so are a lawful type and text, in any header of theirs
+-- and so are a lawful type and encoding, under any header that matches them
 pub lawful_is_canonical : {I : Type 0} (decoding : Decoding I) (pair : ℕ × List ℕ) → IsLawful decoding pair → (h : NetlinkHeader)
     → HeaderInRange h → h.message_type ≡ pair.0 → h.length ≡ 16 + length pair.1 → IsCanonicalFrame decoding (header_bytes h ++ pair.1)
 lawful_is_canonical decoding pair lawful h in_range kind size =
@@ -148,7 +148,7 @@ lawful_is_canonical decoding pair lawful h in_range kind size =
       own = λ _. lawful.again h kind size ∙ ap (λ (t : ℕ). Some (t, pair.1)) (sym kind);
     })
 
--- messages of one finalized header and one payload text are written alike
+-- messages with the same finalized header and the same encoded payload have the same encoding
 pub written_from : {I : Type 0} (encoding : Encoding I) (m n : NetlinkMessage I)
     → (finalized encoding m).header ≡ (finalized encoding n).header → payload_bytes encoding m.payload ≡ payload_bytes encoding n.payload
     → canonical_frame encoding m ≡ canonical_frame encoding n

@@ -1,4 +1,4 @@
--- The one canonical frame of a message, and a grammar of its own for what is canonical.
+-- The one canonical frame of a message, and a separate grammar for what is canonical.
 use Rattle.std.specs.Prelude.{◌≡◌, ◌+◌, ◌<◌, ◌≤◌, ◌^◌, ◌⊎◌, ℕ, Bool, List, ◌++◌, Some, length, drop}
 use Rattle.netlink_bytes.specs.declared.error.DecodeError.{DecodeError}
 use Rattle.netlink_bytes.specs.declared.error.DecodeError.TheVariants.{TooLong, OutOfMemory}
@@ -9,13 +9,13 @@ use Rattle.netlink_packet_core.specs.Frame.{Frame}
 use Rattle.netlink_packet_core.specs.Refusal.{IsRefusal}
 use Rattle.netlink_packet_core.specs.declared.message.NetlinkMessage.{NetlinkMessage}
 
--- a message whose length fits 32 bits, with a header and a code of their widths
+-- a message whose length fits in 32 bits, with header fields and a code within their widths
 pub record Fits {I : Type 0} (encoding : Encoding I) (m : NetlinkMessage I) : Type 0 where
   pub size : 16 + length (payload_bytes encoding m.payload) < 2 ^ 32
   pub header : HeaderInRange m.header
   pub payload : PayloadInRange m.payload
 
--- the message with that length and with its payload's type
+-- the message with that length and with its payload's type in the header
 abbrev pub finalized : {I : Type 0} → Encoding I → NetlinkMessage I → NetlinkMessage I
 finalized encoding m =
     record m {
@@ -26,13 +26,13 @@ finalized encoding m =
       };
     }
 
--- what is written of a message
+-- the encoding of a message
 abbrev pub canonical_frame : {I : Type 0} → Encoding I → NetlinkMessage I → List ℕ
 canonical_frame encoding m =
     header_bytes (finalized encoding m).header ++ payload_bytes encoding m.payload
 
--- bytes that are a canonical frame: they are as long as they say, type 1 has no payload,
--- types 2 and 3 have a code, and any other but 4 has a payload that reads as itself
+-- bytes that are a canonical frame: their length field is their size, type 1 has no payload, types
+-- 2 and 3 have a code, and a payload of any other type except 4 reads as itself
 pub record IsCanonicalFrame {I : Type 0} (decoding : Decoding I) (bytes : List ℕ) : Type 0 where
   pub header : 16 ≤ length bytes
   pub whole : field 0 4 bytes ≡ length bytes
@@ -42,18 +42,18 @@ pub record IsCanonicalFrame {I : Type 0} (decoding : Decoding I) (bytes : List �
   pub own : IsOwnType (field 4 2 bytes)
       → decoding.reading (header_of bytes) (drop 16 bytes) ≡ Some (field 4 2 bytes, drop 16 bytes)
 
--- a message whose length does not fit 32 bits
+-- a message whose length does not fit in 32 bits
 abbrev pub IsTooLong : {I : Type 0} → Encoding I → NetlinkMessage I → Type 0
 IsTooLong encoding m = 2 ^ 32 ≤ 16 + length (payload_bytes encoding m.payload)
 
--- the answer where the frame of a message that is too long is read: that it is, or want of memory
--- of the reading
+-- the error for the frame of a message that is too long: `TooLong`, or `OutOfMemory` from decoding
+-- it
 abbrev pub SaysTooLong : {I E : Type 0} → Decoding I → (E → Bool) → List ℕ → DecodeError → Type 0
 SaysTooLong decoding wants_memory bytes e =
     (e ≡ TooLong) ⊎ ((e ≡ OutOfMemory) × IsRefusal decoding wants_memory bytes e)
 
--- why bytes have no canonical frame: they are refused, or they are the frame of a message that is
--- too long, or memory was refused for the canonical frame of one that fits
+-- why bytes have no canonical frame: they are rejected, or they are the frame of a message that is
+-- too long, or the allocation for the canonical frame of a message that fits failed
 abbrev pub IsNormalizeFault : {I E : Type 0} → Encoding I → Decoding I → (E → Bool) → List ℕ
     → DecodeError → Type 0
 IsNormalizeFault {I} encoding decoding wants_memory bytes e =

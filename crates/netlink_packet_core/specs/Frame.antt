@@ -11,12 +11,12 @@ use Rattle.netlink_packet_core.specs.declared.payload.NetlinkPayload.{NetlinkPay
 use Rattle.netlink_packet_core.specs.declared.payload.NetlinkPayload.TheVariants.{Done, Error, Noop, Overrun, InnerMessage}
 use Rattle.netlink_packet_core.specs.declared.message.NetlinkMessage.{NetlinkMessage}
 
--- a payload is a code in four bytes, and then the rest
+-- a payload is a 4-byte code and then the rest
 pub record IsCodeAndRest (payload : List ℕ) (code : ℤ) (rest : List ℕ) : Type 0 where
   pub whole : payload ≡ code_bytes code ++ rest
   pub in_range : IsSigned 4 code
 
--- no bytes at all stand for code 0 with no bytes
+-- an empty payload means code 0 and no bytes
 abbrev pub IsDone : List ℕ → DoneMessage → Type 0
 IsDone payload m =
     ((payload ≡ []) × (m.code ≡ pos 0) × (m.extended_ack.items ≡ []))
@@ -25,7 +25,7 @@ IsDone payload m =
 abbrev pub IsError : List ℕ → ErrorMessage → Type 0
 IsError payload m = IsCodeAndRest payload (raw_code m.code) m.header.items
 
--- a header, the bytes of a payload and the payload belong together
+-- a header, the bytes of a payload and the decoded payload belong together
 abbrev pub Body : {I : Type 0} → Decoding I → NetlinkHeader → List ℕ → NetlinkPayload I → Type 0
 Body decoding h payload Noop = h.message_type ≡ 1
 Body decoding h payload (Error m) = (h.message_type ≡ 2) × IsError payload m
@@ -47,7 +47,7 @@ abbrev pub Frame : {I : Type 0} → Decoding I → List ℕ → NetlinkMessage I
 Frame decoding bytes m =
     (payload : List ℕ) × Begins bytes m.header payload × Body decoding m.header payload m.payload
 
--- payloads say the same, an inner one to its protocol
+-- two payloads have the same content; inner ones represent the same type and encoding
 abbrev pub SamePayload : {I : Type 0} → Decoding I → NetlinkPayload I → NetlinkPayload I → Type 0
 SamePayload decoding Noop Noop = Unit {0}
 SamePayload decoding (Error m) (Error n) =

@@ -7,21 +7,21 @@ use Rattle.netlink_packet_core.specs.FrameWalk.{FrameWalk, StartsFrame}
 use Rattle.netlink_packet_core.specs.FrameWalkLaws.{frame_steps_laws}
 use Rattle.netlink_packet_core.specs.Refusal.{IsFrameFault}
 
--- the bytes are these frames one after another, and then the rest
+-- walking the bytes yields these frames, and the rest is still to be walked
 abbrev pub PassesFrames : List ℕ → List (List ℕ) → List ℕ → Type 0
 PassesFrames = Passed StartsFrame
 
--- at the start none is passed
+-- at the start none has been passed
 pub passes_frames_none : (bytes rest : List ℕ) → rest ≡ bytes → PassesFrames bytes [] rest
 passes_frames_none = passed_none StartsFrame
 
--- a turn passes one more
+-- each turn passes one more
 pub passes_frames_push : (bytes : List ℕ) (done : List (List ℕ)) (middle frame rest : List ℕ)
     → PassesFrames bytes done middle → StartsFrame middle frame rest
     → PassesFrames bytes (done ++ (frame ∷ [])) rest
 passes_frames_push = passed_push StartsFrame
 
--- the end, and a fault
+-- a loop that reached the end has the whole walk, and so does one that reached an error
 pub passes_frames_end : (bytes : List ℕ) (done : List (List ℕ)) (rest : List ℕ)
     → PassesFrames bytes done rest → rest ≡ [] → FrameWalk bytes done None
 passes_frames_end = passed_ends StartsFrame (IsFrameFault false)
@@ -32,21 +32,21 @@ pub passes_frames_fault : (bytes : List ℕ) (done : List (List ℕ)) (rest : Li
     → FrameWalk bytes done (Some fault)
 passes_frames_fault = passed_faults StartsFrame (IsFrameFault false)
 
--- what the rest walks as is what the bytes walk as behind these frames
+-- the walk of the bytes is these frames and then the walk of the rest
 pub passes_frames_walk : (bytes : List ℕ) (done : List (List ℕ)) (rest : List ℕ)
     (more : List (List ℕ)) (fault : Option DecodeError)
     → PassesFrames bytes done rest → FrameWalk rest more fault
     → FrameWalk bytes (done ++ more) fault
 passes_frames_walk = passed_walks StartsFrame (IsFrameFault false)
 
--- and these frames are the front of any walk of the bytes
+-- and these frames come first in any walk of the bytes
 pub passes_frames_rest : (bytes : List ℕ) (done : List (List ℕ)) (rest : List ℕ)
     (all : List (List ℕ)) (fault : Option DecodeError)
     → PassesFrames bytes done rest → FrameWalk bytes all fault
     → (more : List (List ℕ)) × (all ≡ done ++ more) × FrameWalk rest more fault
 passes_frames_rest = passed_rest frame_steps_laws
 
--- a frame that the rest starts with is next in it
+-- a frame that the rest starts with comes next in the walk of the bytes
 pub passes_frames_next : (bytes : List ℕ) (done : List (List ℕ)) (middle frame rest : List ℕ)
     (all : List (List ℕ)) (fault : Option DecodeError)
     → PassesFrames bytes done middle → StartsFrame middle frame rest → FrameWalk bytes all fault

@@ -1,4 +1,4 @@
--- What bytes that start with a frame say of it.
+-- Facts about bytes that start with a frame.
 use Rattle.std.proofs.Common.{◌≡◌, ℕ, ◌+◌, ◌-◌, ◌%◌, ◌<◌, ◌≤◌, ◌⊎◌, min, List, [], ◌++◌, length, take, drop, refl, ap, sym, ◌∙◌, inl, inr, arith, append_assoc, length-append, length-drop}
 use Rattle.std.proofs.lemmas.List.{take-append-drop, take-append-le, length-take, length-take-le, take_at, drop_at, drop_all, drop-drop}
 use Rattle.std.proofs.lemmas.Bool.{cases_lt}
@@ -11,12 +11,12 @@ use Rattle.netlink_packet_core.specs.Header.{field, HoldsFrame}
 use Rattle.netlink_packet_core.specs.Refusal.{IsFrameFault}
 use Rattle.netlink_packet_core.specs.FrameWalk.{StartsFrame, frame_of}
 
--- the length field stands within the frame
+-- the length field is within the frame
 field-append : (frame rest : List ℕ) → 4 ≤ length frame
     → field 0 4 (frame ++ rest) ≡ field 0 4 frame
 field-append frame rest long = ap number_le (take-append-le 4 frame rest long)
 
--- the bytes say the size of the frame
+-- the length field of the bytes is the size of the frame
 pub starts_frame-field : (bytes frame rest : List ℕ) → StartsFrame bytes frame rest
     → field 0 4 bytes ≡ length frame
 starts_frame-field bytes frame rest starts =
@@ -38,7 +38,7 @@ starts_frame-length bytes frame rest starts =
     let behind = length-append starts.gap rest in
     ap length starts.whole ∙ omega arith
 
--- the rest stands behind the frame and the whole of its padding
+-- the rest follows the frame and all of its padding
 pub starts_frame-rest : (bytes frame rest : List ℕ) → StartsFrame bytes frame rest
     → rest ≡ drop (length frame + padding (length frame)) bytes
 starts_frame-rest bytes frame rest starts =
@@ -56,7 +56,7 @@ pub no_frame_starts : (bytes frame rest : List ℕ) → bytes ≡ [] → StartsF
 no_frame_starts bytes frame rest none starts =
     omega (arith, starts.least, starts_frame-length bytes frame rest starts, ap length none)
 
--- bytes that start with a frame have no fault
+-- bytes that start with a frame have no error
 pub starts_frame-fault : (bytes frame rest : List ℕ) (fault : DecodeError)
     → StartsFrame bytes frame rest → IsFrameFault false bytes fault → ⊥
 starts_frame-fault bytes frame rest (FrameShort size inside) starts is =
@@ -73,7 +73,7 @@ starts_frame-fault bytes frame rest (FrameLength said inside) starts is =
     omega (arith, is.1, starts.least, starts_frame-field bytes frame rest starts)
 starts_frame-fault bytes frame rest _ starts is = is
 
--- and bytes have one fault at most
+-- and bytes have at most one error
 pub frame_fault_once : (bytes : List ℕ) (f g : DecodeError) → IsFrameFault false bytes f
     → IsFrameFault false bytes g → f ≡ g
 frame_fault_once bytes (FrameShort m i) (FrameShort n j) p q = cc
@@ -90,9 +90,9 @@ frame_fault_once bytes (FrameCut m l i) _ p q = absurd q
 frame_fault_once bytes (FrameLength m i) _ p q = absurd q
 frame_fault_once bytes _ g p q = absurd p
 
--- ---- of bytes that hold a frame
+-- ---- bytes that hold a frame
 
--- a list is a part, a gap up to a later place, and the rest
+-- a list is a part, a gap up to a later offset, and the rest
 part_and_rest : (start end : ℕ) (bytes : List ℕ) → start ≤ end
     → bytes ≡ take start bytes ++ (take (end - start) (drop start bytes) ++ drop end bytes)
 part_and_rest start end bytes order =
@@ -104,7 +104,7 @@ part_and_rest start end bytes order =
     ∙ ap (λ (rest : List ℕ). take (end - start) (drop start bytes) ++ rest) last in
     sym (take-append-drop start bytes) ∙ ap (λ (rest : List ℕ). take start bytes ++ rest) behind
 
--- the gap before the next multiple of 4, or to the end of the bytes
+-- the gap up to the next multiple of 4, or up to the end of the bytes
 gap_sizes : (field end size : ℕ) → field ≤ size → field ≤ end → end < field + 4 → end % 4 ≡ 0
     → (min (end - field) (size - field) ≡ padding field)
     ⊎ ((min (end - field) (size - field) < padding field) × (size ≤ end))
@@ -116,7 +116,7 @@ pub length-frame_of : (bytes : List ℕ) → HoldsFrame bytes
     → length (frame_of bytes) ≡ field 0 4 bytes
 length-frame_of bytes holds = length-take-le (field 0 4 bytes) bytes holds.most
 
--- the frame says its own size
+-- the length field of the frame is its size
 pub field-frame_of : (bytes : List ℕ) → HoldsFrame bytes
     → field 0 4 (frame_of bytes) ≡ length (frame_of bytes)
 field-frame_of bytes holds =
@@ -126,7 +126,7 @@ field-frame_of bytes holds =
     ∙ ap (field 0 4) (take-append-drop (field 0 4 bytes) bytes)
     ∙ sym size
 
--- bytes that hold a frame start with it, and the rest stands at the next multiple of 4
+-- bytes that hold a frame start with it, and the rest begins at the next multiple of 4
 pub starts_frame_held : (bytes : List ℕ) (end : ℕ) → HoldsFrame bytes → field 0 4 bytes ≤ end
     → end < field 0 4 bytes + 4 → end % 4 ≡ 0
     → StartsFrame bytes (frame_of bytes) (drop end bytes)
@@ -148,7 +148,7 @@ starts_frame_held bytes end holds low high multiple =
       ];
     }
 
--- a frame that bytes start with holds itself whole
+-- a frame that bytes start with is complete
 pub starts_frame-holds : (bytes frame rest : List ℕ) → StartsFrame bytes frame rest
     → HoldsFrame frame
 starts_frame-holds bytes frame rest starts =

@@ -1,4 +1,4 @@
--- Every byte list is frames in one way, and what is written of frames walks as them.
+-- Every byte list is frames in exactly one way, and walking encoded frames yields them.
 use Rattle.std.proofs.Common.{◌≡◌, ◌≢◌, ◌↔◌, ℕ, zero, suc, ◌+◌, ◌-◌, ◌*◌, ◌/◌, ◌%◌, ◌<◌, ◌^◌, List, [], ◌∷◌, ◌++◌, length, drop, refl, ap, sym, subst, ◌∙◌, inl, inr, arith, Option, None, All, append_assoc, append-nil, length-append, length-drop}
 use Rattle.std.proofs.lemmas.Bool.{cases_lt}
 use Rattle.std.proofs.lemmas.List.{length-replicate}
@@ -20,9 +20,9 @@ use Rattle.netlink_packet_core.specs.Sizes.{length-header_and}
 use Rattle.netlink_packet_core.specs.declared.header.NetlinkHeader.{NetlinkHeader}
 use Rattle.netlink_packet_core.specs.declared.message.NetlinkMessage.{NetlinkMessage}
 
--- ---- one walk
+-- ---- at most one walk
 
--- bytes start with one frame and one rest
+-- bytes start with at most one frame and one rest
 pub starts_frame_once : (bytes frame other : List ℕ) (rest behind : List ℕ)
     → StartsFrame bytes frame rest → StartsFrame bytes other behind
     → (frame ≡ other) × (rest ≡ behind)
@@ -36,7 +36,7 @@ starts_frame_once bytes frame other rest behind starts begins =
           ∙ sym (starts_frame-rest bytes other behind begins),
     )
 
--- what a walk takes of its steps
+-- what a walk requires of its steps
 pub frame_steps_laws : StepLaws StartsFrame (IsFrameFault false)
 frame_steps_laws = record {
   once = starts_frame_once;
@@ -49,7 +49,7 @@ pub frames_once : (bytes : List ℕ) (x y : List (List ℕ)) (f g : Option Decod
     → FrameWalk bytes x f → FrameWalk bytes y g → (x ≡ y) × (f ≡ g)
 frames_once = walks_once frame_steps_laws
 
--- ---- each byte list has one
+-- ---- every byte list has a walk
 
 abbrev Anything : List ℕ → Type 0
 Anything bytes = Unit {0}
@@ -85,20 +85,20 @@ pub has_frames : (bytes : List ℕ)
     → (all : List (List ℕ)) × (fault : Option DecodeError) × FrameWalk bytes all fault
 has_frames bytes = has_one StartsFrame (IsFrameFault false) Anything next_frame bytes tt
 
--- ---- each frame of it
+-- ---- each frame of a walk
 
 pub starts_frame-whole : (bytes frame rest : List ℕ) → StartsFrame bytes frame rest
     → IsWholeFrame frame
 starts_frame-whole bytes frame rest starts = record { size = starts.size; least = starts.least }
 
--- a whole frame holds itself whole
+-- bytes that are one frame and nothing else hold a complete frame
 pub whole_holds : (frame : List ℕ) → IsWholeFrame frame → HoldsFrame frame
 whole_holds frame is =
     let size = is.size in
     let least = is.least in
     record { header = least; least = omega arith; most = omega arith }
 
--- the frames of a walk are whole
+-- each frame of a walk is one frame and nothing else
 pub each_whole : (bytes : List ℕ) (all : List (List ℕ)) (fault : Option DecodeError)
     → FrameWalk bytes all fault → All IsWholeFrame all
 each_whole bytes [] fault walk k d inside = absurd (omega arith)
@@ -117,7 +117,7 @@ each_holds bytes (f ∷ more) fault (rest, starts, walk) (suc k) d inside =
 
 -- ---- what is written
 
--- a canonical frame is a whole one
+-- a canonical frame is one frame and nothing else
 pub canonical_whole : {I : Type 0} (decoding : Decoding I) (bytes : List ℕ)
     → IsCanonicalFrame decoding bytes → IsWholeFrame bytes
 canonical_whole decoding bytes canonical =
@@ -128,7 +128,7 @@ length-said : (h : NetlinkHeader) (more : List ℕ) → h.length < 2 ^ 32
 unfolding bytes_le
 length-said h more fits = number_le-bytes_le h.length 4 fits
 
--- and so is what is written of a message that fits
+-- and so is the encoding of a message that fits
 pub message_whole : {I : Type 0} (encoding : Encoding I) (m : NetlinkMessage I) → Fits encoding m
     → IsWholeFrame (canonical_frame encoding m)
 message_whole encoding m fits =
@@ -137,7 +137,7 @@ message_whole encoding m fits =
     let size : length (canonical_frame encoding m) ≡ 16 + length text = length-header_and h text in
     record { size = length-said h text fits.size ∙ sym size; least = omega (arith, size) }
 
--- bytes that are a frame with its padding and the rest start with it
+-- bytes that are a padded frame and then a rest start with the frame
 pub starts_padded_frame : (frame rest : List ℕ) → IsWholeFrame frame
     → StartsFrame (padded_frame frame ++ rest) frame rest
 starts_padded_frame frame rest is = record {
@@ -148,7 +148,7 @@ starts_padded_frame frame rest is = record {
   gap_size = inl (length-replicate (padding (length frame)) 0);
 }
 
--- what is written of frames walks as them
+-- walking encoded frames yields them
 pub written_frames_walk : (all : List (List ℕ)) → All IsWholeFrame all
     → FrameWalk (datagram_of all) all None
 written_frames_walk [] each = refl
@@ -158,14 +158,14 @@ written_frames_walk (frame ∷ more) each = (
   written_frames_walk more (λ k d inside. each (suc k) d (omega arith)),
 )
 
--- and as nothing else
+-- and nothing else
 pub written_frames_once : (all found : List (List ℕ)) (fault : Option DecodeError)
     → All IsWholeFrame all → FrameWalk (datagram_of all) found fault
     → (found ≡ all) × (fault ≡ None)
 written_frames_once all found fault each walk =
     frames_once (datagram_of all) found all fault None walk (written_frames_walk all each)
 
--- datagrams are written alike exactly of the same frames
+-- two lists of frames have the same encoding if and only if they are the same
 pub written_frames_alike : (x y : List (List ℕ)) → All IsWholeFrame x → All IsWholeFrame y
     → (datagram_of x ≡ datagram_of y) ↔ (x ≡ y)
 written_frames_alike x y each other = (
@@ -174,7 +174,7 @@ written_frames_alike x y each other = (
   λ same. ap datagram_of same,
 )
 
--- one more is written behind the others
+-- one more frame is written after the others
 pub datagram_push : (done : List (List ℕ)) (frame : List ℕ)
     → datagram_of (done ++ (frame ∷ [])) ≡ datagram_of done ++ padded_frame frame
 datagram_push [] frame = append-nil (padded_frame frame)
@@ -189,9 +189,9 @@ one_frame frame is =
     subst (λ (b : List ℕ). FrameWalk b (frame ∷ []) None) (append-nil (padded_frame frame))
     ([], starts_padded_frame frame [] is, refl)
 
--- ---- one datagram behind another
+-- ---- concatenated datagrams
 
--- the size is a multiple of 4, so that no padding is missing
+-- the size is a multiple of 4, so no padding is missing
 abbrev pub IsAligned : List ℕ → Type 0
 IsAligned bytes = length bytes % 4 ≡ 0
 
@@ -217,21 +217,21 @@ aligned_join bytes frame rest after aligned starts =
       sizes.1,
     )
 
--- behind such a datagram any bytes walk as they do alone
+-- bytes after such a datagram are walked as they are alone
 pub frames_join : (bytes : List ℕ) (all : List (List ℕ)) (after : List ℕ) (more : List (List ℕ))
     (fault : Option DecodeError)
     → IsAligned bytes → FrameWalk bytes all None → FrameWalk after more fault
     → FrameWalk (bytes ++ after) (all ++ more) fault
 frames_join = walks_join StartsFrame (IsFrameFault false) IsAligned aligned_join
 
--- a frame more
+-- one more frame
 pub frame_pushed : (bytes : List ℕ) (all : List (List ℕ)) (frame : List ℕ) → IsAligned bytes
     → IsWholeFrame frame → FrameWalk bytes all None
     → FrameWalk (bytes ++ padded_frame frame) (all ++ (frame ∷ [])) None
 frame_pushed bytes all frame aligned is walk =
     frames_join bytes all (padded_frame frame) (frame ∷ []) None aligned walk (one_frame frame is)
 
--- a frame with its padding is a multiple of 4
+-- the size of a padded frame is a multiple of 4
 pub padded_aligned : (frame : List ℕ) → IsAligned (padded_frame frame)
 padded_aligned frame =
     let missing : ℕ = padding (length frame) in
@@ -241,7 +241,7 @@ padded_aligned frame =
     length-append frame zeros in
     omega (arith, size, whole)
 
--- and so is what is written of frames
+-- and so is that of encoded frames
 pub datagram_aligned : (all : List (List ℕ)) → IsAligned (datagram_of all)
 datagram_aligned [] = refl
 datagram_aligned (frame ∷ more) =

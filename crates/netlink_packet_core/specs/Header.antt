@@ -1,15 +1,15 @@
--- The header of a message: its text, and what bytes say of it.
+-- The header of a message: its encoding, and its fields in bytes.
 use Rattle.std.specs.Prelude.{◌≡◌, ℕ, ◌+◌, ◌<◌, ◌≤◌, ◌^◌, List, ◌++◌, length, slice_range}
 use Rattle.netlink_bytes.specs.Numbers.{number_le, bytes_le}
 use Rattle.netlink_packet_core.specs.declared.header.NetlinkHeader.{NetlinkHeader}
 
--- the five fields in their order, 16 bytes
+-- the five fields in order, 16 bytes
 abbrev pub header_bytes : NetlinkHeader → List ℕ
 header_bytes h =
     bytes_le h.length 4 ++ (bytes_le h.message_type 2
     ++ (bytes_le h.flags 2 ++ (bytes_le h.sequence_number 4 ++ bytes_le h.port_number 4)))
 
--- each field is a number of its width
+-- each field is within its width
 pub record HeaderInRange (h : NetlinkHeader) : Type 0 where
   pub length : h.length < 2 ^ 32
   pub message_type : h.message_type < 2 ^ 16
@@ -28,11 +28,11 @@ abbrev pub default_header : NetlinkHeader
 default_header =
     record { length = 0; message_type = 0; flags = 0; sequence_number = 0; port_number = 0 }
 
--- the number of w bytes at a place
+-- the integer in the w bytes at an offset
 abbrev pub field : ℕ → ℕ → List ℕ → ℕ
 field at w bytes = number_le (slice_range bytes at (at + w))
 
--- what the first 16 bytes say
+-- the header in the first 16 bytes
 abbrev pub header_of : List ℕ → NetlinkHeader
 header_of bytes = record {
   length = field 0 4 bytes;
@@ -42,11 +42,11 @@ header_of bytes = record {
   port_number = field 12 4 bytes;
 }
 
--- the bytes from 16 up to the length
+-- the payload: the bytes from offset 16 up to the length
 abbrev pub payload_of : List ℕ → List ℕ
 payload_of bytes = slice_range bytes 16 (field 0 4 bytes)
 
--- the bytes hold a whole frame
+-- the bytes hold a complete frame
 pub record HoldsFrame (bytes : List ℕ) : Type 0 where
   pub header : 16 ≤ length bytes
   pub least : 16 ≤ field 0 4 bytes

@@ -13,7 +13,8 @@ pub mod Protocol
 pub mod Reading
 pub mod Refusal
 pub mod Sizes
--- the words of the crates below, for those who use this one alone
+pub mod Uniqueness
+-- the definitions of the crates below, for users of this crate alone
 pub use Rattle.netlink_attributes.specs.Attribute
 pub use Rattle.netlink_attributes.specs.Block
 pub use Rattle.netlink_attributes.specs.BlockLaws

@@ -1,5 +1,5 @@
--- What holds of numbers and their bytes, passed on. A file of its own here, since an attribute
--- names words by a file.
+-- Facts about integers and their encodings, re-exported. They have a file of their own, because an
+-- attribute names definitions by file.
 pub use Rattle.netlink_bytes.specs.NumberLaws.{length-bytes_le, number_le-bytes_le, number_le-fits}
 pub use Rattle.netlink_bytes.specs.NumberLaws.{bytes_le-number_le, signed-unsigned, unsigned-fits}
 pub use Rattle.netlink_bytes.specs.NumberLaws.{unsigned-signed, signed-fits, length-bytes_be}

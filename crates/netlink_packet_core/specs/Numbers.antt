@@ -1,5 +1,5 @@
--- Numbers and their bytes, passed on. A file of its own here, since an attribute names words by a
--- file.
+-- Integers and their encodings, re-exported. They have a file of their own, because an attribute
+-- names definitions by file.
 pub use Rattle.netlink_bytes.specs.Numbers.{IsBytes, IsSigned, Reads, Writes}
 unfoldable pub use Rattle.netlink_bytes.specs.Numbers.{number_be, number_le, signed, bytes_be}
 unfoldable pub use Rattle.netlink_bytes.specs.Numbers.{bytes_le, unsigned}

@@ -14,19 +14,20 @@ use crate::constants::{
 use crate::header::NetlinkHeader;
 use netlink_bytes::{DecodeError, Storage, StorageMut, put_u16, put_u32, u16_at, u32_at};
 
-/// The bytes of a message (`struct nlmsghdr` of linux/netlink.h, and what follows it), looked at in
+/// The bytes of a message (`struct nlmsghdr` of linux/netlink.h, and what follows it), read in
 /// place.
 ///
-/// All numbers are in native order, the lowest byte first. Sizes and lengths are in bytes. No call
-/// asks for memory.
+/// All numbers are in native byte order (little-endian). Sizes and lengths are in bytes. No method
+/// allocates.
 #[derive(Clone, Copy, Debug, PartialEq, Eq, Drop)]
 pub struct NetlinkBuffer<T: Storage> {
-    /// What holds the bytes.
+    /// The storage of the bytes.
     pub buffer: T,
 }
 
 impl<T: Storage> NetlinkBuffer<T> {
-    /// A view of any bytes. Nothing is checked: each other call says what the bytes have to hold.
+    /// Returns a view over any bytes, without checking them. Each other method states what the
+    /// bytes must hold.
     #[inline]
     pub fn new(buffer: T) -> Self
         ensures keeps { result.buffer ≡ buffer }
@@ -34,20 +35,21 @@ impl<T: Storage> NetlinkBuffer<T> {
         NetlinkBuffer { buffer }
     }
 
-    /// A view of bytes that hold a whole frame. Fewer than 16 bytes are refused with `FrameShort`,
-    /// a length field above their number with `FrameCut`, and one below 16 with `FrameLength`; the
-    /// storage is then given up.
+    /// Returns a view over bytes that hold a complete frame. Returns `FrameShort` if there are
+    /// fewer than 16 bytes, `FrameCut` if the length field is larger than their number, and
+    /// `FrameLength` if it is less than 16, all with `inside` set to false; the storage is then
+    /// dropped.
     pub fn new_checked(buffer: T) -> Result<Self, DecodeError>
         ensures keeps { IfOk result (λ view. view.buffer ≡ buffer) }
         ensures whole { OnOk result (HoldsFrame (T.contents buffer)) }
         ensures refuses { IfErr result (IsFrameFault false (T.contents buffer)) }
     {
-        check_frame(buffer.bytes(), false)?;
+        let _header = checked_header(buffer.bytes(), false)?;
         Ok(NetlinkBuffer { buffer })
     }
 
-    /// The length field: the size of the message in bytes, its header included. The storage has to
-    /// hold 4 bytes at least.
+    /// Returns the length field: the size of the message in bytes, including its header. Requires
+    /// at least 4 bytes of storage.
     #[inline]
     pub fn length(&self) -> u32
         requires field { 4 ≤ length (T.contents self.now.buffer) }
@@ -56,7 +58,7 @@ impl<T: Storage> NetlinkBuffer<T> {
         u32_at(self.buffer.bytes(), LENGTH)
     }
 
-    /// The message type. The storage has to hold 6 bytes at least.
+    /// Returns the message type. Requires at least 6 bytes of storage.
     #[inline]
     pub fn message_type(&self) -> u16
         requires field { 6 ≤ length (T.contents self.now.buffer) }
@@ -65,7 +67,7 @@ impl<T: Storage> NetlinkBuffer<T> {
         u16_at(self.buffer.bytes(), MESSAGE_TYPE)
     }
 
-    /// The flags. The storage has to hold 8 bytes at least.
+    /// Returns the flags. Requires at least 8 bytes of storage.
     #[inline]
     pub fn flags(&self) -> u16
         requires field { 8 ≤ length (T.contents self.now.buffer) }
@@ -74,7 +76,7 @@ impl<T: Storage> NetlinkBuffer<T> {
         u16_at(self.buffer.bytes(), FLAGS)
     }
 
-    /// The sequence number. The storage has to hold 12 bytes at least.
+    /// Returns the sequence number. Requires at least 12 bytes of storage.
     #[inline]
     pub fn sequence_number(&self) -> u32
         requires field { 12 ≤ length (T.contents self.now.buffer) }
@@ -83,7 +85,7 @@ impl<T: Storage> NetlinkBuffer<T> {
         u32_at(self.buffer.bytes(), SEQUENCE_NUMBER)
     }
 
-    /// The port number. The storage has to hold 16 bytes at least.
+    /// Returns the port number. Requires at least 16 bytes of storage.
     #[inline]
     pub fn port_number(&self) -> u32
         requires field { 16 ≤ length (T.contents self.now.buffer) }
@@ -92,8 +94,8 @@ impl<T: Storage> NetlinkBuffer<T> {
         u32_at(self.buffer.bytes(), PORT_NUMBER)
     }
 
-    /// The size of the payload in bytes, by the length field, also where that exceeds the storage.
-    /// The storage has to hold 4 bytes at least, and the length field has to be 16 at least.
+    /// Returns the size of the payload in bytes according to the length field, even if it exceeds
+    /// the storage. Requires at least 4 bytes of storage, and a length field of at least 16.
     #[inline]
     pub fn payload_length(&self) -> usize
         requires field { 4 ≤ length (T.contents self.now.buffer) }
@@ -103,7 +105,8 @@ impl<T: Storage> NetlinkBuffer<T> {
         self.length() as usize - NETLINK_HEADER_LEN
     }
 
-    /// A view of the same bytes, lent: what a slice is read by, of any storage.
+    /// Returns a view that borrows the same bytes as a slice, so that the methods for slices work
+    /// with any storage.
     #[inline]
     pub fn borrowed(&self) -> NetlinkBuffer<&[u8]>
         ensures bytes { result.buffer.now ≡ T.contents self.now.buffer }
@@ -111,7 +114,7 @@ impl<T: Storage> NetlinkBuffer<T> {
         NetlinkBuffer::new(self.buffer.bytes())
     }
 
-    /// What holds the bytes.
+    /// Returns the storage of the bytes.
     #[inline]
     pub fn into_inner(self) -> T
         ensures keeps { result ≡ self.buffer }
@@ -121,7 +124,8 @@ impl<T: Storage> NetlinkBuffer<T> {
 }
 
 impl<T: StorageMut> NetlinkBuffer<T> {
-    /// Sets the length field, and changes nothing else. The storage has to hold 4 bytes at least.
+    /// Sets the length field and leaves all other bytes unchanged. Requires at least 4 bytes of
+    /// storage.
     #[inline]
     pub fn set_length(&mut self, value: u32)
         requires field { 4 ≤ length (T.contents self.old.buffer) }
@@ -133,7 +137,8 @@ impl<T: StorageMut> NetlinkBuffer<T> {
         put_u32(self.buffer.bytes_mut(), LENGTH, value);
     }
 
-    /// Sets the message type, and changes nothing else. The storage has to hold 6 bytes at least.
+    /// Sets the message type and leaves all other bytes unchanged. Requires at least 6 bytes of
+    /// storage.
     #[inline]
     pub fn set_message_type(&mut self, value: u16)
         requires field { 6 ≤ length (T.contents self.old.buffer) }
@@ -145,7 +150,7 @@ impl<T: StorageMut> NetlinkBuffer<T> {
         put_u16(self.buffer.bytes_mut(), MESSAGE_TYPE, value);
     }
 
-    /// Sets the flags, and changes nothing else. The storage has to hold 8 bytes at least.
+    /// Sets the flags and leaves all other bytes unchanged. Requires at least 8 bytes of storage.
     #[inline]
     pub fn set_flags(&mut self, value: u16)
         requires field { 8 ≤ length (T.contents self.old.buffer) }
@@ -157,8 +162,8 @@ impl<T: StorageMut> NetlinkBuffer<T> {
         put_u16(self.buffer.bytes_mut(), FLAGS, value);
     }
 
-    /// Sets the sequence number, and changes nothing else. The storage has to hold 12 bytes at
-    /// least.
+    /// Sets the sequence number and leaves all other bytes unchanged. Requires at least 12 bytes of
+    /// storage.
     #[inline]
     pub fn set_sequence_number(&mut self, value: u32)
         requires field { 12 ≤ length (T.contents self.old.buffer) }
@@ -170,7 +175,8 @@ impl<T: StorageMut> NetlinkBuffer<T> {
         put_u32(self.buffer.bytes_mut(), SEQUENCE_NUMBER, value);
     }
 
-    /// Sets the port number, and changes nothing else. The storage has to hold 16 bytes at least.
+    /// Sets the port number and leaves all other bytes unchanged. Requires at least 16 bytes of
+    /// storage.
     #[inline]
     pub fn set_port_number(&mut self, value: u32)
         requires field { 16 ≤ length (T.contents self.old.buffer) }
@@ -182,8 +188,9 @@ impl<T: StorageMut> NetlinkBuffer<T> {
         put_u32(self.buffer.bytes_mut(), PORT_NUMBER, value);
     }
 
-    /// The payload, lent for writing: the bytes from 16 up to the length become what is written,
-    /// and no others. The storage has to hold a whole frame, as `new_checked` tests.
+    /// Mutably borrows the payload: the bytes from offset 16 up to the length become what is
+    /// written, and no other bytes change. Requires that the storage holds a complete frame, which
+    /// `new_checked` checks.
     pub fn payload_mut(&mut self) -> &mut [u8]
         requires whole { HoldsFrame (T.contents self.old.buffer) }
         ensures* writes_back { sem 𝓛 (Lends (the_row T.row) (Array byte 0) self.entry result
@@ -199,9 +206,9 @@ impl<T: StorageMut> NetlinkBuffer<T> {
 }
 
 impl<'a> NetlinkBuffer<&'a [u8]> {
-    /// The payload: the bytes from 16 up to the length. What follows the length is not looked at.
-    /// The bytes have to hold a whole frame, as `new_checked` tests. Of another storage than a
-    /// slice, `borrowed` gives the view that this is called on.
+    /// Returns the payload: the bytes from offset 16 up to the length. Ignores what follows.
+    /// Requires that the bytes hold a complete frame, which `new_checked` checks. If the storage is
+    /// not a slice, call this on the view that `borrowed` returns.
     #[inline]
     pub fn payload(&self) -> &'a [u8]
         requires whole { HoldsFrame self.now.buffer.now }
@@ -212,7 +219,7 @@ impl<'a> NetlinkBuffer<&'a [u8]> {
     }
 }
 
-/// The five fields in front of the bytes.
+/// Returns the header at the start of the bytes. Requires at least 16 bytes.
 pub(crate) fn read_header(bytes: &[u8]) -> NetlinkHeader
     requires { 16 ≤ length bytes.now }
     ensures is { IsHeader bytes.now result }
@@ -228,16 +235,21 @@ pub(crate) fn read_header(bytes: &[u8]) -> NetlinkHeader
     }
 }
 
-/// The fault of a frame, if it has one.
-pub(crate) fn check_frame(bytes: &[u8], inside: bool) -> Result<(), DecodeError>
+/// Reads the header of the frame that the bytes begin with. Returns `FrameShort`, `FrameCut` or
+/// `FrameLength`, with this `inside`, if they do not hold a complete frame. Inlined, so that a
+/// caller who ignores the header does not read its other fields.
+#[inline(always)]
+pub(crate) fn checked_header(bytes: &[u8], inside: bool) -> Result<NetlinkHeader, DecodeError>
     ensures whole { OnOk result (HoldsFrame bytes.now) }
+    ensures header { IfOk result (λ header. header ≡ header_of bytes.now) }
     ensures refuses { IfErr result (IsFrameFault inside bytes.now) }
 {
     let size = bytes.len();
     if size < NETLINK_HEADER_LEN {
         return Err(DecodeError::FrameShort { size, inside });
     }
-    let length = u32_at(bytes, LENGTH);
+    let header = read_header(bytes);
+    let length = header.length;
     if length as usize > size {
         return Err(DecodeError::FrameCut {
             length,
@@ -248,5 +260,5 @@ pub(crate) fn check_frame(bytes: &[u8], inside: bool) -> Result<(), DecodeError>
     if (length as usize) < NETLINK_HEADER_LEN {
         return Err(DecodeError::FrameLength { length, inside });
     }
-    Ok(())
+    Ok(header)
 }

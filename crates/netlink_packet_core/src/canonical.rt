@@ -1,4 +1,4 @@
-//! The canonical frame of what bytes say.
+//! The canonical frame of a message that is decoded from bytes.
 
 ghost use Rattle.std.specs.Prelude.{◌≡◌, ◌⊎◌, ◌↔◌, Some, IfErr, IfOk, IsErrAnd, IsOk, IsTrue, MatchResult, OnErr};
 ghost use Rattle.netlink_packet_core.specs.Canonical.{Fits, IsCanonicalFrame, IsNormalizeFault, IsTooLong, SaysTooLong, canonical_frame};
@@ -18,31 +18,30 @@ use crate::traits::NetlinkProtocol;
 use netlink_bytes::DecodeError;
 use std::alloc::Global;
 
-/// Reads the message whose frame the bytes begin with, and writes its one canonical frame.
+/// Decodes the message whose frame is at the start of `bytes`, and returns its one canonical frame.
 ///
-/// Refuses what `NetlinkMessage::deserialize` refuses, with the same cause; a message whose length
-/// does not fit 32 bits with `TooLong`; and answers `OutOfMemory` where memory was refused for the
-/// frame.
+/// Returns the errors of `NetlinkMessage::deserialize`. Returns `TooLong` if the message's length
+/// does not fit in 32 bits, and `OutOfMemory` if the allocation for the frame fails.
 pub fn normalize<I: NetlinkProtocol>(alloc: Global, bytes: &[u8]) -> Result<Vec<u8>, DecodeError>
-    // The answer is the canonical frame of the message that the bytes are the frame of.
+    // The result is the canonical frame of a message whose frame is at the start of the bytes.
     ensures accepts { IfOk result
         (λ v. (m : NetlinkMessage I) × Frame I.decoding bytes.now m × Fits I.encoding m
         × (v.items ≡ canonical_frame I.encoding m)) }
     ensures writes { (m : NetlinkMessage I) → Frame I.decoding bytes.now m → Fits I.encoding m
         → MatchResult result (λ v. v.items ≡ canonical_frame I.encoding m)
         (λ e. e ≡ DecodeError.OutOfMemory) }
-    // `TooLong` is the answer exactly where the message does not fit; `OutOfMemory` there is the
-    // reading's alone.
+    // `TooLong` is returned if and only if the message does not fit, except that decoding such a
+    // message may return `OutOfMemory` instead.
     ensures too_long { (m : NetlinkMessage I) → Frame I.decoding bytes.now m
         → IsTooLong I.encoding m
         → IsErrAnd result (SaysTooLong I.decoding I.wants_memory bytes.now) }
     ensures refuses { IfErr result
         (IsNormalizeFault I.encoding I.decoding I.wants_memory bytes.now) }
-    // Only the answer itself is the canonical frame of a message that the answer is the frame of.
+    // The result is the canonical frame of every message that it is the frame of.
     ensures again { IfOk result
         (λ v. (n : NetlinkMessage I) → Frame I.decoding v.items n
         → canonical_frame I.encoding n ≡ v.items) }
-    // The answer is the input exactly if the input is canonical.
+    // The result is the input if and only if the input is canonical.
     ensures fixed { IsCanonicalFrame I.decoding bytes.now
         → MatchResult result (λ v. v.items ≡ bytes.now) (λ e. e ≡ DecodeError.OutOfMemory) }
     ensures only_fixed { IfOk result
@@ -52,19 +51,20 @@ pub fn normalize<I: NetlinkProtocol>(alloc: Global, bytes: &[u8]) -> Result<Vec<
     message.into_frame(alloc)
 }
 
-/// Whether the bytes are a canonical frame: what `normalize` leaves as it is. Writes no frame.
+/// Returns whether the bytes are a canonical frame, which `normalize` returns unchanged. Writes no
+/// frame.
 ///
-/// What `NetlinkMessage::deserialize` refuses for another cause than want of memory is not
-/// canonical. The only error is `OutOfMemory`, and it comes only where the type is the protocol's
-/// own: memory is asked for the protocol's reading, and by `is_written_as` for a value's text of
-/// the payload's size.
+/// Bytes that `NetlinkMessage::deserialize` rejects with an error other than `OutOfMemory` are not
+/// canonical. Returns `OutOfMemory`, and no other error, if an allocation fails. It allocates only
+/// if the message type is one of the protocol's own: for the protocol's decoding, and in
+/// `is_written_as` for an encoding of the payload's size.
 pub fn is_canonical_frame<I: NetlinkProtocol>(
     alloc: Global,
     bytes: &[u8],
 ) -> Result<bool, DecodeError>
     ensures says { IfOk result (λ yes. IsTrue yes ↔ IsCanonicalFrame I.decoding bytes.now) }
     ensures memory { IfErr result (λ e. e ≡ DecodeError.OutOfMemory) }
-    // Only a payload of the protocol's own type may ask for memory.
+    // Only a payload of one of the protocol's own types may allocate.
     ensures own_type { OnErr result (HoldsFrame bytes.now × IsOwnType (field 4 2 bytes.now)) }
     ensures no_memory { AsksNoMemory bytes.now → IsOk result }
 {
@@ -84,8 +84,8 @@ pub fn is_canonical_frame<I: NetlinkProtocol>(
     }
 }
 
-/// Whether the protocol reads the payload as a value of the header's type whose text is the
-/// payload.
+/// Returns whether the protocol decodes the payload to a value that has the header's type and is
+/// encoded as the payload. Returns `OutOfMemory`, and no other error, if an allocation fails.
 fn reads_as_itself<I: NetlinkProtocol>(
     alloc: Global,
     header: &NetlinkHeader,

@@ -1,7 +1,7 @@
 //! The end of a multipart message.
 //!
-//! `error` has the same calls. One body for both would save no line: each call's contract speaks of
-//! its own view and cause.
+//! `error` has the same functions. A common body would save no line, because each contract names
+//! its own view and error.
 
 ghost use Rattle.std.specs.Prelude.{◌≡◌, ◌<◌, ◌≤◌, [], pos, length, drop, OnOk, OnErr, IfOk, IfErr, IsTrue, false};
 ghost use Rattle.std.specs.Borrow.{Lends, Array, sem, u8 as byte};
@@ -18,16 +18,17 @@ use netlink_bytes::{
 };
 use std::alloc::Global;
 
-/// The body of a message of type `NLMSG_DONE`, looked at in place: a code in 4 bytes, in native
-/// order, and what stands behind it. No call asks for memory.
+/// The body of a message of type `NLMSG_DONE`, read in place: a 4-byte code in native byte order,
+/// and what follows it. No method allocates.
 #[derive(Clone, Copy, Debug, PartialEq, Eq, Drop)]
 pub struct DoneBuffer<T: Storage> {
-    /// What holds the bytes.
+    /// The storage of the bytes.
     pub buffer: T,
 }
 
 impl<T: Storage> DoneBuffer<T> {
-    /// A view of any bytes. Nothing is checked: each other call says what the bytes have to hold.
+    /// Returns a view over any bytes, without checking them. Each other method states what the
+    /// bytes must hold.
     #[inline]
     pub fn new(buffer: T) -> Self
         ensures keeps { result.buffer ≡ buffer }
@@ -35,8 +36,8 @@ impl<T: Storage> DoneBuffer<T> {
         DoneBuffer { buffer }
     }
 
-    /// A view of at least 4 bytes. Fewer are refused with `DoneShort`; the storage is then given
-    /// up.
+    /// Returns a view over at least 4 bytes. Returns `DoneShort`, with `inside` set to false, if
+    /// there are fewer; the storage is then dropped.
     pub fn new_checked(buffer: T) -> Result<Self, DecodeError>
         ensures keeps { IfOk result (λ view. view.buffer ≡ buffer) }
         ensures whole { OnOk result (4 ≤ length (T.contents buffer)) }
@@ -54,7 +55,8 @@ impl<T: Storage> DoneBuffer<T> {
         Ok(DoneBuffer { buffer })
     }
 
-    /// A view of the same bytes, lent: what a slice is read by, of any storage.
+    /// Returns a view that borrows the same bytes as a slice, so that the methods for slices work
+    /// with any storage.
     #[inline]
     pub fn borrowed(&self) -> DoneBuffer<&[u8]>
         ensures bytes { result.buffer.now ≡ T.contents self.now.buffer }
@@ -62,7 +64,7 @@ impl<T: Storage> DoneBuffer<T> {
         DoneBuffer::new(self.buffer.bytes())
     }
 
-    /// What holds the bytes.
+    /// Returns the storage of the bytes.
     #[inline]
     pub fn into_inner(self) -> T
         ensures keeps { result ≡ self.buffer }
@@ -70,8 +72,8 @@ impl<T: Storage> DoneBuffer<T> {
         self.buffer
     }
 
-    /// The code: 0, or the negated number of an error. The storage has to hold 4 bytes at least, as
-    /// `new_checked` tests.
+    /// Returns the code: 0, or a negative errno. Requires at least 4 bytes of storage, which
+    /// `new_checked` checks.
     #[inline]
     pub fn code(&self) -> i32
         requires field { 4 ≤ length (T.contents self.now.buffer) }
@@ -82,8 +84,8 @@ impl<T: Storage> DoneBuffer<T> {
 }
 
 impl<'a> DoneBuffer<&'a [u8]> {
-    /// The bytes behind the code, of at least 4 bytes in all, as `new_checked` tests. Of another
-    /// storage than a slice, `borrowed` gives the view that this is called on.
+    /// Returns the bytes after the code. Requires at least 4 bytes in all, which `new_checked`
+    /// checks. If the storage is not a slice, call this on the view that `borrowed` returns.
     #[inline]
     pub fn extended_ack(&self) -> &'a [u8]
         requires field { 4 ≤ length self.now.buffer.now }
@@ -94,7 +96,7 @@ impl<'a> DoneBuffer<&'a [u8]> {
 }
 
 impl<T: StorageMut> DoneBuffer<T> {
-    /// Sets the code, and changes nothing else. The storage has to hold 4 bytes at least.
+    /// Sets the code and leaves all other bytes unchanged. Requires at least 4 bytes of storage.
     #[inline]
     pub fn set_code(&mut self, code: i32)
         requires field { 4 ≤ length (T.contents self.old.buffer) }
@@ -106,8 +108,8 @@ impl<T: StorageMut> DoneBuffer<T> {
         put_i32(self.buffer.bytes_mut(), CODE, code);
     }
 
-    /// The bytes behind the code, lent for writing; no others change. The storage has to hold 4
-    /// bytes at least.
+    /// Mutably borrows the bytes after the code; no other bytes change. Requires at least 4 bytes
+    /// of storage.
     pub fn extended_ack_mut(&mut self) -> &mut [u8]
         requires field { 4 ≤ length (T.contents self.old.buffer) }
         ensures* writes_back { sem 𝓛 (Lends (the_row T.row) (Array byte 0) self.entry result
@@ -122,13 +124,13 @@ impl<T: StorageMut> DoneBuffer<T> {
     }
 }
 
-/// The body of a message of type `NLMSG_DONE`: a code in 4 bytes, in native order, and what the
-/// kernel says of it.
+/// The body of a message of type `NLMSG_DONE`: a 4-byte code in native byte order, and what the
+/// kernel adds to it.
 #[derive(Debug, Drop, PartialEq, Eq)]
 pub struct DoneMessage {
-    /// 0, or the negated number of an error.
+    /// 0, or a negative errno.
     pub code: i32,
-    /// The bytes behind the code, as attributes of an extended acknowledgement.
+    /// The bytes after the code, such as the attributes of an extended acknowledgment.
     pub extended_ack: Vec<u8>,
 }
 
@@ -136,7 +138,7 @@ impl DoneMessage {
     ghost use Rattle.netlink_packet_core.specs.Frame.{IsCodeAndRest, IsDone};
     ghost use Rattle.netlink_packet_core.specs.Refusal.{IsDoneFault};
 
-    /// Code 0 with no bytes. Asks for no memory.
+    /// Returns a body with code 0 and no bytes. Does not allocate.
     pub fn empty(alloc: Global) -> Self
         ensures code { result.code ≡ pos 0 }
         ensures bytes { result.extended_ack.items ≡ [] }
@@ -147,8 +149,8 @@ impl DoneMessage {
         }
     }
 
-    /// A message of the same code and bytes, which is equal by `==`; or `OutOfMemory` where memory
-    /// was refused, never without bytes to copy.
+    /// Returns a body with the same code and bytes, which is equal by `==`, or `OutOfMemory` if the
+    /// allocation fails. Does not allocate if there are no bytes to copy.
     pub fn try_clone(&self, alloc: Global) -> Result<Self, DecodeError>
         ensures code { IfOk result (λ copy. copy.code ≡ self.now.code) }
         ensures bytes { IfOk result
@@ -164,7 +166,9 @@ impl DoneMessage {
         })
     }
 
-    /// What the bytes of a payload say. None at all stand for code 0.
+    /// Decodes a payload; an empty one means code 0. Returns `DoneShort`, with `inside` set to
+    /// true, if it has 1 to 3 bytes, and `OutOfMemory` if the allocation for the bytes after the
+    /// code fails.
     pub(crate) fn of_payload(alloc: Global, payload: &[u8]) -> Result<Self, DecodeError>
         ensures ok { IfOk result (IsDone payload.now) }
         ensures err { IfErr result (IsDoneFault payload.now) }
@@ -179,7 +183,8 @@ impl DoneMessage {
         DoneMessage::of_code_and_rest(alloc, payload)
     }
 
-    /// The code in front, and a copy of what stands behind it.
+    /// Returns the code, and a copy of what follows it. Requires at least 4 bytes. Returns
+    /// `OutOfMemory` if the allocation for the copy fails.
     fn of_code_and_rest(alloc: Global, bytes: &[u8]) -> Result<Self, DecodeError>
         requires { 4 ≤ length bytes.now }
         ensures ok { IfOk result (λ m. IsCodeAndRest bytes.now m.code m.extended_ack.items) }
@@ -201,13 +206,14 @@ impl Emitable for DoneMessage {
 
     ghost takes_longer = { false };
 
-    /// 4 plus the number of bytes behind the code.
+    /// Returns 4 plus the number of bytes after the code.
     #[tactic(auto, using(crate::specs::Sizes::text_sizes))]
     fn buffer_len(&self) -> usize {
         CODE_SIZE + self.extended_ack.len()
     }
 
-    /// Fills a buffer of exactly `buffer_len` bytes with the code and the bytes.
+    /// Writes the code and the bytes over all of `buffer`. Requires that `buffer` has exactly
+    /// `buffer_len` bytes.
     #[tactic(auto, using(crate::specs::Sizes::text_sizes))]
     fn emit(&self, buffer: &mut [u8]) {
         put_code(buffer, self.code, &self.extended_ack);
@@ -225,8 +231,8 @@ impl<'a> Parseable<DoneBuffer<&'a [u8]>> for DoneMessage {
 
     ghost needs_no_memory = { λ view. length view.buffer.now ≡ 4 };
 
-    /// The code, and a copy of the bytes behind it, of a view of at least 4 bytes; `OutOfMemory`
-    /// where there are some and memory was refused for them.
+    /// Returns the code, and a copy of the bytes after it. Requires a view over at least 4 bytes.
+    /// Returns `OutOfMemory` if there are bytes after the code and the allocation for them fails.
     fn parse(alloc: Global, buf: &DoneBuffer<&'a [u8]>) -> Result<Self, DecodeError> {
         DoneMessage::of_code_and_rest(alloc, buf.buffer)
     }

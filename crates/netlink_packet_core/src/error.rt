@@ -1,4 +1,4 @@
-//! An acknowledgement, or a refusal. `done` says why the two views have a body each.
+//! An acknowledgment or an error. `done` explains why each of the two views has its own body.
 
 ghost use Rattle.std.specs.Prelude.{◌≡◌, ◌<◌, ◌≤◌, [], length, drop, unsigned_abs, OnOk, OnErr, IfOk, IfErr, IsTrue, MatchOption, None, Some, false, pos};
 ghost use Rattle.std.specs.Borrow.{Lends, Array, sem, u8 as byte};
@@ -17,16 +17,17 @@ use netlink_bytes::{
 use std::alloc::Global;
 use std::fmt;
 
-/// The body of a message of type `NLMSG_ERROR`, looked at in place: a code in 4 bytes, in native
-/// order, and what stands behind it. No call asks for memory.
+/// The body of a message of type `NLMSG_ERROR`, read in place: a 4-byte code in native byte order,
+/// and what follows it. No method allocates.
 #[derive(Clone, Copy, Debug, PartialEq, Eq, Drop)]
 pub struct ErrorBuffer<T: Storage> {
-    /// What holds the bytes.
+    /// The storage of the bytes.
     pub buffer: T,
 }
 
 impl<T: Storage> ErrorBuffer<T> {
-    /// A view of any bytes. Nothing is checked: each other call says what the bytes have to hold.
+    /// Returns a view over any bytes, without checking them. Each other method states what the
+    /// bytes must hold.
     #[inline]
     pub fn new(buffer: T) -> Self
         ensures keeps { result.buffer ≡ buffer }
@@ -34,8 +35,8 @@ impl<T: Storage> ErrorBuffer<T> {
         ErrorBuffer { buffer }
     }
 
-    /// A view of at least 4 bytes. Fewer are refused with `ErrorShort`; the storage is then given
-    /// up.
+    /// Returns a view over at least 4 bytes. Returns `ErrorShort`, with `inside` set to false, if
+    /// there are fewer; the storage is then dropped.
     pub fn new_checked(buffer: T) -> Result<Self, DecodeError>
         ensures keeps { IfOk result (λ view. view.buffer ≡ buffer) }
         ensures whole { OnOk result (4 ≤ length (T.contents buffer)) }
@@ -53,7 +54,8 @@ impl<T: Storage> ErrorBuffer<T> {
         Ok(ErrorBuffer { buffer })
     }
 
-    /// A view of the same bytes, lent: what a slice is read by, of any storage.
+    /// Returns a view that borrows the same bytes as a slice, so that the methods for slices work
+    /// with any storage.
     #[inline]
     pub fn borrowed(&self) -> ErrorBuffer<&[u8]>
         ensures bytes { result.buffer.now ≡ T.contents self.now.buffer }
@@ -61,7 +63,7 @@ impl<T: Storage> ErrorBuffer<T> {
         ErrorBuffer::new(self.buffer.bytes())
     }
 
-    /// What holds the bytes.
+    /// Returns the storage of the bytes.
     #[inline]
     pub fn into_inner(self) -> T
         ensures keeps { result ≡ self.buffer }
@@ -69,8 +71,8 @@ impl<T: Storage> ErrorBuffer<T> {
         self.buffer
     }
 
-    /// The code, `None` exactly where it is 0. The storage has to hold 4 bytes at least, as
-    /// `new_checked` tests.
+    /// Returns the code, or `None` if and only if it is 0. Requires at least 4 bytes of storage,
+    /// which `new_checked` checks.
     #[inline]
     pub fn code(&self) -> Option<NonZeroI32>
         requires field { 4 ≤ length (T.contents self.now.buffer) }
@@ -83,9 +85,9 @@ impl<T: Storage> ErrorBuffer<T> {
 }
 
 impl<'a> ErrorBuffer<&'a [u8]> {
-    /// The bytes behind the code: the header of the message that is answered, and what follows it.
-    /// The bytes have to be 4 at least, as `new_checked` tests. Of another storage than a slice,
-    /// `borrowed` gives the view that this is called on.
+    /// Returns the bytes after the code: the header of the message that this one answers, and what
+    /// follows it. Requires at least 4 bytes in all, which `new_checked` checks. If the storage is
+    /// not a slice, call this on the view that `borrowed` returns.
     #[inline]
     pub fn payload(&self) -> &'a [u8]
         requires field { 4 ≤ length self.now.buffer.now }
@@ -96,7 +98,7 @@ impl<'a> ErrorBuffer<&'a [u8]> {
 }
 
 impl<T: StorageMut> ErrorBuffer<T> {
-    /// Sets the code, and changes nothing else. The storage has to hold 4 bytes at least.
+    /// Sets the code and leaves all other bytes unchanged. Requires at least 4 bytes of storage.
     #[inline]
     pub fn set_code(&mut self, code: i32)
         requires field { 4 ≤ length (T.contents self.old.buffer) }
@@ -108,8 +110,8 @@ impl<T: StorageMut> ErrorBuffer<T> {
         put_i32(self.buffer.bytes_mut(), CODE, code);
     }
 
-    /// The bytes behind the code: the header of the message that is answered, and what follows it,
-    /// lent for writing; no others change. The storage has to hold 4 bytes at least.
+    /// Mutably borrows the bytes after the code: the header of the message that this one answers,
+    /// and what follows it. No other bytes change. Requires at least 4 bytes of storage.
     pub fn payload_mut(&mut self) -> &mut [u8]
         requires field { 4 ≤ length (T.contents self.old.buffer) }
         ensures* writes_back { sem 𝓛 (Lends (the_row T.row) (Array byte 0) self.entry result
@@ -124,14 +126,14 @@ impl<T: StorageMut> ErrorBuffer<T> {
     }
 }
 
-/// The body of a message of type `NLMSG_ERROR` (`struct nlmsgerr`): a code in 4 bytes, in native
-/// order, and the header of the message that it answers. No code is an acknowledgement, any other a
-/// refusal (RFC 3549, section 2.3.2.2).
+/// The body of a message of type `NLMSG_ERROR` (`struct nlmsgerr`): a 4-byte code in native byte
+/// order, and the header of the message that it answers. Without a code it is an acknowledgment;
+/// with any code it reports an error (RFC 3549, section 2.3.2.2).
 #[derive(Debug, Drop, PartialEq, Eq)]
 pub struct ErrorMessage {
-    /// The negated number of an error, `None` where the wire has 0.
+    /// The negative errno, or `None` if the code on the wire is 0.
     pub code: Option<NonZeroI32>,
-    /// The bytes behind the code.
+    /// The bytes after the code.
     pub header: Vec<u8>,
 }
 
@@ -139,7 +141,8 @@ impl ErrorMessage {
     ghost use Rattle.netlink_packet_core.specs.Frame.{IsError};
     ghost use Rattle.netlink_packet_core.specs.Refusal.{IsErrorFault};
 
-    /// No code and no bytes: an acknowledgement of nothing. Asks for no memory.
+    /// Returns a body without a code and without bytes: an acknowledgment of nothing. Does not
+    /// allocate.
     pub fn empty(alloc: Global) -> Self
         ensures code { result.code ≡ None }
         ensures bytes { result.header.items ≡ [] }
@@ -150,7 +153,7 @@ impl ErrorMessage {
         }
     }
 
-    /// The code as the wire has it, 0 for `None`.
+    /// Returns the code as it is on the wire, 0 for `None`.
     pub fn raw_code(&self) -> i32
         ensures code { result ≡ raw_code self.now.code }
     {
@@ -160,15 +163,15 @@ impl ErrorMessage {
         }
     }
 
-    /// The number of the error: the absolute value of the code, 2147483648 for the least.
+    /// Returns the errno: the absolute value of the code, which is 2147483648 for `i32::MIN`.
     pub fn errno(&self) -> u32
         ensures number { result ≡ unsigned_abs (raw_code self.now.code) }
     {
         self.raw_code().unsigned_abs()
     }
 
-    /// A message of the same code and bytes, which is equal by `==`; or `OutOfMemory` where memory
-    /// was refused, never without bytes to copy.
+    /// Returns a body with the same code and bytes, which is equal by `==`, or `OutOfMemory` if the
+    /// allocation fails. Does not allocate if there are no bytes to copy.
     pub fn try_clone(&self, alloc: Global) -> Result<Self, DecodeError>
         ensures code { IfOk result (λ copy. copy.code ≡ self.now.code) }
         ensures bytes { IfOk result (λ copy. copy.header.items ≡ self.now.header.items) }
@@ -183,7 +186,8 @@ impl ErrorMessage {
         })
     }
 
-    /// What the bytes of a payload say.
+    /// Decodes a payload. Returns `ErrorShort`, with `inside` set to true, if it has fewer than 4
+    /// bytes, and `OutOfMemory` if the allocation for the bytes after the code fails.
     pub(crate) fn of_payload(alloc: Global, payload: &[u8]) -> Result<Self, DecodeError>
         ensures ok { IfOk result (IsError payload.now) }
         ensures err { IfErr result (IsErrorFault payload.now) }
@@ -195,7 +199,8 @@ impl ErrorMessage {
         ErrorMessage::of_code_and_rest(alloc, payload)
     }
 
-    /// The code in front, and a copy of what stands behind it.
+    /// Returns the code, and a copy of what follows it. Requires at least 4 bytes. Returns
+    /// `OutOfMemory` if the allocation for the copy fails.
     fn of_code_and_rest(alloc: Global, bytes: &[u8]) -> Result<Self, DecodeError>
         requires { 4 ≤ length bytes.now }
         ensures ok { IfOk result (IsError bytes.now) }
@@ -229,13 +234,14 @@ impl Emitable for ErrorMessage {
 
     ghost takes_longer = { false };
 
-    /// 4 plus the number of bytes behind the code.
+    /// Returns 4 plus the number of bytes after the code.
     #[tactic(auto, using(crate::specs::Sizes::text_sizes))]
     fn buffer_len(&self) -> usize {
         CODE_SIZE + self.header.len()
     }
 
-    /// Fills a buffer of exactly `buffer_len` bytes with the code and the bytes.
+    /// Writes the code and the bytes over all of `buffer`. Requires that `buffer` has exactly
+    /// `buffer_len` bytes.
     #[tactic(auto, using(crate::specs::Sizes::text_sizes))]
     fn emit(&self, buffer: &mut [u8]) {
         put_code(buffer, self.raw_code(), &self.header);
@@ -253,8 +259,8 @@ impl<'a> Parseable<ErrorBuffer<&'a [u8]>> for ErrorMessage {
 
     ghost needs_no_memory = { λ view. length view.buffer.now ≡ 4 };
 
-    /// The code, and a copy of the bytes behind it, of a view of at least 4 bytes; `OutOfMemory`
-    /// where there are some and memory was refused for them.
+    /// Returns the code, and a copy of the bytes after it. Requires a view over at least 4 bytes.
+    /// Returns `OutOfMemory` if there are bytes after the code and the allocation for them fails.
     fn parse(alloc: Global, buf: &ErrorBuffer<&'a [u8]>) -> Result<Self, DecodeError> {
         ErrorMessage::of_code_and_rest(alloc, buf.buffer)
     }

@@ -1,4 +1,4 @@
-//! What stands in front of each message.
+//! The header of a message.
 
 ghost use Rattle.std.specs.Prelude.{◌≡◌, ◌≤◌, length, true};
 
@@ -9,16 +9,18 @@ use crate::constants::{
 use netlink_bytes::{DecodeError, Emitable, Parseable, put_u16, put_u32};
 use std::alloc::Global;
 
-/// The header of a message (`struct nlmsghdr`), 16 bytes on the wire, all numbers in native order.
+/// The header of a message (`struct nlmsghdr`), 16 bytes on the wire, with all numbers in native
+/// byte order.
 #[derive(Clone, Copy, Debug, PartialEq, Eq, Hash)]
+#[repr(C)]
 pub struct NetlinkHeader {
-    /// The size of the message in bytes, this header included.
+    /// The size of the message in bytes, including this header.
     pub length: u32,
-    /// What the message is: one of `NLMSG_*`, or a type of the sub-protocol.
+    /// The type of the message: one of `NLMSG_*`, or a type of the sub-protocol.
     pub message_type: u16,
     /// The `NLM_F_*` bits.
     pub flags: u16,
-    /// The number that ties an answer to its request.
+    /// The number that matches a reply to its request.
     pub sequence_number: u32,
     /// The address of the sending socket.
     pub port_number: u32,
@@ -27,7 +29,7 @@ pub struct NetlinkHeader {
 impl NetlinkHeader {
     ghost use Rattle.netlink_packet_core.specs.Header.{header_bytes, HeaderInRange};
 
-    /// The numbers of a header in hand are within their widths.
+    /// Establishes that each field is within its width, for the proof of a caller.
     pub(crate) fn known(&self)
         ensures { HeaderInRange self.now }
     {
@@ -38,7 +40,7 @@ impl NetlinkHeader {
         let _port_number = self.port_number;
     }
 
-    /// Writes the five fields.
+    /// Writes the five fields. Requires that `buffer` has exactly 16 bytes.
     #[tactic(auto, unfolding(netlink_bytes::specs::Numbers::bytes_le))]
     pub(crate) fn write(&self, buffer: &mut [u8])
         requires { length buffer.old ≡ 16 }
@@ -51,7 +53,7 @@ impl NetlinkHeader {
         put_u32(buffer, PORT_NUMBER, self.port_number);
     }
 
-    /// The five fields as they are written.
+    /// Returns the encoding of the five fields.
     pub(crate) fn text(&self) -> [u8; NETLINK_HEADER_LEN]
         ensures { result ≡ header_bytes self.now }
     {
@@ -66,7 +68,7 @@ impl Default for NetlinkHeader {
 
     ghost is_default = { λ h. h ≡ default_header };
 
-    /// Five zeros.
+    /// Returns a header of five zeros.
     fn default() -> Self {
         NetlinkHeader {
             length: 0,
@@ -87,14 +89,14 @@ impl Emitable for NetlinkHeader {
 
     ghost takes_longer = { true };
 
-    /// 16.
+    /// Returns 16.
     #[tactic(auto, using(crate::specs::Sizes::text_sizes))]
     fn buffer_len(&self) -> usize {
         NETLINK_HEADER_LEN
     }
 
-    /// Writes the five fields into the first 16 bytes, and leaves the rest. The buffer has to have
-    /// 16 bytes at least.
+    /// Writes the five fields into the first 16 bytes and leaves the rest unchanged. Requires that
+    /// `buffer` has at least 16 bytes.
     #[tactic(auto, using(crate::specs::Sizes::text_sizes))]
     fn emit(&self, buffer: &mut [u8]) {
         let (head, _) = buffer.split_at_mut(NETLINK_HEADER_LEN);
@@ -113,7 +115,7 @@ impl<'a> Parseable<NetlinkBuffer<&'a [u8]>> for NetlinkHeader {
 
     ghost needs_no_memory = { λ _. Unit {0} };
 
-    /// The header that the bytes, at least 16, begin with; always Ok.
+    /// Returns the header at the start of the bytes; always `Ok`. Requires at least 16 bytes.
     fn parse(_alloc: Global, buf: &NetlinkBuffer<&'a [u8]>) -> Result<Self, DecodeError> {
         Ok(read_header(buf.buffer))
     }

@@ -1,5 +1,6 @@
-//! Laws over the definitions alone: each has no effect, and its contract is the law. Those of
-//! `netlink_attributes` and of equality in the crates below stand here too.
+//! Laws about the definitions alone. Calling a law does nothing at run time: its contract is the
+//! theorem. The laws of `netlink_attributes`, and those about equality in the other crates below,
+//! are re-exported here.
 
 ghost use Rattle.std.specs.Prelude.{◌≡◌, ◌≢◌, ◌↔◌, ◌+◌, ◌<◌, ◌≤◌, ◌^◌, ◌++◌, ℕ, List, Some, true, IsTrue, take, length};
 ghost use Rattle.netlink_packet_core.specs.Canonical.{Fits, IsCanonicalFrame, canonical_frame, finalized};
@@ -34,7 +35,7 @@ pub use netlink_bytes::laws::{causes_equal, values_equal};
 use netlink_bytes::{DecodeError, Storage};
 pub use netlink_ethernet::laws::protocols_equal;
 
-/// The inner value in hand is in range.
+/// Establishes that the inner value of a payload is in range, for the proof of a caller.
 fn known<I: NetlinkProtocol>(payload: &NetlinkPayload<I>)
     ensures { InnerInRange I.decoding payload.now }
 {
@@ -43,7 +44,7 @@ fn known<I: NetlinkProtocol>(payload: &NetlinkPayload<I>)
     }
 }
 
-/// Two views are equal exactly if their storages are, by `==`.
+/// States that two views are equal if and only if their storages are, by `==`.
 pub fn message_views_equal<T: Storage + PartialEq>()
     ensures message { (a b : NetlinkBuffer T)
         → ⟦<NetlinkBuffer<T> as PartialEq>⟧.eq a b ≡ T.eq a.buffer b.buffer }
@@ -53,13 +54,14 @@ pub fn message_views_equal<T: Storage + PartialEq>()
         → ⟦<ErrorBuffer<T> as PartialEq>⟧.eq a b ≡ T.eq a.buffer b.buffer }
 {}
 
-/// Two headers are equal exactly if they are the same value.
+/// States that two headers are equal if and only if they are the same value.
 pub fn headers_equal()
     ensures equal { (a b : NetlinkHeader)
         → IsTrue (⟦<NetlinkHeader as PartialEq>⟧.eq a b) ↔ (a ≡ b) }
 {}
 
-/// Two done messages, and two error messages, are equal exactly if their codes and their bytes are.
+/// States that two done messages, and two error messages, are equal if and only if their codes and
+/// their bytes are.
 pub fn bodies_equal()
     ensures done { (a b : DoneMessage) → IsTrue (⟦<DoneMessage as PartialEq>⟧.eq a b)
         ↔ ((a.code ≡ b.code) × (a.extended_ack.items ≡ b.extended_ack.items)) }
@@ -67,9 +69,10 @@ pub fn bodies_equal()
         ↔ ((raw_code a.code ≡ raw_code b.code) × (a.header.items ≡ b.header.items)) }
 {}
 
-/// Two messages are equal exactly if their headers are the same value and their payloads are equal,
-/// and two payloads exactly if they say the same: codes and bytes, and of an inner message what it
-/// stands for. Inner messages have to be in range, as each in hand is by `in_widths`.
+/// States that two messages are equal if and only if their headers are the same value and their
+/// payloads are equal, and that two payloads are equal if and only if they have the same content:
+/// the same code and bytes, or for inner messages the same (type, bytes) pair. Inner messages must
+/// be in range, which `in_widths` establishes for every value at run time.
 pub fn messages_equal<I: NetlinkProtocol>()
     ensures message { (a b : NetlinkMessage I)
         → InnerInRange I.decoding a.payload → InnerInRange I.decoding b.payload
@@ -80,7 +83,9 @@ pub fn messages_equal<I: NetlinkProtocol>()
         → IsTrue (⟦<NetlinkPayload<I> as PartialEq>⟧.eq a b) ↔ SamePayload I.decoding a b }
 {}
 
-/// Bytes are the frame of one message at most, by `==`, and have one canonical frame at most.
+/// States that bytes begin with the frame of at most one message, by `==`, and have at most one
+/// canonical frame: messages of the same frame fit or do not fit together, and have the same
+/// encoding.
 pub fn frame_unique<I: NetlinkProtocol>()
     ensures unique { (bytes : List ℕ) (m n : NetlinkMessage I) → Frame I.decoding bytes m
         → Frame I.decoding bytes n
@@ -98,8 +103,9 @@ pub fn frame_unique<I: NetlinkProtocol>()
     messages_equal::<I>();
 }
 
-/// Bytes are refused in one way at most, want of memory and a protocol's own words aside, and the
-/// frame of a message is refused for want of memory alone.
+/// States that bytes are rejected with at most one error, apart from `OutOfMemory` and a protocol's
+/// own words, and that bytes that begin with the frame of a message are rejected only with
+/// `OutOfMemory`.
 pub fn refusal_unique<I: NetlinkDeserializable>()
     ensures unique { (bytes : List ℕ) (e f : DecodeError)
         → IsRefusal I.decoding I.wants_memory bytes e → IsRefusal I.decoding I.wants_memory bytes f
@@ -109,9 +115,10 @@ pub fn refusal_unique<I: NetlinkDeserializable>()
         → e ≡ DecodeError.OutOfMemory }
 {}
 
-/// What is written of a message is its one canonical frame: it reads back as the finalized message,
-/// whatever follows, and is no frame at any proper cut. The canonical frames of two messages are
-/// equal exactly if their finalized messages are, by `==`. Both messages have to fit.
+/// States that the encoding of a message is its one canonical frame: it decodes to the finalized
+/// message, whatever bytes follow, and no proper prefix of it is a frame. The canonical frames of
+/// two messages are equal if and only if their finalized messages are, by `==`. Requires that both
+/// messages fit.
 pub fn reads_back<I: NetlinkProtocol>(m: &NetlinkMessage<I>, n: &NetlinkMessage<I>, c: &[u8])
     requires first { Fits I.encoding m.now }
     requires second { Fits I.encoding n.now }
@@ -135,9 +142,9 @@ pub fn reads_back<I: NetlinkProtocol>(m: &NetlinkMessage<I>, n: &NetlinkMessage<
     messages_equal::<I>();
 }
 
-/// What a protocol reads, of any header and payload, is written as a canonical frame: the type is
-/// one of the protocol's own and fits its field, and a header of that type and of the text's
-/// length, whatever its other fields, and the text behind it are a canonical frame.
+/// States that what a protocol decodes, from any header and payload, is encoded as a canonical
+/// frame. Its type is one of the protocol's own and fits its field. A header with that type and the
+/// matching length, whatever its other fields are, followed by the encoding, is a canonical frame.
 pub fn reading_is_canonical<I: NetlinkProtocol>()
     ensures own_type { (h : NetlinkHeader) (payload : List ℕ) (pair : ℕ × List ℕ)
         → I.decoding.reading h payload ≡ Some pair → IsOwnType pair.0 × (pair.0 < 2 ^ 16) }
@@ -148,8 +155,9 @@ pub fn reading_is_canonical<I: NetlinkProtocol>()
         → IsCanonicalFrame I.decoding (header_bytes front ++ pair.1) }
 {}
 
-/// A canonical frame cut short is the frame of no message (`FrameShort` below 16 bytes, `FrameCut`
-/// from there on), and is not canonical: no canonical frame is a proper beginning of another.
+/// States that a proper prefix of a canonical frame is the frame of no message (`FrameShort` if it
+/// has fewer than 16 bytes, else `FrameCut`), and is not canonical: no canonical frame is a proper
+/// prefix of another.
 pub fn cut_refused<I: NetlinkProtocol>(bytes: &[u8], cut: usize)
     ensures cut { IsCanonicalFrame I.decoding bytes.now → cut < length bytes.now
         → (m : NetlinkMessage I) → Frame I.decoding (take cut bytes.now) m → ⊥ }
@@ -161,16 +169,16 @@ pub fn cut_refused<I: NetlinkProtocol>(bytes: &[u8], cut: usize)
         → IsCanonicalFrame I.decoding (take cut bytes.now) → ⊥ }
 {}
 
-/// What follows a whole frame decides nothing: with it and without it, the bytes are the frame of
-/// the same messages.
+/// States that what follows a complete frame does not matter: with it and without it, the bytes
+/// begin with the frame of the same messages.
 pub fn tail_ignored<I: NetlinkProtocol>(bytes: &[u8], more: &[u8])
     ensures ignored { 16 ≤ field 0 4 bytes.now → field 0 4 bytes.now ≤ length bytes.now
         → (m : NetlinkMessage I)
         → (Frame I.decoding (bytes.now ++ more.now) m) ↔ (Frame I.decoding bytes.now m) }
 {}
 
-/// The frame of a message that fits is what is written of the message exactly if it is canonical,
-/// and what is written is canonical.
+/// States that bytes that begin with the frame of a message that fits are the encoding of the
+/// message if and only if they are canonical, and that the encoding is canonical.
 pub fn frames_fixed<I: NetlinkProtocol>(bytes: &[u8])
     ensures fixed { (m : NetlinkMessage I) → Frame I.decoding bytes.now m → Fits I.encoding m
         → (canonical_frame I.encoding m ≡ bytes.now) ↔ IsCanonicalFrame I.decoding bytes.now }

@@ -1,5 +1,5 @@
-//! Netlink messages of any sub-protocol: read from a datagram's bytes, and written as their one
-//! canonical frame.
+//! Netlink messages of any sub-protocol: decoded from the bytes of a datagram, and encoded as their
+//! one canonical frame.
 #![tactic(auto)]
 
 mod buffer;
@@ -65,6 +65,7 @@ pub use netlink_attributes::NlaBuffer;
 pub use netlink_attributes::Nlas;
 pub use netlink_attributes::NlasIterator;
 pub use netlink_attributes::append_nla;
+pub use netlink_attributes::append_padding;
 pub use netlink_attributes::emit_nla;
 pub use netlink_attributes::is_canonical_nlas;
 pub use netlink_attributes::nla_align;

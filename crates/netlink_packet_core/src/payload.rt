@@ -1,4 +1,4 @@
-//! What a message carries.
+//! The payload of a message.
 
 ghost use Rattle.std.specs.Prelude.{◌≡◌, ◌+◌, ◌≤◌, ◌<◌, ◌^◌, ◌↔◌, ◌++◌, List, ℕ, Some, IfOk, IfErr, IsTrue, OnOk, length, string_bytes, vec_len};
 ghost use Rattle.netlink_packet_core.specs.Frame.{Body};
@@ -16,24 +16,24 @@ use std::alloc::{AllocError, Global};
 use std::error::Error;
 use std::fmt::Write;
 
-/// The payload of a message: one of the four kinds that every protocol shares, or the protocol's
+/// The payload of a message: one of the four that every protocol shares, or one of the protocol's
 /// own.
 #[derive(Debug, Drop, PartialEq, Eq)]
 pub enum NetlinkPayload<I> {
     /// The end of a multipart message (`NLMSG_DONE`).
     Done(DoneMessage),
-    /// An acknowledgement or a refusal (`NLMSG_ERROR`).
+    /// An acknowledgment or an error (`NLMSG_ERROR`).
     Error(ErrorMessage),
-    /// Nothing (`NLMSG_NOOP`); bytes that came with it are dropped.
+    /// Nothing (`NLMSG_NOOP`); bytes in the payload are dropped.
     Noop,
-    /// Data was lost (`NLMSG_OVERRUN`); the bytes that came with it.
+    /// Data was lost (`NLMSG_OVERRUN`); the bytes of the payload.
     Overrun(Vec<u8>),
     /// A message of the sub-protocol.
     InnerMessage(I),
 }
 
 impl<I: NetlinkSerializable> NetlinkPayload<I> {
-    /// The message type that a header of this payload has.
+    /// Returns the message type for the header of this payload.
     pub fn message_type(&self) -> u16
         ensures kind { result ≡ payload_type I.encoding self.now }
     {
@@ -46,10 +46,9 @@ impl<I: NetlinkSerializable> NetlinkPayload<I> {
         }
     }
 
-    /// The size of the payload's text in bytes.
+    /// Returns the size of the encoded payload in bytes.
     #[tactic(auto, using(crate::specs::Sizes::text_sizes))]
     pub(crate) fn buffer_len(&self) -> usize
-        requires { length (payload_bytes I.encoding self.now) < 2 ^ 64 }
         ensures { result ≡ length (payload_bytes I.encoding self.now) }
     {
         match self {
@@ -61,21 +60,7 @@ impl<I: NetlinkSerializable> NetlinkPayload<I> {
         }
     }
 
-    /// Whether the payload's text has at most so many bytes.
-    #[tactic(auto, using(crate::specs::Sizes::text_sizes))]
-    pub(crate) fn is_at_most(&self, limit: usize) -> bool
-        ensures { IsTrue result ↔ (length (payload_bytes I.encoding self.now) ≤ limit) }
-    {
-        match self {
-            NetlinkPayload::Done(message) => CODE_SIZE + message.extended_ack.len() <= limit,
-            NetlinkPayload::Error(message) => CODE_SIZE + message.header.len() <= limit,
-            NetlinkPayload::Noop => true,
-            NetlinkPayload::Overrun(bytes) => bytes.len() <= limit,
-            NetlinkPayload::InnerMessage(message) => message.buffer_len() <= limit,
-        }
-    }
-
-    /// A code in hand is within its width.
+    /// Establishes that the code of a payload is within its width, for the proof of a caller.
     pub(crate) fn known(&self)
         ensures { PayloadInRange self.now }
     {
@@ -90,7 +75,8 @@ impl<I: NetlinkSerializable> NetlinkPayload<I> {
         }
     }
 
-    /// Writes the payload's text, which fills the buffer.
+    /// Writes the encoded payload over all of `buffer`. Requires that `buffer` has exactly its
+    /// size.
     #[tactic(auto, using(crate::specs::Sizes::text_sizes))]
     pub(crate) fn emit(&self, buffer: &mut [u8])
         requires { length buffer.old ≡ length (payload_bytes I.encoding self.now) }
@@ -107,7 +93,8 @@ impl<I: NetlinkSerializable> NetlinkPayload<I> {
         }
     }
 
-    /// Adds the payload's text at the end of a frame.
+    /// Appends the encoded payload to a frame. Requires that the frame then has fewer than 2^64
+    /// bytes. Returns `AllocError` if an allocation fails.
     #[tactic(auto, using(crate::specs::Sizes::text_sizes))]
     pub(crate) fn append(&self, frame: &mut Vec<u8>) -> Result<(), AllocError>
         requires { vec_len frame.old + length (payload_bytes I.encoding self.now) < 2 ^ 64 }
@@ -128,7 +115,9 @@ impl<I: NetlinkSerializable> NetlinkPayload<I> {
     }
 }
 
-/// What a header and the bytes of a payload say.
+/// Decodes a payload under its header. Returns `ErrorShort` or `DoneShort` if the body of an error
+/// or done message is too short, `Message` if the protocol rejects the payload, and `OutOfMemory`
+/// if an allocation fails.
 pub(crate) fn read_payload<I: NetlinkDeserializable>(
     alloc: Global,
     header: &NetlinkHeader,
@@ -146,7 +135,8 @@ pub(crate) fn read_payload<I: NetlinkDeserializable>(
     }
 }
 
-/// What the protocol reads.
+/// Decodes a payload of one of the protocol's own types. Returns `Message` if the protocol rejects
+/// it, and `OutOfMemory` if an allocation fails.
 fn read_inner<I: NetlinkDeserializable>(
     alloc: Global,
     header: &NetlinkHeader,
@@ -171,8 +161,9 @@ fn read_inner<I: NetlinkDeserializable>(
     }
 }
 
-/// The text of a protocol's refusal. Both strings have room at once: 64 bytes for the protocol's
-/// own words, and 41 for what stands in front of them.
+/// Returns the text for a payload that the protocol rejected, or `AllocError` if an allocation
+/// fails. Both strings are allocated with room: 64 bytes for the protocol's own words, and 41 more
+/// than their size for the whole text.
 fn refusal<E: Error>(alloc: Global, message_type: u16, error: &E) -> Result<String, AllocError>
     ensures { IfOk result
         (λ text. (rest : List ℕ) × (string_bytes text ≡ refusal_text message_type rest)) }

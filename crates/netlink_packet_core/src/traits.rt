@@ -1,4 +1,4 @@
-//! What a sub-protocol brings.
+//! What a sub-protocol supplies.
 
 ghost use Rattle.std.specs.Prelude.{◌≡◌, ◌↔◌, ◌+◌, ◌<◌, ◌≤◌, ◌^◌, ◌++◌, ℕ, Bool, true, false, List, Some, None, length, IfOk, IfErr, IsOk, IsTrue, OnErr, OnOk, vec_len, vec_capacity};
 ghost use Rattle.netlink_packet_core.specs.declared.header.NetlinkHeader.{NetlinkHeader};
@@ -8,36 +8,38 @@ use crate::header::NetlinkHeader;
 use std::alloc::{AllocError, Global};
 use std::error::Error;
 
-/// A sub-protocol's message that can be written.
+/// A message of a sub-protocol that can be encoded.
 pub trait NetlinkSerializable {
-    /// The message type of a value, and its text.
+    /// The message type and the encoding of a value.
     ghost encoding: { Encoding Self };
 
-    /// The value's message type, for the header.
+    /// Returns the value's message type, for the header.
     fn message_type(&self) -> u16
         ensures kind { result ≡ encoding.type_of self.now };
 
-    /// The size of the value's text in bytes.
+    /// Returns the size of the encoded value in bytes.
     fn buffer_len(&self) -> usize
         ensures size { result ≡ length (encoding.bytes_of self.now) };
 
-    /// Fills the buffer, which has exactly `buffer_len` bytes, with the value's text.
+    /// Writes the encoded value over all of `buffer`. Requires that `buffer` has exactly
+    /// `buffer_len` bytes.
     fn serialize(&self, buffer: &mut [u8])
         requires size { length buffer.old ≡ length (encoding.bytes_of self.now) }
         ensures text { buffer.new ≡ encoding.bytes_of self.now };
 
-    /// Adds the value's text at the end of a vector, which has fewer than 2^64 bytes with it. Where
-    /// the vector has room the answer is Ok; otherwise its allocator is asked, and an error says
-    /// that it refused.
+    /// Appends the encoded value to a vector. Requires that the vector then has fewer than 2^64
+    /// bytes. Returns `Ok` if the vector has room. Otherwise allocates with the vector's own
+    /// allocator and, if that fails, returns `AllocError` and leaves the vector unchanged.
     ///
-    /// This body makes room of zeros and fills it by `serialize`; a protocol that has its text at
-    /// hand does better to copy it once.
+    /// This default body appends zeros and overwrites them with `serialize`. A protocol that
+    /// already has its encoding should copy it instead.
     fn append(&self, frame: &mut Vec<u8>) -> Result<(), AllocError>
         requires fits { vec_len frame.old + length (encoding.bytes_of self.now) < 2 ^ 64 }
         ensures text { OnOk result
             (frame.new.items ≡ frame.old.items ++ encoding.bytes_of self.now) }
         ensures room { vec_len frame.old + length (encoding.bytes_of self.now)
             ≤ vec_capacity frame.old → IsOk result }
+        ensures unchanged { OnErr result (frame.new.items ≡ frame.old.items) }
     {
         let start = frame.len();
         frame.resize(start + self.buffer_len(), 0)?;
@@ -45,11 +47,11 @@ pub trait NetlinkSerializable {
         Ok(())
     }
 
-    /// Whether the bytes are the value's text. An error says that a request for memory was refused;
-    /// bytes of another size than the text's ask for none.
+    /// Returns whether the bytes are the encoded value. Returns `AllocError` if an allocation
+    /// fails. Does not allocate if the bytes and the encoding differ in size.
     ///
-    /// This body writes the text into a buffer of its own; a protocol that has its text at hand
-    /// does better to compare it.
+    /// This default body encodes the value into a buffer of its own. A protocol that already has
+    /// its encoding should compare it instead.
     fn is_written_as(&self, alloc: Global, bytes: &[u8]) -> Result<bool, AllocError>
         ensures says { IfOk result (λ yes. IsTrue yes ↔ (bytes.now ≡ encoding.bytes_of self.now)) }
         ensures size { OnErr result (length bytes.now ≡ length (encoding.bytes_of self.now)) }
@@ -63,20 +65,20 @@ pub trait NetlinkSerializable {
     }
 }
 
-/// A sub-protocol's message that can be read.
+/// A message of a sub-protocol that can be decoded.
 pub trait NetlinkDeserializable: Sized {
-    /// Why a payload is refused.
+    /// The error for a rejected payload.
     type Error: Error + Drop;
 
-    /// What a header and a payload give, what a value stands for, and which values hold numbers of
-    /// their widths.
+    /// What a header and a payload decode to, what a value represents, and which values hold
+    /// numbers within their widths.
     ghost decoding: { Decoding Self };
 
-    /// The errors that say that a request for memory was refused.
+    /// Whether an error means that an allocation failed.
     ghost wants_memory: { Self.Error → Bool };
 
-    /// The value that the reading gives of a header and a payload. An error that is not want of
-    /// memory comes only where the reading gives nothing.
+    /// Returns the value that a header and a payload decode to. An error for which `wants_memory`
+    /// is false means that they decode to nothing.
     fn deserialize(
         alloc: Global,
         header: &NetlinkHeader,
@@ -88,31 +90,32 @@ pub trait NetlinkDeserializable: Sized {
         ensures refuses { IfErr result
             (λ e. wants_memory e ≡ false → decoding.reading header.now payload.now ≡ None) };
 
-    /// Whether an error says that a request for memory was refused.
+    /// Returns whether an error means that an allocation failed.
     fn is_out_of_memory(error: &Self::Error) -> bool
         ensures memory { result ≡ wants_memory error.now };
 }
 
-/// A sub-protocol that meets its laws, so that its messages have one canonical frame each.
+/// A sub-protocol that satisfies the laws, so that each of its messages has one canonical frame.
 pub trait NetlinkProtocol: NetlinkSerializable + NetlinkDeserializable + Eq + Drop {
-    /// The value in hand holds numbers of their widths. Reads those numbers, and does nothing.
+    /// Establishes that the value holds numbers within their widths. Reads those numbers, and does
+    /// nothing else.
     fn in_widths(&self)
         ensures in_range { IsTrue (Self.decoding.in_range self.now) };
 
-    /// A value stands for its own type and text.
+    /// A value represents its own type and encoding.
     ghost own_pair: { (v : Self)
         → Self.decoding.stands_for v ≡ (Self.encoding.type_of v, Self.encoding.bytes_of v) };
 
-    /// Two values are equal exactly if they stand for the same type and text.
+    /// Two values are equal if and only if they represent the same type and encoding.
     ghost equal_pairs: { (v w : Self) → IsTrue (Self.decoding.in_range v)
         → IsTrue (Self.decoding.in_range w)
         → (Self.eq v w ≡ true) ↔ (Self.decoding.stands_for v ≡ Self.decoding.stands_for w) };
 
-    /// What a value stands for is read again, whatever else its header says.
+    /// What a value represents reads back as itself, whatever else its header contains.
     ghost value_is_lawful: { (v : Self) → IsTrue (Self.decoding.in_range v)
         → IsLawful Self.decoding (Self.decoding.stands_for v) };
 
-    /// And so is what a reading gives.
+    /// And so does what a payload decodes to.
     ghost reading_is_lawful: { (h : NetlinkHeader) (payload : List ℕ) (pair : ℕ × List ℕ)
         → Self.decoding.reading h payload ≡ Some pair → IsLawful Self.decoding pair };
 }

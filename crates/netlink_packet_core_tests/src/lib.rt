@@ -1,7 +1,6 @@
-//! The tests of `netlink_packet_core`, over its public calls: messages, views, bodies, frames.
+//! The tests of `netlink_packet_core`, of its public functions: messages, views, bodies, frames.
 //!
-//! They are a crate of their own, since a crate that has tests is proved twice, with them and
-//! without.
+//! They are a separate crate because a crate that has tests is proved twice, with them and without.
 #![tactic(auto)]
 
 #[cfg(test)]

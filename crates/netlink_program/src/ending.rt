@@ -2,25 +2,25 @@
 
 ghost use Rattle.std.specs.Prelude.{◌≡◌};
 ghost use Rattle.std.specs.Process.{exit_status};
-ghost use Rattle.netlink_program.specs.Ending.{ending_text, status_of};
+ghost use Rattle.netlink_program.specs.Ending.{ending_of, ending_text, status_of};
 
 use std::fmt;
 use std::process::{ExitCode, Termination};
 
-/// How a program ends, with its own faults and its own usage. What it displays as is what stands on
-/// standard error.
+/// How a program ends, with its own types for an error and for the usage. `Display` writes what
+/// goes to standard error.
 #[derive(Debug, Drop)]
 pub enum Ending<F, U> {
-    /// The output is written whole. Nothing is said; the status is 0.
+    /// The whole output is written. Prints nothing; the status is 0.
     Done,
-    /// The run ended with this fault. Its text and a line feed are said; the status is 1.
+    /// The run ended with this error. Prints its text and a line feed; the status is 1.
     Failed(F),
-    /// The arguments ask for no run. The usage and a line feed are said; the status is 2.
+    /// The arguments do not ask for a run. Prints the usage and a line feed; the status is 2.
     Usage(U),
 }
 
 impl<F, U> Ending<F, U> {
-    /// The number that the process ends with.
+    /// Returns the exit status of the process.
     pub fn status(&self) -> u8
         ensures status { result ≡ status_of self.now }
     {
@@ -28,6 +28,19 @@ impl<F, U> Ending<F, U> {
             Ending::Done => 0,
             Ending::Failed(_) => 1,
             Ending::Usage(_) => 2,
+        }
+    }
+}
+
+impl<F: Drop, U> From<Result<(), F>> for Ending<F, U> {
+    ghost from_gives = { λ run ending. ending ≡ ending_of run };
+
+    /// Returns how the program ends after a run: `Done` if it succeeded, else `Failed` with its
+    /// error.
+    fn from(run: Result<(), F>) -> Self {
+        match run {
+            Ok(()) => Ending::Done,
+            Err(fault) => Ending::Failed(fault),
         }
     }
 }
@@ -45,8 +58,7 @@ impl<F: fmt::Display, U: fmt::Display> fmt::Display for Ending<F, U> {
 }
 
 impl<F: fmt::Display + Drop, U: fmt::Display + Drop> Termination for Ending<F, U> {
-    /// Says on standard error what there is to say, and gives the status. A failed write is no
-    /// fault.
+    /// Prints the text to standard error, and returns the exit status. Ignores a failure to print.
     fn report<R: Eprint>(self, rt: &R) -> ExitCode
         ensures status { exit_status result ≡ status_of self }
     {

@@ -1,4 +1,4 @@
-//! What a program does around its own work: it reads its input whole, and ends with a status and a
+//! What a program does around its own work: it reads its whole input, and ends with a status and a
 //! text.
 #![tactic(auto)]
 

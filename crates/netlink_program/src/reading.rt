@@ -7,27 +7,27 @@ use std::alloc::Global;
 use std::io;
 use std::io::Read;
 
-/// Why an input was not had as a whole.
+/// Why an input was not read as a whole.
 #[derive(Clone, Copy, Debug, PartialEq, Eq)]
 pub enum ReadFault {
-    /// The reader failed, or did not end within its bound of calls.
+    /// The reader failed, or did not reach its end within the maximum number of calls.
     Read,
-    /// A request for memory was refused.
+    /// An allocation failed.
     OutOfMemory,
 }
 
-/// The most calls of the reader for one input.
+/// The maximum number of calls of the reader for one input.
 const CALLS: u32 = 1_048_576;
 
-/// The most bytes of one call.
+/// The maximum number of bytes per call.
 const CHUNK: usize = 4096;
 
-/// All that the reader gives.
+/// Returns everything that is left in the reader.
 ///
-/// The reader's end has to come within 1048576 calls, each for at most 4096 bytes; an interrupted
-/// call counts, and is made again. `Read` where another call fails, or the end does not come;
-/// `OutOfMemory` where there is no memory for what was read. A fault drops what was read, which the
-/// reader has lost.
+/// The reader must reach its end within 1048576 calls, each for at most 4096 bytes. An interrupted
+/// call counts, and is repeated. Returns `Read` if another call fails or the end is not reached,
+/// and `OutOfMemory` if an allocation for what was read fails. After an error, what was read is
+/// dropped and no longer in the reader.
 pub fn read_all<R: Read>(alloc: Global, reader: &mut R) -> Result<Vec<u8>, ReadFault>
     ensures ok { IfOk result (λ input. IfSome (R.remaining reader.old) (λ all. input.items ≡ all)) }
     ensures end { OnOk result (IsAtEnd (R.remaining reader.new)) }

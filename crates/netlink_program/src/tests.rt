@@ -1,4 +1,4 @@
-//! Inputs, and ends of programs.
+//! Inputs, and how programs end.
 
 mod endings;
 mod inputs;

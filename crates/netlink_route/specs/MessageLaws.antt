@@ -210,7 +210,7 @@ addresses_decide v w first second =
     )
 
 -- the types of links and addresses are apart
-types_apart : (a : LinkVerb) (b : AddressVerb) → verb_type a ≡ address_verb_type b → ⊥
+pub types_apart : (a : LinkVerb) (b : AddressVerb) → verb_type a ≡ address_verb_type b → ⊥
 types_apart a b same =
     let clash : true ≡ false =
     sym (verb_is_link a) ∙ ap is_link_type same ∙ (verb_is_address b).0 in absurd (cc)

@@ -2,8 +2,9 @@
 
 ghost use Rattle.std.specs.Prelude.{◌≡◌, ◌≤◌, false, length, None, Some, IfErr, IfOk};
 ghost use Rattle.netlink_packet_core.specs.Attribute.{value_max};
-ghost use Rattle.netlink_packet_core.specs.Nla.{attributes_of};
+ghost use Rattle.netlink_packet_core.specs.Nla.{attributes_of, FitBlock};
 ghost use Rattle.netlink_route.specs.Error.{wants_memory};
+ghost use Rattle.netlink_route.specs.declared.error.RouteError.{RouteError};
 ghost use Rattle.netlink_route.specs.Faults.{IsBlockFault, IsListFault, ValueFault};
 ghost use Rattle.netlink_route.specs.Typed.{block_reading, spelled_in, ValueReading};
 
@@ -47,6 +48,16 @@ pub fn read_block<T: RouteNla>(alloc: Global, bytes: &[u8]) -> Result<NlaBlock<T
         (λ e. wants_memory e ≡ false → IsBlockFault T.reading T.faults bytes.now e) }
 {
     let list = read_list(alloc, bytes)?;
+    fitting(list)
+}
+
+/// Returns the block of these attributes, or `TooLong` if they do not fit a message.
+fn fitting<T: Nla + Drop>(list: Vec<T>) -> Result<NlaBlock<T>, RouteError>
+    ensures ok { IfOk result
+        (λ block. (block.list ≡ list) × FitBlock T.kind_of T.value_of list.items) }
+    ensures err { IfErr result
+        (λ e. (e ≡ RouteError.TooLong) × (FitBlock T.kind_of T.value_of list.items → ⊥)) }
+{
     match NlaBlock::new(list) {
         Some(block) => Ok(block),
         None => Err(RouteError::TooLong),

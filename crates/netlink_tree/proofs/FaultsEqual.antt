@@ -1,4 +1,4 @@
--- What `==` says of faults.
+-- What `==` means for errors.
 use Rattle.std.proofs.Common.{◌≡◌, ◌↔◌, Bool, IsTrue, refl, sym, ◌∙◌}
 use Rattle.netlink_packet_core.specs.Causes.{SameCause}
 use Rattle.netlink_packet_core.specs.DecodeError.{DecodeError}
@@ -7,7 +7,8 @@ use Rattle.netlink_tree.specs.contracts.fault.TreeFaultPartialEq.TheImpl
 use Rattle.netlink_tree.specs.declared.fault.TreeFault.{TreeFault}
 use Rattle.netlink_tree.specs.declared.fault.TreeFault.TheVariants.{TooDeep, TooLong, Decode}
 
--- two faults are equal exactly if they say the same, where causes are
+-- two errors are equal if and only if nothing distinguishes them, given that this holds for
+-- `DecodeError`
 pub faults_equal : (causes : DecodeError → DecodeError → Bool)
     → ((a b : DecodeError) → IsTrue (causes a b) ↔ SameCause a b)
     → ((a b : DecodeError) → TheImpl.ghosts.eq (Decode a) (Decode b) ≡ causes a b)

@@ -1,4 +1,4 @@
--- Calls of `next` give the frames of the bytes.
+-- Calls of `next` yield the frames of the bytes.
 use Rattle.std.proofs.Common.{ℕ, List, refl, arith, Bor}
 use Rattle.std.specs.Prelude.{false}
 use Rattle.netlink_packet_core.specs.WalkItems.{ItemLaws, gives_all}
@@ -9,7 +9,7 @@ use Rattle.netlink_packet_core.specs.Refusal.{IsFrameFault}
 use Rattle.netlink_tree.specs.FrameSteps.{unread_frames, frame_steps, frame_bound, GivesFrames, ShowsFrame}
 use Rattle.netlink_tree.specs.declared.frames.Frames.{Frames}
 
--- a walk has an item for each 16 bytes at most, a part of 16 counted as a whole
+-- a walk has at most one item for each 16 bytes, counting a part of 16 as a whole
 item_laws : ItemLaws StartsFrame (IsFrameFault false) ShowsFrame unread_frames frame_steps frame_bound
 item_laws =
     record {

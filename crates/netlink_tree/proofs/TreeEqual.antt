@@ -1,4 +1,4 @@
--- What `==` says of trees.
+-- What `==` means for trees.
 use Rattle.std.proofs.Common.{◌≡◌, ◌↔◌, ℕ, Vec, Global, Bool, IsTrue, false, refl, sym, subst, ◌∙◌, ◌&&◌, ◌==◌, List, [], ◌∷◌, map}
 use Rattle.std.proofs.lemmas.Bool.{and_from, and_parts}
 use Rattle.std.proofs.lemmas.Bool.Decides.{Decides-eqb}
@@ -23,7 +23,7 @@ a_leaf k v = roll-NlaTree (NlaTree-F.Leaf k v)
 abbrev a_nest : ℕ → Vec NlaTree Global → NlaTree
 a_nest k ts = roll-NlaTree (NlaTree-F.Nest k ts)
 
--- ---- what they stand for, and whether they are equal
+-- ---- what they represent, and whether they are equal
 
 view-leaf : (k : ℕ) (v : Vec ℕ Global) → view (a_leaf k v) ≡ leaf k v.items
 view-leaf k v = fold-roll-NlaTree Tree view_step (NlaTree-F.Leaf k v)
@@ -59,7 +59,7 @@ nests k l ts us e = (cc, cc)
 abbrev pub IsSame : NlaTree → Type 0
 IsSame a = (b : NlaTree) → IsTrue (equal a b) ↔ (view a ≡ view b)
 
--- a tree of which that is known
+-- a tree for which that is known
 abbrev Known : Type 0
 Known = (t : NlaTree) × IsSame t
 
@@ -77,7 +77,7 @@ same_lists (e ∷ es) (b ∷ bs) =
       λ h. let i : view e.0 ≡ view b = cc in let j : views (plain es) ≡ views bs = cc in and_from _ _ (here.1 i) (later.1 j),
     )
 
--- two trees, one level of each, with what is inside the first known
+-- two trees compared at one level, where the trees inside the first are known
 abbrev SameLevel : NlaTree → NlaTree → Type 0
 SameLevel a b = IsTrue (unfolded a b) ↔ (view a ≡ view b)
 

@@ -1,4 +1,4 @@
--- Bytes come to one outcome.
+-- Bytes have at most one result.
 use Rattle.std.proofs.Common.{◌≡◌, ℕ, zero, suc, List, [], ◌∷◌, sym, subst, ◌∙◌, inl, inr, Option, Some, None, Result, Ok, Err}
 use Rattle.netlink_packet_core.specs.Attribute.{Attribute}
 use Rattle.netlink_packet_core.specs.DecodeError.{DecodeError}
@@ -7,11 +7,11 @@ use Rattle.netlink_tree.specs.Tree.{Tree, leaf, nest, no_trees, grow}
 use Rattle.netlink_tree.specs.Reading.{Outcome, IsRead, Along, Trees}
 use Rattle.netlink_tree.specs.declared.fault.TreeFault.{TreeFault}
 
--- bytes walk in one way
+-- bytes have at most one walk
 abbrev pub WalksOnce : Type 0
 WalksOnce = (bytes : List ℕ) (a b : List Attribute) (f g : Option DecodeError) → Walk bytes a f → Walk bytes b g → (a ≡ b) × (f ≡ g)
 
--- what is inside comes to one outcome
+-- what is inside has at most one result
 abbrev pub ComesOnce : (List ℕ → Outcome → Type 0) → Type 0
 ComesOnce Inside = (v : List ℕ) (r s : Outcome) → Inside v r → Inside v s → r ≡ s
 

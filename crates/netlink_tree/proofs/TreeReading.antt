@@ -1,4 +1,4 @@
--- What a reading comes to, from its parts.
+-- The result of reading, from its parts.
 use Rattle.std.proofs.Common.{◌≡◌, ◌≢◌, ◌⊎◌, ℕ, zero, suc, ◌-◌, List, [], ◌∷◌, ◌++◌, length, refl, sym, ap, subst, ◌∙◌, inl, inr, arith, Option, Some, None, Result, Ok, Err, Vec, Global, IfOk, MatchResult, append-nil}
 use Rattle.netlink_packet_core.specs.Attribute.{Attribute}
 use Rattle.netlink_packet_core.specs.DecodeError.{DecodeError}
@@ -13,9 +13,9 @@ use Rattle.netlink_tree.specs.declared.fault.TreeFault.TheVariants.{TooDeep, Dec
 use Rattle.netlink_tree.specs.declared.tree.NlaTree.{NlaTree}
 use Rattle.netlink_tree.proofs.TreeViews.{grown}
 
--- ---- what they come to
+-- ---- the result for attributes
 
--- these attributes come to these trees
+-- these attributes are read as these trees
 abbrev pub AreRead : (List ℕ → Outcome → Type 0) → List Attribute → Forest → Type 0
 AreRead Inside [] ts = ts ≡ no_trees
 AreRead Inside (a ∷ done) no_trees = ⊥
@@ -34,29 +34,29 @@ along_done Inside [] ts r = ap Ok r
 along_done Inside (a ∷ done) no_trees r = absurd r
 along_done Inside (a ∷ done) (grow t ts) r = (r.0, along_done Inside done ts r.1)
 
--- a fault behind attributes that were read
+-- an error after attributes that were read
 along_fault : (Inside : List ℕ → Outcome → Type 0) (done more : List Attribute) (ts : Forest) (fault : Option DecodeError) (e : TreeFault)
     → AreRead Inside done ts → Along Inside more fault (Err e) → Along Inside (done ++ more) fault (Err e)
 along_fault Inside [] more ts fault e r along = along
 along_fault Inside (a ∷ done) more no_trees fault e r along = absurd r
 along_fault Inside (a ∷ done) more (grow t ts) fault e r along = inr (t, r.0, along_fault Inside done more ts fault e r.1 along)
 
--- ---- what a block comes to
+-- ---- the result for a block
 
--- no bytes, at any level
+-- for no bytes, at any level
 pub trees_none : (n : ℕ) (bytes : List ℕ) (ts : List NlaTree) → length bytes ≡ 0 → ts ≡ [] → Trees n bytes (Ok (views ts))
 unfolding Trees
 trees_none zero [] ts none bare = inl (refl, ap (λ (x : List NlaTree). Ok (views x)) bare)
 trees_none (suc n) [] ts none bare = ([], None, refl, ap (λ (x : List NlaTree). Ok (views x)) bare)
 trees_none n (b ∷ bytes) ts none bare = absurd (omega arith)
 
--- some, where no attribute may stand
+-- for some bytes, where no attribute is allowed
 pub trees_deep : (n : ℕ) (bytes : List ℕ) → n ≡ 0 → length bytes ≢ 0 → Trees n bytes (Err TooDeep)
 unfolding Trees
 trees_deep zero bytes least some = inr (λ none. some (ap length none), refl)
 trees_deep (suc n) bytes least some = absurd (omega arith)
 
--- a walk, and what its attributes come to
+-- from a walk, and the result for its attributes
 trees_of : (n : ℕ) (bytes : List ℕ) (all : List Attribute) (fault : Option DecodeError) (outcome : Outcome) → n ≢ 0 → Walk bytes all fault
     → Along (Trees (n - 1)) all fault outcome → Trees n bytes outcome
 unfolding Trees
@@ -65,7 +65,7 @@ trees_of (suc n) bytes all fault outcome some walk along =
     let one : suc n - 1 ≡ n = omega arith in
     (all, fault, walk, subst (λ (k : ℕ). Along (Trees k) all fault outcome) one along)
 
--- the end of the walk
+-- at the end of the walk
 pub trees_end : (n : ℕ) (bytes : List ℕ) (done : List Attribute) (rest : List ℕ) (ts : Forest) → n ≢ 0 → Passes bytes done rest → rest ≡ []
     → AreRead (Trees (n - 1)) done ts → Trees n bytes (Ok ts)
 trees_end n bytes done rest ts some passes none are =
@@ -73,17 +73,17 @@ trees_end n bytes done rest ts some passes none are =
     (subst (λ (all : List Attribute). Along (Trees (n - 1)) all None (Ok ts)) (sym (append-nil done))
     (along_done (Trees (n - 1)) done ts are))
 
--- what a proof of these cases needs
+-- what a proof about these cases needs
 pub ruleset block_ends = (trees_none, trees_deep, trees_end)
 
--- its fault
+-- at the error of the walk
 pub trees_fault : (n : ℕ) (bytes : List ℕ) (done : List Attribute) (rest : List ℕ) (ts : Forest) (e : DecodeError) → n ≢ 0
     → Passes bytes done rest → rest ≢ [] → IsFault rest e → AreRead (Trees (n - 1)) done ts → Trees n bytes (Err (Decode e))
 trees_fault n bytes done rest ts e some passes left is are =
     trees_of n bytes _ (Some e) (Err (Decode e)) some (passes_walks bytes done rest [] (Some e) passes (left, is))
     (along_fault (Trees (n - 1)) done [] ts (Some e) (Decode e) are refl)
 
--- a fault inside an attribute, or want of memory; what stands behind the attribute walks somehow
+-- at an error inside an attribute, or `OutOfMemory`; what follows the attribute has some walk
 pub trees_inside : (n : ℕ) (bytes : List ℕ) (done : List Attribute) (middle : List ℕ) (a : Attribute) (rest : List ℕ) (ts : Forest)
     (e : TreeFault) → n ≢ 0 → Passes bytes done middle → Starts middle a rest
     → (later : (all : List Attribute) × (fault : Option DecodeError) × Walk rest all fault)

@@ -1,4 +1,4 @@
--- Every byte list comes to an outcome.
+-- Every byte list has a result.
 use Rattle.std.proofs.Common.{◌≡◌, ℕ, zero, suc, ◌+◌, List, [], ◌∷◌, ◌++◌, drop, Bool, true, false, refl, ap, ◌∙◌, inl, inr, arith, Option, Some, None, Result, Ok, Err}
 use Rattle.std.proofs.lemmas.List.{get_or-drop}
 use Rattle.netlink_packet_core.specs.Attribute.{Attribute, attribute_bytes}
@@ -12,15 +12,15 @@ use Rattle.netlink_tree.specs.Reading.{Outcome, IsRead, Along, Trees}
 use Rattle.netlink_tree.specs.declared.fault.TreeFault.{TreeFault}
 use Rattle.netlink_tree.specs.declared.fault.TreeFault.TheVariants.{TooDeep, Decode}
 
--- every byte list walks
+-- every byte list has a walk
 abbrev pub Walks : Type 0
 Walks = (bytes : List ℕ) → IsBytes bytes → (all : List Attribute) × (fault : Option DecodeError) × Walk bytes all fault
 
--- every value comes to an outcome
+-- every value has a result
 abbrev Comes : (List ℕ → Outcome → Type 0) → Type 0
 Comes Inside = (v : List ℕ) → IsBytes v → (outcome : Outcome) × Inside v outcome
 
--- the beginning of bytes is of bytes
+-- the start of a list of bytes is a list of bytes
 front_bytes : (v more : List ℕ) → IsBytes (v ++ more) → IsBytes v
 front_bytes [] more each i = omega arith
 front_bytes (x ∷ v) more each zero = each 0
@@ -35,7 +35,7 @@ value_bytes bytes a rest starts each = front_bytes a.value (starts.gap ++ rest) 
     let behind : drop 4 bytes ≡ a.value ++ (starts.gap ++ rest) = ap (drop 4) starts.whole ∙ behind_header a (starts.gap ++ rest) in
     rw (← behind, get_or-drop) (each (4 + i)))
 
--- an attribute comes to a tree, or to a fault inside
+-- an attribute is read as a tree, or has an error inside
 read_some : (Inside : List ℕ → Outcome → Type 0) → Comes Inside → (a : Attribute) → IsBytes a.value
     → (r : Result Tree TreeFault) × IsRead Inside a r
 read_some Inside comes a each = by_flag (is_nested a.kind) refl
@@ -48,7 +48,7 @@ read_some Inside comes a each = by_flag (is_nested a.kind) refl
         by_outcome (Ok ts, inside) = (Ok (nest a.kind ts), (is, refl, inside))
         by_outcome (Err e, inside) = (Err e, (is, inside))
 
--- and so does what follows it
+-- and with the result for what follows it, this gives a result for both
 joined : (Inside : List ℕ → Outcome → Type 0) (a : Attribute) (more : List Attribute) (fault : Option DecodeError)
     → (r : Result Tree TreeFault) × IsRead Inside a r → (behind : Outcome) × Along Inside more fault behind
     → (outcome : Outcome) × Along Inside (a ∷ more) fault outcome

@@ -1,4 +1,4 @@
--- What is written is read, and what is read is written.
+-- What is written is read back, and what is read is written back.
 use Rattle.std.proofs.Common.{◌≡◌, ◌↔◌, ℕ, zero, suc, ◌<◌, ◌≤◌, ◌^◌, false, nat_lt, List, [], ◌∷◌, length, refl, sym, ap, subst, ◌∙◌, inl, inr, Option, Some, None, Result, Ok, Err, Vec, Global, OnOk, IfOk, MatchResult, All, Contains, arith}
 use Rattle.std.proofs.lemmas.List.Elements.{All-nil, All-cons, All-head, All-tail, All-weaker, All-contains_itself}
 use Rattle.netlink_packet_core.specs.Attribute.{Attribute, FitsAttribute, value_max}
@@ -15,11 +15,11 @@ use Rattle.netlink_tree.proofs.TreeOnce.{WalksOnce}
 use Rattle.netlink_tree.proofs.TreeReading.{trees_formed}
 use Rattle.netlink_tree.proofs.TreeWriting.{IsDeep, neither, forest_fits, block_bytes, block_fits, text_deep, writing_ok, writing_is}
 
--- what is written of attributes walks as them
+-- walking the encoding of attributes yields them
 abbrev pub WalksBack : Type 0
 WalksBack = (all : List Attribute) → All FitsAttribute all → Walk (canonical_block all) all None
 
--- ---- what is written is read
+-- ---- what is written is read back
 
 mutual
   unfolding Trees
@@ -61,7 +61,7 @@ read_back walks ts text formed range e =
     let parts = writing_ok ts text e in
     subst (λ (b : List ℕ). Trees 16 b (Ok ts)) parts.2 (trees_back walks ts 15 parts.0 formed range parts.1)
 
--- ---- what is read is written
+-- ---- what is read is written back
 
 walk_fits : (bytes : List ℕ) (all : List Attribute) (fault : Option DecodeError) → Walk bytes all fault → All FitsAttribute all
 walk_fits bytes [] fault walk = All-nil FitsAttribute
@@ -73,7 +73,7 @@ attribute_is a k v e₁ e₂ = ap (λ (x : ℕ). record { kind = x; value = v })
 not_long : (v w : List ℕ) → v ≡ w → length w ≤ value_max → is_long v ≡ false
 not_long v w e fits = rw e (grind arith)
 
--- what is canonical at every depth reads as trees that are written as it
+-- bytes that are canonical at every depth read as trees that are written as them
 abbrev IsWrittenAs : Forest → List ℕ → Type 0
 IsWrittenAs ts bytes = (tree_bytes ts ≡ bytes) × (are_too_long ts ≡ false)
 

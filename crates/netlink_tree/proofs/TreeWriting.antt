@@ -1,4 +1,4 @@
--- What trees are written as.
+-- The encoding of trees.
 use Rattle.std.proofs.Common.{◌≡◌, ℕ, suc, ◌+◌, ◌-◌, ◌%◌, ◌≤◌, Bool, true, false, nat_lt, ◌||◌, if◌then◌else◌, List, [], ◌∷◌, ◌++◌, length, take, drop, refl, sym, ap, ◌∙◌, Ok, Err, All, arith, append-nil, append_assoc, length-append}
 use Rattle.std.proofs.lemmas.Grind.{common_steps}
 use Rattle.std.proofs.lemmas.List.Elements.{All-nil, All-cons, All-head, All-tail, All-contains}
@@ -21,10 +21,10 @@ neither false b e = (refl, e)
 short : (v : List ℕ) → is_long v ≡ false → length v ≤ value_max
 short v e = grind arith
 
--- what a proof of a size needs
+-- what a proof about a size needs
 pub ruleset text_sizes = (common_steps, length-canonical_block)
 
--- ---- a nest whose size is counted once its inside is there
+-- ---- a nest whose size is written after what is inside
 
 text_aligned : (ts : Forest) → length (tree_bytes ts) % 4 ≡ 0
 text_aligned no_trees = refl
@@ -106,11 +106,11 @@ block_fits bytes (a ∷ more) (rest, fits, whole, block) = All-cons FitsAttribut
 
 -- ---- canonical at every depth
 
--- the value, where it holds attributes
+-- the value is canonical at every depth, if it holds attributes
 abbrev pub IsDeep : Attribute → Type 0
 IsDeep a = is_nested a.kind ≡ true → IsCanonicalDeep a.value
 
--- a block is so, where its attributes are
+-- a block is canonical at every depth if its attributes are
 block_deep : (all : List Attribute) → All FitsAttribute all → All IsDeep all → IsCanonicalDeep (canonical_block all)
 block_deep all fit each = deep (canonical_block all) all (written_block all fit) (λ a inside. All-contains IsDeep all a each inside)
 
@@ -130,7 +130,7 @@ mutual
 pub text_deep : (ts : Forest) → AreWellFormed ts → TreesInRange ts → are_too_long ts ≡ false → IsCanonicalDeep (tree_bytes ts)
 text_deep ts formed range fit = block_deep (attributes_of ts) (forest_fits ts range fit) (forest_deep ts formed range fit)
 
--- ---- what the writing comes to
+-- ---- the result of writing
 
 chosen : (d l : Bool) (t text : List ℕ) → (if d then Err TooDeep else if l then Err TooLong else Ok t) ≡ Ok text
     → (d ≡ false) × (l ≡ false) × (t ≡ text)

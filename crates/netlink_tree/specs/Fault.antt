@@ -1,4 +1,4 @@
--- The text of a fault, and which two say the same.
+-- The text of an error, and when two errors are the same.
 use Rattle.std.specs.Prelude.{ℕ, List, ◌++◌, codes, decimal}
 use Rattle.netlink_packet_core.specs.Attribute.{value_max}
 use Rattle.netlink_packet_core.specs.Causes.{SameCause, cause_text}
@@ -11,7 +11,7 @@ fault_text TooLong =
     codes "the value of an attribute is longer than " ++ (decimal value_max ++ codes " bytes")
 fault_text (Decode cause) = cause_text cause
 
--- two faults that nobody can tell apart
+-- two errors that nothing distinguishes
 abbrev pub SameFault : TreeFault → TreeFault → Type 0
 SameFault TooDeep TooDeep = Unit {0}
 SameFault TooLong TooLong = Unit {0}

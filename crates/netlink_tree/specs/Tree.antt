@@ -1,11 +1,11 @@
--- Attributes nested in one another, and what an `NlaTree` stands for.
+-- Attributes nested in one another, and what an `NlaTree` represents.
 use Rattle.std.specs.Prelude.{ℕ, ◌+◌, ◌<◌, ◌^◌, ◌≡◌, max, true, false, List, [], ◌∷◌, map, ⊤}
 use Rattle.netlink_packet_core.specs.Views.{is_nested}
 use Rattle.netlink_tree.specs.declared.tree.NlaTree.{NlaTree}
 use Rattle.netlink_tree.specs.declared.tree.NlaTree.TheOpen.{NlaTree-F}
 use Rattle.netlink_tree.specs.declared.tree.NlaTree.TheFolds.{fold-NlaTree}
 
--- an attribute with a value of its own, or with attributes inside; and attributes one after another
+-- an attribute with a value, or with attributes inside; and attributes one after another
 mutual
   pub data Tree : Type 0 where
     leaf : ℕ → List ℕ → Tree
@@ -20,12 +20,12 @@ abbrev pub forest : List Tree → Forest
 forest [] = no_trees
 forest (t ∷ ts) = grow t (forest ts)
 
--- one level of what a value stands for, where that of what is inside is known
+-- one level of what a value represents, given that of what is inside
 abbrev pub view_step : NlaTree-F Tree → Tree
 view_step (NlaTree-F.Leaf kind value) = leaf kind value.items
 view_step (NlaTree-F.Nest kind children) = nest kind (forest children.items)
 
--- the tree that a value stands for
+-- the tree that a value represents
 abbrev pub view : NlaTree → Tree
 view = fold-NlaTree Tree view_step
 
@@ -33,7 +33,7 @@ abbrev pub views : List NlaTree → Forest
 views ts = forest (map view ts)
 
 abbrev mutual
-  -- the kinds of leaves are without the bit of nested attributes, those of nests have it
+  -- the kinds of leaves lack the bit `NLA_F_NESTED`, and those of nests have it
   pub IsWellFormed : Tree → Type 0
   IsWellFormed (leaf kind value) = is_nested kind ≡ false
   IsWellFormed (nest kind children) = (is_nested kind ≡ true) × AreWellFormed children
@@ -43,7 +43,7 @@ abbrev mutual
   AreWellFormed (grow t ts) = IsWellFormed t × AreWellFormed ts
 
 abbrev mutual
-  -- kinds have 16 bits
+  -- kinds fit in 16 bits
   pub TreeInRange : Tree → Type 0
   TreeInRange (leaf kind value) = kind < 2 ^ 16
   TreeInRange (nest kind children) = (kind < 2 ^ 16) × TreesInRange children
@@ -53,7 +53,7 @@ abbrev mutual
   TreesInRange (grow t ts) = TreeInRange t × TreesInRange ts
 
 abbrev mutual
-  -- how many levels of attributes there are, inside a tree and of trees
+  -- the number of levels of attributes, inside a tree and in trees
   pub levels_inside : Tree → ℕ
   levels_inside (leaf kind value) = 0
   levels_inside (nest kind children) = levels children

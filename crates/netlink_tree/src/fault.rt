@@ -1,4 +1,4 @@
-//! Why trees are not read, or not written.
+//! Why trees cannot be read or written.
 
 ghost use Rattle.std.specs.Prelude.{◌≡◌};
 ghost use Rattle.netlink_tree.specs.Fault.{fault_text};
@@ -8,15 +8,15 @@ use std::alloc::{AllocError, AllocFailed};
 use std::error::Error;
 use std::fmt;
 
-/// Why trees are not read, or not written. Only a `Decode` holds memory.
+/// Why trees cannot be read or written. Only `Decode` owns memory.
 #[derive(Debug, Drop, PartialEq, Eq)]
 pub enum TreeFault {
-    /// Something stands deeper than 16, where the outer attributes have depth 1.
+    /// Something is nested deeper than 16, where the outer attributes have depth 1.
     TooDeep,
-    /// A value, or the block inside a nest as it is written, is above `NLA_VALUE_MAX` bytes.
+    /// A value, or the encoded block inside a nest, has more than `NLA_VALUE_MAX` bytes.
     TooLong,
-    /// Bytes are no attributes (`NlaBufferTooSmall`, `NlaLengthMismatch` or `NlaInvalidLength`), or
-    /// a request for memory was refused (`OutOfMemory`).
+    /// Bytes are not attributes (`NlaBufferTooSmall`, `NlaLengthMismatch` or `NlaInvalidLength`),
+    /// or an allocation failed (`OutOfMemory`).
     Decode(DecodeError),
 }
 
@@ -46,7 +46,7 @@ impl From<DecodeError> for TreeFault {
 
     ghost from_gives = { λ cause fault. fault ≡ Decode cause };
 
-    /// A `Decode` of it.
+    /// Returns `Decode` with this error.
     fn from(refusal: DecodeError) -> Self {
         TreeFault::Decode(refusal)
     }
@@ -58,7 +58,7 @@ impl From<AllocError> for TreeFault {
 
     ghost from_gives = { λ _ fault. fault ≡ Decode OutOfMemory };
 
-    /// A `Decode` of `OutOfMemory`, so that `?` hands on a refused request for memory.
+    /// Returns `Decode` with `OutOfMemory`, so that `?` propagates a failed allocation.
     fn from(_refused: AllocError) -> Self {
         TreeFault::Decode(DecodeError::OutOfMemory)
     }
@@ -70,7 +70,7 @@ impl<T: Drop> From<AllocFailed<T>> for TreeFault {
 
     ghost from_gives = { λ _ fault. fault ≡ Decode OutOfMemory };
 
-    /// The same where a value found no room; the value is given up.
+    /// Returns `Decode` with `OutOfMemory`, and drops the value for which there was no room.
     fn from(_refused: AllocFailed<T>) -> Self {
         TreeFault::from(AllocError)
     }

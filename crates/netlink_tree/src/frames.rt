@@ -1,6 +1,6 @@
 //! The frames of a datagram, one after another.
 
-ghost use Rattle.std.specs.Prelude.{◌≡◌, ◌+◌, ◌%◌, ◌^◌, ◌<◌, ◌≤◌, ◌++◌, ◌⊎◌, ◌∷◌, [], List, ℕ, None, false, IfErr, IfOk, IsOk, OnErr, OnOk, Option, length, replicate, vec_len, vec_capacity};
+ghost use Rattle.std.specs.Prelude.{◌≡◌, ◌+◌, ◌%◌, ◌^◌, ◌<◌, ◌≤◌, ◌++◌, ◌⊎◌, ◌∷◌, [], List, ℕ, None, false, IfErr, IfOk, IsOk, OnErr, OnOk, Option, length, vec_len, vec_capacity};
 ghost use Rattle.std.specs.Iterator.{at_most};
 ghost use Rattle.netlink_packet_core.specs.DecodeError.{DecodeError};
 ghost use Rattle.netlink_packet_core.specs.Header.{field, HoldsFrame};
@@ -8,21 +8,21 @@ ghost use Rattle.netlink_packet_core.specs.Refusal.{IsFrameFault};
 ghost use Rattle.netlink_tree.specs.FrameSteps.{unread_frames, frame_steps, frame_bound, GivesFrames};
 ghost use Rattle.netlink_packet_core.specs.FrameWalk.{StartsFrame, FrameWalk, frame_of, padded_frame};
 
-use netlink_packet_core::{DecodeError, NetlinkBuffer, nlmsg_align};
-use std::alloc::{AllocError, Global};
+use netlink_packet_core::{DecodeError, NetlinkBuffer, append_padding, nlmsg_align};
+use std::alloc::Global;
 
-/// The frames of a datagram in order. An error (`FrameShort`, `FrameCut` or `FrameLength`) is the
-/// last item, and `None` comes for good behind it.
+/// An iterator over the frames of a datagram, in order. An error (`FrameShort`, `FrameCut` or
+/// `FrameLength`) is the last item; from then on, `next` returns `None`.
 ///
-/// An item is a frame without its padding, which `NetlinkBuffer::new_checked` accepts. Two are
-/// equal exactly if the bytes still to be walked are. No call asks for memory.
+/// An item is a frame without its padding, which `NetlinkBuffer::new_checked` accepts. Two
+/// iterators are equal if and only if the bytes still to be walked are equal. No method allocates.
 #[derive(Clone, Copy, Debug, PartialEq, Eq)]
 pub struct Frames<T> {
     rest: T,
 }
 
 impl<'a> Frames<&'a [u8]> {
-    /// A walk of this datagram.
+    /// Returns an iterator over the frames of `buffer`.
     #[inline]
     pub fn new(buffer: &'a [u8]) -> Self
         ensures keeps { unread_frames result ≡ buffer.now }
@@ -58,11 +58,10 @@ impl<'a> Iterator for Frames<&'a [u8]> {
     }
 }
 
-/// The fault that the frames of a datagram end with (`FrameShort`, `FrameCut` or `FrameLength`), or
-/// `None` where they end without one.
+/// Returns the error that ends the walk of a datagram (`FrameShort`, `FrameCut` or `FrameLength`),
+/// or `None` if the walk ends without one.
 ///
-/// So `None` says that the bytes are frames from their first byte to their last. Asks for no
-/// memory.
+/// So `None` means that the bytes are frames from the first byte to the last. Does not allocate.
 pub fn frames_fault(datagram: &[u8]) -> Option<DecodeError>
     ensures fault { (all : List (List ℕ)) × FrameWalk datagram.now all result }
     ensures each { (all : List (List ℕ)) (fault : Option DecodeError)
@@ -77,7 +76,7 @@ pub fn frames_fault(datagram: &[u8]) -> Option<DecodeError>
     None
 }
 
-/// The frame that the bytes start with, or their fault.
+/// Returns the frame that the bytes start with, or the error if they hold no complete frame.
 #[inline(always)]
 fn first_frame(bytes: &[u8]) -> Result<&[u8], DecodeError>
     ensures whole { OnOk result (HoldsFrame bytes.now) }
@@ -90,7 +89,8 @@ fn first_frame(bytes: &[u8]) -> Result<&[u8], DecodeError>
     Ok(&bytes[..size])
 }
 
-/// What stands behind the frame that the bytes start with and its padding.
+/// Returns what follows the frame that the bytes start with, and its padding. Requires that the
+/// bytes hold a complete frame, and that `size` is its length field and less than 2^32.
 #[inline(always)]
 fn behind_frame(bytes: &[u8], size: usize) -> &[u8]
     requires whole { HoldsFrame bytes.now }
@@ -107,14 +107,14 @@ fn behind_frame(bytes: &[u8], size: usize) -> &[u8]
     }
 }
 
-/// Adds a frame at the end of a datagram, with its padding of zeros. The datagram's size in bytes
-/// has to be a multiple of 4, as it is where it is empty and behind each call.
+/// Appends a frame to a datagram, padded with zeros. Requires that the size of the datagram in
+/// bytes is a multiple of 4, as it is if the datagram is empty and after each call.
 ///
-/// Of `frame` the first `length` bytes are added, and nothing past them. Bytes that
-/// `NetlinkBuffer::new_checked` refuses are answered by the same error (`FrameShort`, `FrameCut` or
-/// `FrameLength`) without a request for memory. Where the datagram has room the answer is Ok;
-/// otherwise its own allocator is asked, and where that refuses the answer is `OutOfMemory`. An
-/// error leaves the datagram as it was.
+/// Appends the first `length` bytes of `frame`, and ignores what follows them. Returns the error of
+/// `NetlinkBuffer::new_checked` (`FrameShort`, `FrameCut` or `FrameLength`), without allocating, if
+/// `frame` holds no complete frame. Returns `Ok` if the datagram has room. Otherwise allocates with
+/// the datagram's own allocator, and returns `OutOfMemory` if that fails. After an error, the
+/// datagram is unchanged.
 pub fn append_frame(_alloc: Global, datagram: &mut Vec<u8>, frame: &[u8]) -> Result<(), DecodeError>
     requires aligned { length datagram.old.items % 4 ≡ 0 }
     ensures whole { OnOk result (HoldsFrame frame.now) }
@@ -128,7 +128,7 @@ pub fn append_frame(_alloc: Global, datagram: &mut Vec<u8>, frame: &[u8]) -> Res
         → vec_len datagram.old + length (padded_frame (frame_of frame.now))
         ≤ vec_capacity datagram.old → IsOk result }
 
-    // what the datagram is then, to those that walk it or add to it
+    // what the datagram is then, for those who walk it or append to it
     ensures walk { OnOk result
         ((all : List (List ℕ)) → FrameWalk datagram.old.items all None
         → FrameWalk datagram.new.items (all ++ (frame_of frame.now ∷ [])) None) }
@@ -138,21 +138,6 @@ pub fn append_frame(_alloc: Global, datagram: &mut Vec<u8>, frame: &[u8]) -> Res
     let whole = nlmsg_align(text.len());
     datagram.reserve(whole)?;
     datagram.extend_from_slice(text)?;
-    append_zeros(datagram, whole - text.len())?;
+    append_padding(datagram, whole - text.len())?;
     Ok(())
-}
-
-/// Adds fewer than 4 zeros, each number of them by a copy of a fixed size.
-#[inline(always)]
-fn append_zeros(datagram: &mut Vec<u8>, count: usize) -> Result<(), AllocError>
-    requires { count < 4 }
-    ensures ok { OnOk result (datagram.new.items ≡ datagram.old.items ++ replicate count 0) }
-    ensures room { vec_len datagram.old + count ≤ vec_capacity datagram.old → IsOk result }
-{
-    match count {
-        0 => Ok(()),
-        1 => datagram.extend_from_slice(&[0]),
-        2 => datagram.extend_from_slice(&[0, 0]),
-        _ => datagram.extend_from_slice(&[0, 0, 0]),
-    }
 }

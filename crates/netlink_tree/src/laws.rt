@@ -1,4 +1,5 @@
-//! Laws over the definitions alone: each has no effect, and its contract is the law.
+//! Laws about the definitions alone. Calling a law does nothing at run time: its contract is the
+//! theorem.
 
 ghost use Rattle.std.specs.Prelude.{◌≡◌, ◌↔◌, ℕ, List, [], Option, None, Ok, All, IsTrue};
 ghost use denote.Ref.{Bor};
@@ -19,50 +20,51 @@ use crate::fault::TreeFault;
 use crate::frames::Frames;
 use netlink_packet_core::laws::{causes_equal, walk_total, walk_unique, written_walks};
 
-/// Every byte list is frames one after another, and then nothing or one fault.
+/// States that walking any byte list yields frames, and then the end or one error.
 pub fn frames_total()
     ensures exists { (bytes : List ℕ)
         → (all : List (List ℕ)) × (fault : Option DecodeError) × FrameWalk bytes all fault }
 {}
 
-/// Every byte list is so in one way: frames, and then nothing or one fault.
+/// States that a byte list has only one walk: the same frames, and then the end or the same error.
 pub fn frames_unique()
     ensures unique { (bytes : List ℕ) (a b : List (List ℕ)) (f g : Option DecodeError)
         → FrameWalk bytes a f → FrameWalk bytes b g → (a ≡ b) × (f ≡ g) }
 {}
 
-/// From any iterator, calls of `next` give exactly the frames of the bytes that are unread.
+/// States that calls of `next` on any iterator yield exactly the walk of its unread bytes.
 pub fn frames_given()
     ensures given { (walk : Frames (Bor (List ℕ))) → GivesFrames walk }
 {}
 
-/// Each frame of a datagram holds itself whole: `NetlinkBuffer::new_checked` accepts it.
+/// States that each frame of a datagram is complete: `NetlinkBuffer::new_checked` accepts it.
 pub fn frames_hold()
     ensures holds { (bytes : List ℕ) (all : List (List ℕ)) (fault : Option DecodeError)
         → FrameWalk bytes all fault → All HoldsFrame all }
 {}
 
-/// With nothing unread, as behind an error, `next` gives `None` for good.
+/// States that `next` returns `None` from then on if nothing is unread, as after an error.
 pub fn frames_stop()
     ensures stops { (item : Option FrameItem) (rest : List ℕ) → GivesFrame [] item rest
         → (item ≡ None) × (rest ≡ []) }
 {}
 
-/// Two walks are equal exactly if the bytes still to be walked are.
+/// States that two iterators are equal if and only if the bytes still to be walked are.
 pub fn frames_equal()
     ensures equal { (a b : Frames (Bor (List ℕ)))
         → IsTrue (⟦<Frames<&'static [u8]> as PartialEq>⟧.eq a b)
         ↔ (unread_frames a ≡ unread_frames b) }
 {}
 
-/// Two faults are equal exactly if they are the same variant, and hold equal causes.
+/// States that two errors are equal if and only if they are the same variant and, for `Decode`,
+/// hold equal errors.
 pub fn faults_equal()
     ensures equal { (a b : TreeFault) → IsTrue (⟦<TreeFault as PartialEq>⟧.eq a b) ↔ SameFault a b }
 {
     causes_equal()
 }
 
-/// Every byte list comes to trees or a fault, however many levels are allowed.
+/// States that any byte list reads as trees or has an error, whatever number of levels is allowed.
 pub fn trees_total()
     ensures exists { (levels : ℕ) (bytes : List ℕ) → IsBytes bytes
         → (outcome : Outcome) × Trees levels bytes outcome }
@@ -70,7 +72,7 @@ pub fn trees_total()
     walk_total()
 }
 
-/// Bytes come to one outcome only, however many levels are allowed.
+/// States that bytes have only one result, whatever number of levels is allowed.
 pub fn trees_unique()
     ensures unique { (levels : ℕ) (bytes : List ℕ) (r s : Outcome) → Trees levels bytes r
         → Trees levels bytes s → r ≡ s }
@@ -78,7 +80,8 @@ pub fn trees_unique()
     walk_unique()
 }
 
-/// What is written of well-formed trees reads as the same trees.
+/// States that the encoding of well-formed trees, with kinds that fit in 16 bits, reads back as the
+/// same trees.
 pub fn trees_read_back()
     ensures back { (ts : Forest) (text : List ℕ) → AreWellFormed ts → TreesInRange ts
         → writing ts ≡ Ok text → Trees 16 text (Ok ts) }
@@ -86,7 +89,8 @@ pub fn trees_read_back()
     written_walks()
 }
 
-/// What was read is written as it was exactly if it is canonical at every depth.
+/// States that trees that were read from bytes are written as the same bytes if and only if these
+/// are canonical at every depth.
 pub fn trees_write_back()
     ensures unchanged { (bytes : List ℕ) (ts : Forest) → Trees 16 bytes (Ok ts)
         → (writing ts ≡ Ok bytes) ↔ IsCanonicalDeep bytes }
@@ -95,7 +99,8 @@ pub fn trees_write_back()
     written_walks();
 }
 
-/// Trees are equal, by `==`, exactly if they have the same shape, kinds and values.
+/// States that two trees are equal, by `==`, if and only if they have the same shape, kinds and
+/// values.
 pub fn trees_equal()
     ensures equal { (a b : NlaTree)
         → IsTrue (⟦<crate::NlaTree as PartialEq>⟧.eq a b) ↔ (view a ≡ view b) }

@@ -1,4 +1,4 @@
-//! Above the messages of one frame: datagrams of many frames, and trees of nested attributes.
+//! Datagrams of many frames, and trees of nested attributes.
 //!
 //! Proved from the public contracts and the specs of `netlink_packet_core` alone.
 #![tactic(auto)]

@@ -1,4 +1,4 @@
-//! Bytes read as trees.
+//! Reading bytes as trees.
 
 ghost use Rattle.std.specs.Prelude.{◌≡◌, ◌⊎◌, [], Ok, Err, MatchResult, IfOk, IsOk};
 ghost use Rattle.netlink_packet_core.specs.DecodeError.{DecodeError};
@@ -12,14 +12,15 @@ use netlink_packet_core::laws::walk_total;
 use netlink_packet_core::{NlaBuffer, NlasIterator, copy_of};
 use std::alloc::Global;
 
-/// The trees of a block: an attribute whose kind has the bit `NLA_F_NESTED` is a nest of the block
-/// that is its value, any other is a leaf.
+/// Returns the trees of a block: an attribute whose kind has the bit `NLA_F_NESTED` is a nest of
+/// the block that is its value, and any other attribute is a leaf.
 ///
-/// The attributes of the outer block have depth 1. A block of depth 17 that is not empty is
-/// `TooDeep`, whatever it holds; what is no attribute is a `Decode` of the walk's fault
-/// (`NlaBufferTooSmall`, `NlaLengthMismatch` or `NlaInvalidLength`). The first fault in reading
-/// order is answered, where the inside of an attribute is read before the next one. `Decode` of
-/// `OutOfMemory` says that a request for memory was refused; an empty input asks for none.
+/// The attributes of the outer block have depth 1. Returns `TooDeep` for a nonempty block at depth
+/// 17, whatever it holds, and `Decode` with the error that ends the walk (`NlaBufferTooSmall`,
+/// `NlaLengthMismatch` or `NlaInvalidLength`) for bytes that are not attributes. Returns the first
+/// error in reading order, in which the inside of an attribute comes before the next attribute.
+/// Returns `Decode` with `OutOfMemory` if an allocation fails. Does not allocate if `bytes` is
+/// empty.
 pub fn read_tree(alloc: Global, bytes: &[u8]) -> Result<Vec<NlaTree>, TreeFault>
     ensures trees { MatchResult result
         (λ ts. Trees 16 bytes.now (Ok (views ts.items)))
@@ -30,7 +31,7 @@ pub fn read_tree(alloc: Global, bytes: &[u8]) -> Result<Vec<NlaTree>, TreeFault>
     read_block(alloc, bytes, GREATEST_DEPTH)
 }
 
-/// The trees of a block whose attributes may stand so many levels deep.
+/// Returns the trees of a block in which attributes may be nested to a depth of `levels`.
 #[tactic(auto, using(crate::proofs::TreeReading::block_ends))]
 #[cycle(reading)]
 fn read_block(alloc: Global, bytes: &[u8], levels: usize) -> Result<Vec<NlaTree>, TreeFault>
@@ -54,7 +55,8 @@ fn read_block(alloc: Global, bytes: &[u8], levels: usize) -> Result<Vec<NlaTree>
     Ok(trees)
 }
 
-/// An attribute as a tree, inside which attributes may stand so many levels deep.
+/// Returns an attribute as a tree, inside which attributes may be nested to a depth of `levels`.
+/// Requires a view over a complete attribute.
 #[cycle(reading)]
 fn read_attribute(alloc: Global, nla: NlaBuffer<&[u8]>, levels: usize) -> Result<NlaTree, TreeFault>
     requires { HoldsAttribute (shown nla) }

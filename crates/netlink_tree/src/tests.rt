@@ -1,4 +1,4 @@
-//! Worked rows of each public call.
+//! Test cases for each public function.
 
 mod frames;
 mod trees;

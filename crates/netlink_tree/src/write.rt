@@ -1,4 +1,4 @@
-//! Trees written as bytes.
+//! Writing trees as bytes.
 
 ghost use Rattle.std.specs.Prelude.{◌≡◌, ◌+◌, ◌-◌, ◌≤◌, ◌++◌, ◌||◌, [], true, false, Ok, MatchResult, MatchOption, OnOk, IfOk, IfErr, IsOk, min, nat_lt, length};
 ghost use Rattle.netlink_packet_core.specs.Attribute.{padded, value_max};
@@ -16,14 +16,15 @@ use netlink_packet_core::laws::written_walks;
 use netlink_packet_core::{NLA_HEADER_SIZE, NLA_VALUE_MAX, append_nla, nla_align, put_u16};
 use std::alloc::Global;
 
-/// The canonical block of trees, at every depth: each attribute with its kind as it is and with its
-/// padding of zeros, the value of a nest being the block of what is inside. The trees have to be
-/// well formed, as `is_well_formed` tells; those that `read_tree` gives are.
+/// Returns the canonical block of trees, at every depth: each attribute has its kind unchanged and
+/// is padded with zeros, and the value of a nest is the block of what is inside. Requires
+/// well-formed trees, which `is_well_formed` checks; those from `read_tree` are well formed.
 ///
-/// Where an attribute stands deeper than 16, the outer ones having depth 1, the answer is
-/// `TooDeep`; otherwise, where a value or the block inside a nest is above `NLA_VALUE_MAX` bytes,
-/// it is `TooLong`. Neither asks for memory. Otherwise there is one request, of the block's size,
-/// and `Decode` of `OutOfMemory` says that it was refused; an empty list asks for none.
+/// Returns `TooDeep` if an attribute is nested deeper than 16, where the outer ones have depth 1.
+/// Otherwise returns `TooLong` if a value, or the block inside a nest, has more than
+/// `NLA_VALUE_MAX` bytes. Does not allocate in either case. Otherwise allocates once, for the size
+/// of the block, and returns `Decode` with `OutOfMemory` if that fails. Does not allocate for an
+/// empty list.
 pub fn write_tree(alloc: Global, trees: &[NlaTree]) -> Result<Vec<u8>, TreeFault>
     requires formed { AreWellFormed (views trees.now) }
     ensures text { MatchResult result
@@ -45,7 +46,7 @@ pub fn write_tree(alloc: Global, trees: &[NlaTree]) -> Result<Vec<u8>, TreeFault
     }
 }
 
-/// Whether attributes stand more than so many levels deep.
+/// Returns whether attributes are nested more than `limit` levels deep.
 fn is_too_deep(trees: &[NlaTree], limit: usize) -> bool
     ensures { result ≡ nat_lt limit (levels (views trees.now)) }
 {
@@ -62,8 +63,8 @@ fn is_too_deep(trees: &[NlaTree], limit: usize) -> bool
     false
 }
 
-/// The size of the text of trees, or the greatest number below it that there is; none where a
-/// value, or the text inside a nest, is too long.
+/// Returns the size of the encoded trees, or `usize::MAX` if that is smaller. Returns `None` if a
+/// value, or the encoding inside a nest, is too long.
 #[tactic(auto, using(crate::proofs::TreeWriting::text_sizes))]
 fn whole_size(trees: &[NlaTree]) -> Option<usize>
     ensures { MatchOption result
@@ -78,7 +79,8 @@ fn whole_size(trees: &[NlaTree]) -> Option<usize>
     Some(size)
 }
 
-/// The size of the value that a tree is written with; none where it or a value inside is too long.
+/// Returns the size of the value that a tree is written with, or `None` if it or a value inside is
+/// too long.
 #[cycle(sizes)]
 fn value_size(tree: &NlaTree) -> Option<usize>
     ensures { MatchOption result
@@ -92,7 +94,8 @@ fn value_size(tree: &NlaTree) -> Option<usize>
     }
 }
 
-/// The size of the text of trees inside a nest; none where it or a value in it is too long.
+/// Returns the size of the encoded trees inside a nest, or `None` if it or a value in them is too
+/// long.
 #[tactic(auto, using(crate::proofs::TreeWriting::text_sizes))]
 #[cycle(sizes)]
 fn text_size(trees: &[NlaTree]) -> Option<usize>
@@ -111,7 +114,9 @@ fn text_size(trees: &[NlaTree]) -> Option<usize>
     Some(size)
 }
 
-/// The text of trees, in a block that is asked for so many bytes at once.
+/// Returns the encoded trees, in a block that is allocated with room for `size` bytes. Requires
+/// that no value is too long, and that `size` is 0 if there are no trees. Returns `Decode` with
+/// `OutOfMemory` if an allocation fails.
 fn bytes_of(alloc: Global, trees: &[NlaTree], size: usize) -> Result<Vec<u8>, TreeFault>
     requires short { are_too_long (views trees.now) ≡ false }
     requires size { trees.now ≡ [] → size ≡ 0 }
@@ -125,7 +130,8 @@ fn bytes_of(alloc: Global, trees: &[NlaTree], size: usize) -> Result<Vec<u8>, Tr
     Ok(block)
 }
 
-/// Adds the text of trees to a block.
+/// Appends the encoded trees to a block. Requires that no value is too long. Returns `Decode` with
+/// `OutOfMemory` if an allocation fails.
 #[cycle(writing)]
 fn append_trees(alloc: Global, block: &mut Vec<u8>, trees: &[NlaTree]) -> Result<(), TreeFault>
     requires { are_too_long (views trees.now) ≡ false }
@@ -143,8 +149,9 @@ fn append_trees(alloc: Global, block: &mut Vec<u8>, trees: &[NlaTree]) -> Result
     Ok(())
 }
 
-/// Adds the text of a nest to a block: its header, and behind it what is inside, whose size the
-/// header counts once it is there.
+/// Appends an encoded nest to a block: its header, and then what is inside, whose size is written
+/// into the header afterward. Requires that no value is too long, and that what is inside has at
+/// most `NLA_VALUE_MAX` bytes. Returns `Decode` with `OutOfMemory` if an allocation fails.
 #[cycle(writing)]
 fn append_nest(
     alloc: Global,
@@ -167,7 +174,8 @@ fn append_nest(
     Ok(())
 }
 
-/// Writes into the two bytes at a place how many bytes stand from there on.
+/// Writes the number of bytes from `start` to the end of the block into the two bytes at `start`.
+/// Requires that there are at least 4 and at most 65535 bytes from there.
 fn count_from(block: &mut Vec<u8>, start: usize)
     requires inside { start + 4 ≤ length block.old.items }
     requires fits { length block.old.items ≤ start + 65535 }

@@ -1,17 +1,17 @@
-//! Blocks that are cut, walked by the iterator itself.
+//! Truncated blocks, walked by the iterator itself.
 
 use super::TWO;
 use netlink_attributes::NlasIterator;
 use netlink_bytes::DecodeError;
 use std::process::Abort;
 
-/// The number of the fault that a walk ends with, and its two sizes as they are named in the cause.
+/// The number of the error that a walk ends with, and its two sizes in the order of its fields.
 type Ending = (u8, usize, usize);
 
-/// A walk without a fault.
+/// A walk without an error.
 const WELL: Ending = (0, 0, 0);
 
-/// An attribute without value, and then a length field below 4.
+/// An attribute without a value, and then a length field less than 4.
 const SHORT: [u8; 9] = [4, 0, 1, 0, 3, 0, 7, 0, 0xff];
 
 /// Kinds and values of a walk.
@@ -25,7 +25,7 @@ const BOTH: Attributes = &[(1, &[0xaa]), (2, &[1, 2, 3, 4])];
 
 const EMPTY: Attributes = &[(1, &[])];
 
-/// A row for each cut, from no bytes to the whole block.
+/// A test case for each prefix, from no bytes to the whole block.
 #[test]
 fn each_cut_of_two_attributes(rt: HostRuntime) {
     let rows: [(Attributes, Ending); 17] = [
@@ -67,7 +67,7 @@ fn each_cut_of_a_damaged_block(rt: HostRuntime) {
     cut_as(&rt, &SHORT, &rows);
 }
 
-/// Cuts the block at each row's index, and compares the attributes and the ending.
+/// Truncates the block at the index of each test case, and compares the attributes and the ending.
 fn cut_as(rt: &impl Abort, block: &[u8], rows: &[(Attributes, Ending)]) {
     assert_eq!(rt; rows.len(), block.len() + 1);
     for (cut, (attributes, ending)) in rows.iter().enumerate() {
@@ -79,7 +79,7 @@ fn cut_as(rt: &impl Abort, block: &[u8], rows: &[(Attributes, Ending)]) {
     }
 }
 
-/// How the walk of the block ends, where its attributes are these.
+/// Returns how the walk of the block ends, if its attributes are these.
 fn ended_as(block: &[u8], attributes: Attributes) -> Option<Ending> {
     let mut expected = attributes.iter();
     let mut ending = WELL;

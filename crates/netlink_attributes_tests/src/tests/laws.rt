@@ -1,4 +1,4 @@
-//! Calls of the laws: what a law says stands in its clauses, and a call does nothing when it runs.
+//! Calls of the laws. A law is stated by its clauses, and a call does nothing at run time.
 
 use super::TWO;
 use netlink_attributes::laws::{
@@ -29,7 +29,8 @@ fn each_law_can_be_called() {
     older_block_kept(&TWO);
 }
 
-/// Whether the value of the attribute with this index can be replaced by one of its size.
+/// Returns whether there is an attribute at `index` whose value has the size of `value`, so that it
+/// can be replaced by it.
 fn can_replace(block: &[u8], index: usize, value: &[u8]) -> bool {
     match nla_place(block, index) {
         Some((start, end)) if end - start == value.len() => {

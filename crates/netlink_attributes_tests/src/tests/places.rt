@@ -1,4 +1,4 @@
-//! Values lent for writing: what is found, what is written, and what the block then walks as.
+//! Mutably borrowed values: what is found, what is written, and what walking the block then yields.
 
 use super::TWO;
 use netlink_attributes::{NlasIterator, nla_find, nla_find_raw, nlas_value_mut, write_nla_value};
@@ -105,7 +105,7 @@ fn the_first_of_a_kind_is_found(rt: HostRuntime) {
     }
 }
 
-/// A value is set by its kind: in the second attribute, whichever stand in front.
+/// A value is set by its kind: in the second attribute, whatever precedes it.
 #[test]
 fn a_value_is_set_by_its_kind(rt: HostRuntime) {
     let mut block = TWO;
@@ -116,8 +116,8 @@ fn a_value_is_set_by_its_kind(rt: HostRuntime) {
     assert!(rt; walks_as(&block, &[(1, &[0xaa]), (2, &[9, 9, 9, 9])], None));
 }
 
-/// Whether the block walks as these kinds and values, and then ends or has `NlaInvalidLength` of 4
-/// and this length.
+/// Returns whether walking the block yields these kinds and values, and then the end or
+/// `NlaInvalidLength` with 4 and this length.
 fn walks_as(block: &[u8], attributes: &[(u16, &[u8])], damaged: Option<usize>) -> bool {
     let mut expected = attributes.iter();
     for item in NlasIterator::new(block) {

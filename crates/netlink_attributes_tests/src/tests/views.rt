@@ -1,4 +1,4 @@
-//! Views: what they read, what they refuse, and what they write.
+//! Views: what they read, what they reject, and what they write.
 
 use netlink_attributes::{
     NLA_ALIGNTO, NLA_F_NESTED, NLA_F_NET_BYTEORDER, NLA_HEADER_SIZE, NLA_TYPE_MASK, NlaBuffer,

@@ -1,11 +1,11 @@
-//! Walks, what is normalised, and where a value lies.
+//! Walks, what blocks are normalized to, and where a value is.
 
 use super::TWO;
 use netlink_attributes::{NlasIterator, nla_place, nlas_fault, normalize_nlas};
 use std::alloc::{AllocError, Global};
 use std::test::Fail;
 
-/// An attribute without value, and then a length field below 4.
+/// An attribute without a value, and then a length field less than 4.
 const DAMAGED: &[u8] = &[4, 0, 1, 0, 3, 0, 7, 0, 0xff];
 
 #[test]
@@ -59,7 +59,7 @@ fn walks_give_attributes_and_then_the_fault(rt: HostRuntime) -> Result<(), Fail>
     Ok(())
 }
 
-/// Kind and size of each attribute, their values, and the text of the fault.
+/// Returns the kind and size of each attribute, their values, and the error text.
 fn walked(alloc: Global, bytes: &[u8]) -> Result<(Vec<(u16, usize)>, Vec<u8>, String), AllocError> {
     let mut found = Vec::new(alloc);
     let mut values = Vec::new(alloc);

@@ -1,14 +1,15 @@
-//! What is written: attributes, lists, and what is added to a block.
+//! What is written: attributes, lists, and what is appended to a block.
 
 ghost use Rattle.std.specs.Prelude.{◌∷◌, []};
 
 use netlink_attributes::{
-    DefaultNla, Nla, NlaBuffer, Nlas, append_nla, emit_nla, nla_buffer_len, nla_fits, write_nlas,
+    DefaultNla, Nla, NlaBuffer, Nlas, append_nla, append_padding, emit_nla, nla_buffer_len,
+    nla_fits, write_nlas,
 };
 use netlink_bytes::{Emitable, Parseable};
 use std::test::Fail;
 
-/// A flag of a kind of its own, in network byte order.
+/// An attribute of one byte in network byte order.
 #[derive(Drop)]
 struct Flag(u8);
 
@@ -143,7 +144,7 @@ fn a_list_leaves_the_rest(rt: HostRuntime) -> Result<(), Fail> {
     Ok(())
 }
 
-/// The most bytes of a value: what 16 bits can count, less a header of four.
+/// The maximum size of a value in bytes: the largest 16-bit length, less a 4-byte header.
 const LONGEST: usize = 65531;
 
 #[test]
@@ -178,5 +179,16 @@ fn an_attribute_is_added(rt: HostRuntime) -> Result<(), Fail> {
     assert!(rt; append_nla(rt.alloc(), &mut block, 2, &[0xaa]).is_ok());
     assert!(rt; append_nla(rt.alloc(), &mut block, 0xc003, &[]).is_ok());
     assert!(rt; block.as_slice() == &[5, 0, 2, 0, 0xaa, 0, 0, 0, 4, 0, 3, 0xc0][..]);
+    Ok(())
+}
+
+#[test]
+fn padding_is_added(rt: HostRuntime) -> Result<(), Fail> {
+    let mut bytes = Vec::new(rt.alloc());
+    for count in 0..4 {
+        append_padding(&mut bytes, count)?;
+        bytes.push(7)?;
+    }
+    assert!(rt; bytes.as_slice() == &[7, 0, 7, 0, 0, 7, 0, 0, 0, 7][..]);
     Ok(())
 }

@@ -1,4 +1,4 @@
-//! The text of each cause.
+//! The text of each error.
 
 ghost use Rattle.std.specs.Prelude.{◌≡◌};
 ghost use Rattle.netlink_bytes.specs.Causes.{cause_text, done_line, error_line, frame_line};
@@ -11,7 +11,7 @@ impl fmt::Display for DecodeError {
 
     ghost output = { λ e. Some (cause_text e) };
 
-    /// Prints the cause's text, behind the line of its message or body where `inside` is true.
+    /// Prints the error text, prefixed with the line of its message or body if `inside` is true.
     fn fmt<W: fmt::Write>(&self, f: &mut fmt::Formatter<W>) -> fmt::Result {
         match self {
             DecodeError::InvalidBuffer {
@@ -114,7 +114,7 @@ impl fmt::Display for DecodeError {
     }
 }
 
-/// The line that stands in front of a frame's fault.
+/// Returns the line before the text of a frame's error, which is empty unless `inside` is true.
 fn frame_line(inside: bool) -> &'static str
     ensures { result.now ≡ frame_line inside }
 {
@@ -125,7 +125,8 @@ fn frame_line(inside: bool) -> &'static str
     }
 }
 
-/// The line that stands in front of the fault of a done message's body.
+/// Returns the line before the text of an error in a done message's body, which is empty unless
+/// `inside` is true.
 fn done_line(inside: bool) -> &'static str
     ensures { result.now ≡ done_line inside }
 {
@@ -136,7 +137,8 @@ fn done_line(inside: bool) -> &'static str
     }
 }
 
-/// The line that stands in front of the fault of an error message's body.
+/// Returns the line before the text of an error in an error message's body, which is empty unless
+/// `inside` is true.
 fn error_line(inside: bool) -> &'static str
     ensures { result.now ≡ error_line inside }
 {

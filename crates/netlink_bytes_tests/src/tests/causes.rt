@@ -1,11 +1,13 @@
-//! The text and the number of each cause.
+//! The text and the number of each error.
 
+use crate::tests::errors::assert_error;
 use netlink_bytes::DecodeError;
 use netlink_bytes::laws::causes_equal;
 use std::alloc::{AllocError, AllocFailed, Global};
+use std::process::Abort;
 use std::test::Fail;
 
-/// The error of the byte ff, which is no text.
+/// Returns the error for the byte ff, which is not UTF-8.
 fn not_utf8(rt: &HostRuntime) -> Result<DecodeError, AllocError> {
     let alloc = rt.alloc();
     Ok(match String::from_utf8(vec![in alloc; 0xffu8]?) {
@@ -14,7 +16,7 @@ fn not_utf8(rt: &HostRuntime) -> Result<DecodeError, AllocError> {
     })
 }
 
-/// The number and the text of each of them.
+/// The number and the text of each error of `causes_by_constructor`.
 const NUMBERS_AND_TEXTS: [(u8, &str); 26] = [
     (
         1,
@@ -83,7 +85,7 @@ const NUMBERS_AND_TEXTS: [(u8, &str); 26] = [
     (16, "out of memory"),
 ];
 
-/// Each cause by each of its constructors.
+/// Returns each error from each of its constructors.
 fn causes_by_constructor(alloc: Global, owned: String) -> [DecodeError; 26] {
     [
         DecodeError::invalid_buffer(alloc, "x", 3, 8),
@@ -115,31 +117,29 @@ fn causes_by_constructor(alloc: Global, owned: String) -> [DecodeError; 26] {
     ]
 }
 
+/// Asserts the number and the text of each error.
+fn assert_causes(rt: &impl Abort, alloc: Global, causes: &[DecodeError; 26]) {
+    for (cause, (number, text)) in causes.iter().zip(&NUMBERS_AND_TEXTS) {
+        assert_error(rt, alloc, cause, *number, text);
+    }
+}
+
 #[test]
 fn causes(rt: HostRuntime) -> Result<(), Fail> {
     let alloc = rt.alloc();
     let owned = String::from_str(alloc, "a text")?;
-    let causes = causes_by_constructor(alloc, owned);
-    for (at, cause) in causes.iter().enumerate() {
-        match NUMBERS_AND_TEXTS.get(at) {
-            Some((number, text)) => {
-                assert_eq!(rt; cause.number(), *number, "{text}");
-                assert_eq!(rt; cause.is_out_of_memory(), *number == 16, "{text}");
-                assert_eq!(rt; cause.to_string(alloc)?.as_str(), *text);
-            }
-            None => assert!(rt; false),
-        }
-    }
-    let refused = not_utf8(&rt)?;
-    assert_eq!(rt; refused.number(), 14);
-    assert_eq!(rt;
-        refused.to_string(alloc)?.as_str(),
-        "Invalid UTF-8 sequence: invalid utf-8 sequence of 1 bytes from index 0"
+    assert_causes(&rt, alloc, &causes_by_constructor(alloc, owned));
+    assert_error(
+        &rt,
+        alloc,
+        &not_utf8(&rt)?,
+        14,
+        "Invalid UTF-8 sequence: invalid utf-8 sequence of 1 bytes from index 0",
     );
     Ok(())
 }
 
-/// Causes that differ from one another in their kind, a number, a text or `inside`.
+/// Returns errors that differ from one another in their variant, a number, a text or `inside`.
 fn different(alloc: Global) -> [DecodeError; 33] {
     [
         DecodeError::invalid_buffer(alloc, "x", 3, 8),

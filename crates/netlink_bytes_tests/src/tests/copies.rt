@@ -1,10 +1,10 @@
-//! Copies of bytes, and a push that hands on its refusal.
+//! Copies of bytes, and a push that propagates its error.
 
 use netlink_bytes::{DecodeError, copy_of};
 use std::alloc::Global;
 use std::test::Fail;
 
-/// The bytes, pushed one by one.
+/// Returns the bytes, pushed one by one.
 fn pushed(alloc: Global, bytes: &[u8]) -> Result<Vec<u8>, DecodeError> {
     let mut list = Vec::new(alloc);
     for byte in bytes {

@@ -1,12 +1,12 @@
-//! The mark behind which a test asks for no memory.
+//! The marker after which a test must not allocate.
 
 use std::alloc::Global;
 
-/// The size of the request that is the mark.
+/// The size of the allocation that is the marker.
 const MARK: usize = 7_654_321;
 
-/// Where `tests/memory` runs the test, this request and every later one are refused. Elsewhere it
-/// changes nothing.
+/// Makes the allocation that is the marker. If `tests/memory` runs the test, this allocation and
+/// every later one fail. Otherwise it has no effect.
 pub(crate) fn refuse_from_here(alloc: Global) {
     let _ = Vec::<u8>::with_capacity(alloc, MARK);
 }

@@ -1,24 +1,20 @@
-//! Calls that ask for no memory: numbers, addresses, causes and texts.
+//! Functions that do not allocate: integers, addresses, errors and strings.
 //!
-//! `tests/memory` runs each test with every request behind its mark refused: it passes as ever, and
-//! it makes none.
+//! `tests/memory` runs each test with every allocation failing, starting at its marker. The test
+//! must pass, and allocate nothing after the marker.
 
 use crate::tests::mark::refuse_from_here;
+use crate::tests::number::{Number, Order};
+use crate::tests::value::{READ, REFUSED};
 use netlink_bytes::{
-    DecodeError, ErrorContext, IpAddr, NonZeroI32, copy_of, emit_i16, emit_i16_be, emit_i16_le,
-    emit_i32, emit_i32_be, emit_i32_le, emit_i64, emit_i64_be, emit_i64_le, emit_i128,
-    emit_i128_be, emit_i128_le, emit_u16, emit_u16_be, emit_u16_le, emit_u32, emit_u32_be,
-    emit_u32_le, emit_u64, emit_u64_be, emit_u64_le, emit_u128, emit_u128_be, emit_u128_le, i32_at,
-    parse_i8, parse_i16, parse_i16_be, parse_i16_le, parse_i32, parse_i32_be, parse_i32_le,
-    parse_i64, parse_i64_be, parse_i64_le, parse_i128, parse_i128_be, parse_i128_le, parse_ip,
-    parse_ipv6, parse_mac, parse_string, parse_u8, parse_u16, parse_u16_be, parse_u16_le,
-    parse_u32, parse_u32_be, parse_u32_le, parse_u64, parse_u64_be, parse_u64_le, parse_u128,
-    parse_u128_be, parse_u128_le, put_i32, put_u16, put_u32, u16_at, u32_at,
+    DecodeError, ErrorContext, NonZeroI32, copy_of, i32_at, parse_string, put_i32, put_u16,
+    put_u32, u16_at, u32_at,
 };
+use std::alloc::Global;
 use std::process::Abort;
 use std::test::Fail;
 
-/// Whether an answer is a refusal with this number.
+/// Returns whether a result is an error with this number.
 fn refuses<T: Drop>(answer: Result<T, DecodeError>, number: u8) -> bool {
     match answer {
         Ok(_) => false,
@@ -26,81 +22,87 @@ fn refuses<T: Drop>(answer: Result<T, DecodeError>, number: u8) -> bool {
     }
 }
 
-/// Whether a number is written as these bytes and nothing behind them, read from them, and refused
-/// where there is no byte.
-fn is_row<T, E, P>(emit: E, parse: P, value: T, bytes: &[u8]) -> bool
-where
-    T: Copy + PartialEq + Drop,
-    E: Fn(&mut [u8], T) -> Result<(), DecodeError>,
-    P: Fn(&[u8]) -> Result<T, DecodeError>,
-    requires emit { E.IsAlwaysCallable emit }
-    requires parse { P.IsAlwaysCallable parse }
-{
+/// Returns whether an integer is written as these bytes with nothing after them, reads back from
+/// them, and is rejected if there are no bytes.
+fn is_row(number: Number, order: Order, bytes: &[u8]) -> bool {
     let mut buffer = [0x55; 17];
-    let is_written = emit(&mut buffer, value).is_ok() & buffer.starts_with(bytes);
+    let is_written = number.emit(order, &mut buffer).is_ok() & buffer.starts_with(bytes);
     let is_bare = buffer.get(bytes.len()) == Some(&0x55);
-    let is_read = parse(bytes).ok() == Some(value);
-    let is_refused = refuses(emit(&mut [], value), 8) & refuses(parse(&[]), 4);
+    let is_read = number.parse_same_type(order, bytes).ok() == Some(number);
+    let is_refused = refuses(number.emit(order, &mut []), 8)
+        & refuses(number.parse_same_type(order, &[]), 4);
     is_written & is_bare & is_read & is_refused
 }
 
-/// A row of `is_row`, by the names of the two calls.
-macro_rules! row {
-    ($emit:ident, $parse:ident, $value:expr, $bytes:expr) => {
-        is_row(
-            |bytes: &mut [u8], value| $emit(bytes, value),
-            |bytes: &[u8]| $parse(bytes),
-            $value,
-            $bytes,
-        )
-    };
-}
+const TO_2: &[u8] = &[1, 2];
 
-fn two_bytes(rt: &impl Abort) {
-    assert!(rt; row!(emit_u16, parse_u16, 0x0201, &[1, 2]));
-    assert!(rt; row!(emit_u16_le, parse_u16_le, 0x0201, &[1, 2]));
-    assert!(rt; row!(emit_u16_be, parse_u16_be, 0x0102, &[1, 2]));
-    assert!(rt; row!(emit_i16, parse_i16, -2, &[0xfe, 0xff]));
-    assert!(rt; row!(emit_i16_le, parse_i16_le, -2, &[0xfe, 0xff]));
-    assert!(rt; row!(emit_i16_be, parse_i16_be, -2, &[0xff, 0xfe]));
-}
+const TO_4: &[u8] = &[1, 2, 3, 4];
 
-fn four_bytes(rt: &impl Abort) {
-    assert!(rt; row!(emit_u32, parse_u32, 0x04030201, &[1, 2, 3, 4]));
-    assert!(rt; row!(emit_u32_le, parse_u32_le, 0x04030201, &[1, 2, 3, 4]));
-    assert!(rt; row!(emit_u32_be, parse_u32_be, 0x01020304, &[1, 2, 3, 4]));
-    assert!(rt; row!(emit_i32, parse_i32, -2, &[0xfe, 0xff, 0xff, 0xff]));
-    assert!(rt; row!(emit_i32_le, parse_i32_le, -2, &[0xfe, 0xff, 0xff, 0xff]));
-    assert!(rt; row!(emit_i32_be, parse_i32_be, -2, &[0xff, 0xff, 0xff, 0xfe]));
-}
+const TO_8: &[u8] = &[1, 2, 3, 4, 5, 6, 7, 8];
 
-fn eight_bytes(rt: &impl Abort) {
-    let rising = [1, 2, 3, 4, 5, 6, 7, 8];
-    let low = [0xfe, 0xff, 0xff, 0xff, 0xff, 0xff, 0xff, 0xff];
-    let high = [0xff, 0xff, 0xff, 0xff, 0xff, 0xff, 0xff, 0xfe];
-    assert!(rt; row!(emit_u64, parse_u64, 0x0807060504030201, &rising));
-    assert!(rt; row!(emit_u64_le, parse_u64_le, 0x0807060504030201, &rising));
-    assert!(rt; row!(emit_u64_be, parse_u64_be, 0x0102030405060708, &rising));
-    assert!(rt; row!(emit_i64, parse_i64, -2, &low));
-    assert!(rt; row!(emit_i64_le, parse_i64_le, -2, &low));
-    assert!(rt; row!(emit_i64_be, parse_i64_be, -2, &high));
-}
+const TO_16: &[u8] = &[1, 2, 3, 4, 5, 6, 7, 8, 9, 10, 11, 12, 13, 14, 15, 16];
 
-fn sixteen_bytes(rt: &impl Abort) {
-    let rising = [1, 2, 3, 4, 5, 6, 7, 8, 9, 10, 11, 12, 13, 14, 15, 16];
-    let mut low = [0xff; 16];
-    low[0] = 0xfe;
-    let mut high = [0xff; 16];
-    high[15] = 0xfe;
-    let lowest_first = 0x100f0e0d0c0b0a090807060504030201;
-    let highest_first = 0x0102030405060708090a0b0c0d0e0f10;
-    assert!(rt; row!(emit_u128, parse_u128, lowest_first, &rising));
-    assert!(rt; row!(emit_u128_le, parse_u128_le, lowest_first, &rising));
-    assert!(rt; row!(emit_u128_be, parse_u128_be, highest_first, &rising));
-    assert!(rt; row!(emit_i128, parse_i128, -2, &low));
-    assert!(rt; row!(emit_i128_le, parse_i128_le, -2, &low));
-    assert!(rt; row!(emit_i128_be, parse_i128_be, -2, &high));
-}
+/// The bytes of -2 in 16 bytes, lowest byte first.
+const LOW_16: &[u8] = &[
+    0xfe, 0xff, 0xff, 0xff, 0xff, 0xff, 0xff, 0xff, 0xff, 0xff, 0xff, 0xff, 0xff, 0xff, 0xff, 0xff,
+];
+
+/// The bytes of -2 in 16 bytes, highest byte first.
+const HIGH_16: &[u8] = &[
+    0xff, 0xff, 0xff, 0xff, 0xff, 0xff, 0xff, 0xff, 0xff, 0xff, 0xff, 0xff, 0xff, 0xff, 0xff, 0xfe,
+];
+
+/// A test case of `is_row` for each pair of functions.
+const NUMBERS: [(Number, Order, &[u8]); 24] = [
+    (Number::U16(0x0201), Order::Native, TO_2),
+    (Number::U16(0x0201), Order::Little, TO_2),
+    (Number::U16(0x0102), Order::Big, TO_2),
+    (Number::I16(-2), Order::Native, &[0xfe, 0xff]),
+    (Number::I16(-2), Order::Little, &[0xfe, 0xff]),
+    (Number::I16(-2), Order::Big, &[0xff, 0xfe]),
+    (Number::U32(0x04030201), Order::Native, TO_4),
+    (Number::U32(0x04030201), Order::Little, TO_4),
+    (Number::U32(0x01020304), Order::Big, TO_4),
+    (Number::I32(-2), Order::Native, &[0xfe, 0xff, 0xff, 0xff]),
+    (Number::I32(-2), Order::Little, &[0xfe, 0xff, 0xff, 0xff]),
+    (Number::I32(-2), Order::Big, &[0xff, 0xff, 0xff, 0xfe]),
+    (Number::U64(0x0807060504030201), Order::Native, TO_8),
+    (Number::U64(0x0807060504030201), Order::Little, TO_8),
+    (Number::U64(0x0102030405060708), Order::Big, TO_8),
+    (
+        Number::I64(-2),
+        Order::Native,
+        &[0xfe, 0xff, 0xff, 0xff, 0xff, 0xff, 0xff, 0xff],
+    ),
+    (
+        Number::I64(-2),
+        Order::Little,
+        &[0xfe, 0xff, 0xff, 0xff, 0xff, 0xff, 0xff, 0xff],
+    ),
+    (
+        Number::I64(-2),
+        Order::Big,
+        &[0xff, 0xff, 0xff, 0xff, 0xff, 0xff, 0xff, 0xfe],
+    ),
+    (
+        Number::U128(0x100f0e0d0c0b0a090807060504030201),
+        Order::Native,
+        TO_16,
+    ),
+    (
+        Number::U128(0x100f0e0d0c0b0a090807060504030201),
+        Order::Little,
+        TO_16,
+    ),
+    (
+        Number::U128(0x0102030405060708090a0b0c0d0e0f10),
+        Order::Big,
+        TO_16,
+    ),
+    (Number::I128(-2), Order::Native, LOW_16),
+    (Number::I128(-2), Order::Little, LOW_16),
+    (Number::I128(-2), Order::Big, HIGH_16),
+];
 
 #[test]
 fn numbers_at_their_places(rt: HostRuntime) {
@@ -117,10 +119,9 @@ fn numbers_at_their_places(rt: HostRuntime) {
 #[test]
 fn numbers(rt: HostRuntime) {
     refuse_from_here(rt.alloc());
-    two_bytes(&rt);
-    four_bytes(&rt);
-    eight_bytes(&rt);
-    sixteen_bytes(&rt);
+    for (at, (number, order, bytes)) in NUMBERS.iter().enumerate() {
+        assert!(rt; is_row(*number, *order, bytes), "row {at}");
+    }
     assert!(rt; NonZeroI32::new(0).is_none());
     match NonZeroI32::new(-8765) {
         Some(number) => assert!(rt; number.get() == -8765),
@@ -131,17 +132,50 @@ fn numbers(rt: HostRuntime) {
 #[test]
 fn bytes_and_addresses(rt: HostRuntime) {
     refuse_from_here(rt.alloc());
-    assert!(rt; parse_u8(&[7]).ok() == Some(7));
-    assert!(rt; refuses(parse_u8(&[]), 4));
-    assert!(rt; parse_i8(&[0x80]).ok() == Some(-128));
-    assert!(rt; refuses(parse_i8(&[1, 2]), 4));
-    assert!(rt; parse_mac(&[1, 2, 3, 4, 5, 6]).ok() == Some([1, 2, 3, 4, 5, 6]));
-    assert!(rt; refuses(parse_mac(&[0; 5]), 2));
-    assert!(rt; parse_ipv6(&[9; 16]).ok() == Some([9; 16]));
-    assert!(rt; refuses(parse_ipv6(&[0; 4]), 3));
-    assert!(rt; parse_ip(&[127, 0, 0, 1]).ok() == Some(IpAddr::V4([127, 0, 0, 1])));
-    assert!(rt; parse_ip(&[9; 16]).ok() == Some(IpAddr::V6([9; 16])));
-    assert!(rt; refuses(parse_ip(&[0; 5]), 3));
+    for (at, (value, bytes)) in READ.iter().enumerate() {
+        assert!(rt; value.is_read_from(bytes), "row {at}");
+    }
+    for (at, (like, bytes, number, _)) in REFUSED.iter().enumerate() {
+        assert!(rt; refuses(like.parse_same_type(bytes), *number), "row {at}");
+    }
+}
+
+/// Returns errors that are made without allocating: one with each number, in order, and then
+/// another `Message` and another `OutOfMemory`.
+fn causes(alloc: Global, words: String) -> [DecodeError; 18] {
+    [
+        DecodeError::invalid_buffer(alloc, "", 0, 1),
+        DecodeError::invalid_mac_address(5),
+        DecodeError::invalid_ip_address(5),
+        DecodeError::invalid_number(8, 7),
+        DecodeError::nla_buffer_too_small(1, 4),
+        DecodeError::nla_length_mismatch(4, 5),
+        DecodeError::nla_invalid_length(4, 3),
+        DecodeError::buffer_too_small(3, 4),
+        DecodeError::frame_short(4, true),
+        DecodeError::frame_cut(40, 24, true),
+        DecodeError::frame_length(15, true),
+        DecodeError::done_short(3, true),
+        DecodeError::error_short(3, true),
+        DecodeError::from_text(alloc, ""),
+        DecodeError::too_long(),
+        DecodeError::out_of_memory(),
+        DecodeError::from(words),
+        DecodeError::out_of_memory().context(alloc, "a line"),
+    ]
+}
+
+/// The number of each error of `causes`.
+const CAUSE_NUMBERS: [u8; 18] = [
+    1, 2, 3, 4, 5, 6, 7, 8, 9, 10, 11, 12, 13, 14, 15, 16, 14, 16,
+];
+
+/// Asserts the number of each error.
+fn assert_numbers(rt: &impl Abort, causes: &[DecodeError; 18]) {
+    for (cause, number) in causes.iter().zip(&CAUSE_NUMBERS) {
+        assert!(rt; cause.number() == *number);
+        assert!(rt; cause.is_out_of_memory() == (*number == 16));
+    }
 }
 
 #[test]
@@ -149,30 +183,7 @@ fn causes_and_empty_texts(rt: HostRuntime) -> Result<(), Fail> {
     let alloc = rt.alloc();
     let words = String::from_str(alloc, "a text")?;
     refuse_from_here(alloc);
-    let rows = [
-        (DecodeError::invalid_buffer(alloc, "", 0, 1), 1),
-        (DecodeError::invalid_mac_address(5), 2),
-        (DecodeError::invalid_ip_address(5), 3),
-        (DecodeError::invalid_number(8, 7), 4),
-        (DecodeError::nla_buffer_too_small(1, 4), 5),
-        (DecodeError::nla_length_mismatch(4, 5), 6),
-        (DecodeError::nla_invalid_length(4, 3), 7),
-        (DecodeError::buffer_too_small(3, 4), 8),
-        (DecodeError::frame_short(4, true), 9),
-        (DecodeError::frame_cut(40, 24, true), 10),
-        (DecodeError::frame_length(15, true), 11),
-        (DecodeError::done_short(3, true), 12),
-        (DecodeError::error_short(3, true), 13),
-        (DecodeError::from_text(alloc, ""), 14),
-        (DecodeError::from(words), 14),
-        (DecodeError::too_long(), 15),
-        (DecodeError::out_of_memory(), 16),
-        (DecodeError::out_of_memory().context(alloc, "a line"), 16),
-    ];
-    for (cause, number) in rows.iter() {
-        assert!(rt; cause.number() == *number);
-        assert!(rt; cause.is_out_of_memory() == (*number == 16));
-    }
+    assert_numbers(&rt, &causes(alloc, words));
     let fine: Result<u8, DecodeError> = Ok(7);
     assert!(rt; fine.context(alloc, "a line").ok() == Some(7));
     assert!(rt; parse_string(alloc, &[])?.as_str().is_empty());

@@ -1,13 +1,11 @@
-//! Rows of numbers as bytes, and of refusals. Each function is called in `memory_not_asked`.
+//! Test cases for integers as bytes, and for errors. Each function is called in `memory_not_asked`.
 
+use crate::tests::errors::assert_refused;
+use crate::tests::number::{Number, Order};
 use netlink_bytes::laws::{
     numbers_are_sums, numbers_read_back, signed_numbers_read_back, written_is_read,
 };
-use netlink_bytes::{
-    NonZeroI32, emit_i32_le, emit_i128_be, emit_u16, emit_u32_be, emit_u32_le, parse_i16,
-    parse_i32, parse_i32_le, parse_i64_be, parse_u16, parse_u16_be, parse_u32_le, parse_u64,
-};
-use std::test::Fail;
+use netlink_bytes::{NonZeroI32, emit_u32_be, parse_u64};
 
 #[test]
 fn numbers_that_are_not_zero(rt: HostRuntime) {
@@ -20,62 +18,104 @@ fn numbers_that_are_not_zero(rt: HostRuntime) {
     }
 }
 
-/// Calls of the laws, and a row of each.
+/// Returns whether the bytes are read as the integer.
+fn is_read(number: Number, order: Order, bytes: &[u8]) -> bool {
+    number.parse_same_type(order, bytes).ok() == Some(number)
+}
+
+/// Returns whether writing the integer to a buffer of the size of `expected`, filled with `fill`,
+/// leaves the bytes `expected`.
+fn is_written(number: Number, order: Order, fill: u8, expected: &[u8]) -> bool {
+    let mut buffer = [fill; 17];
+    match buffer.get_mut(..expected.len()) {
+        Some(part) => number.emit(order, part).is_ok() && *part == *expected,
+        None => false,
+    }
+}
+
+const SUM: u32 = 0x78 + 0x56 * 256 + 0x34 * 256 * 256 + 0x92 * 256 * 256 * 256;
+
+/// Integers, what a buffer is filled with before, and what it is after.
+const AT_ONE_NUMBER: [(Number, u8, &[u8]); 3] = [
+    (Number::U32(SUM), 0, &[0x78, 0x56, 0x34, 0x92]),
+    (Number::I32(-1842063752), 0, &[0x78, 0x56, 0x34, 0x92]),
+    (
+        Number::U32(SUM),
+        0x55,
+        &[0x78, 0x56, 0x34, 0x92, 0x55, 0x55],
+    ),
+];
+
+/// Calls of the laws, with test cases for them.
 #[test]
 fn the_laws_at_one_number(rt: HostRuntime) {
     numbers_are_sums();
-    let bytes = [0x78, 0x56, 0x34, 0x92];
-    let sum = 0x78 + 0x56 * 256 + 0x34 * 256 * 256 + 0x92 * 256 * 256 * 256;
-    assert_eq!(rt; parse_u32_le(&bytes).ok(), Some(sum));
     numbers_read_back();
-    let mut text = [0; 4];
-    assert!(rt; emit_u32_le(&mut text, sum).is_ok());
-    assert_eq!(rt; text, bytes);
     signed_numbers_read_back();
-    assert_eq!(rt; parse_i32_le(&bytes).ok(), Some(-1842063752));
-    assert!(rt; emit_i32_le(&mut text, -1842063752).is_ok());
-    assert_eq!(rt; text, bytes);
     written_is_read();
-    let mut longer = [0x55; 6];
-    assert!(rt; emit_u32_le(&mut longer, sum).is_ok());
-    assert_eq!(rt; parse_u32_le(&longer[..4]).ok(), Some(sum));
-    assert_eq!(rt; longer, [0x78, 0x56, 0x34, 0x92, 0x55, 0x55]);
+    for (at, (number, fill, bytes)) in AT_ONE_NUMBER.iter().enumerate() {
+        assert!(rt;
+            is_written(*number, Order::Little, *fill, bytes),
+            "row {at}"
+        );
+        let written = bytes.get(..4).unwrap_or(&[]);
+        assert!(rt; is_read(*number, Order::Little, written), "row {at}");
+    }
 }
 
+const READ: [(Number, Order, &[u8]); 5] = [
+    (Number::U16(4660), Order::Big, &[0x12, 0x34]),
+    (Number::U16(13330), Order::Native, &[0x12, 0x34]),
+    (Number::I16(-1), Order::Native, &[0xff, 0xff]),
+    (Number::I32(-8765), Order::Native, &[0xc3, 0xdd, 0xff, 0xff]),
+    (
+        Number::I64(-9223372036854775808),
+        Order::Big,
+        &[0x80, 0, 0, 0, 0, 0, 0, 0],
+    ),
+];
+
+/// Integers, what a buffer is filled with before, and what it is after.
+const WRITTEN: [(Number, Order, u8, &[u8]); 2] = [
+    (
+        Number::U16(0x1234),
+        Order::Native,
+        0xff,
+        &[0x34, 0x12, 0xff],
+    ),
+    (
+        Number::I128(-2),
+        Order::Big,
+        0x55,
+        &[
+            0xff, 0xff, 0xff, 0xff, 0xff, 0xff, 0xff, 0xff, 0xff, 0xff, 0xff, 0xff, 0xff, 0xff,
+            0xff, 0xfe, 0x55,
+        ],
+    ),
+];
+
 #[test]
-fn rows_of_numbers(rt: HostRuntime) -> Result<(), Fail> {
-    let alloc = rt.alloc();
-    assert_eq!(rt; parse_u16_be(&[0x12, 0x34]).ok(), Some(4660));
-    assert_eq!(rt; parse_u16(&[0x12, 0x34]).ok(), Some(13330));
-    assert_eq!(rt; parse_i16(&[0xff, 0xff]).ok(), Some(-1));
-    assert_eq!(rt; parse_i32(&[0xc3, 0xdd, 0xff, 0xff]).ok(), Some(-8765));
-    assert_eq!(rt;
-        parse_i64_be(&[0x80, 0, 0, 0, 0, 0, 0, 0]).ok(),
-        Some(-9223372036854775808)
+fn rows_of_numbers(rt: HostRuntime) {
+    for (at, (number, order, bytes)) in READ.iter().enumerate() {
+        assert!(rt; is_read(*number, *order, bytes), "row {at}");
+    }
+    for (at, (number, order, fill, bytes)) in WRITTEN.iter().enumerate() {
+        assert!(rt; is_written(*number, *order, *fill, bytes), "row {at}");
+    }
+    assert_refused(
+        &rt,
+        rt.alloc(),
+        parse_u64(&[0; 7]),
+        4,
+        "Invalid number. Expected 8 bytes, received 7 bytes",
     );
-    match parse_u64(&[0; 7]) {
-        Ok(_) => assert!(rt; false),
-        Err(e) => assert_eq!(rt;
-            e.to_string(alloc)?.as_str(),
-            "Invalid number. Expected 8 bytes, received 7 bytes"
-        ),
-    }
-    let mut three = [0xff; 3];
-    assert!(rt; emit_u16(&mut three, 0x1234).is_ok());
+    let mut three = [0x34, 0x12, 0xff];
+    assert_refused(
+        &rt,
+        rt.alloc(),
+        emit_u32_be(&mut three, 7),
+        8,
+        "Buffer too small: 3 (should be at least 4 bytes",
+    );
     assert_eq!(rt; three, [0x34, 0x12, 0xff]);
-    match emit_u32_be(&mut three, 7) {
-        Ok(()) => assert!(rt; false),
-        Err(e) => assert_eq!(rt;
-            e.to_string(alloc)?.as_str(),
-            "Buffer too small: 3 (should be at least 4 bytes"
-        ),
-    }
-    assert_eq!(rt; three, [0x34, 0x12, 0xff]);
-    let mut wide = [0x55; 17];
-    assert!(rt; emit_i128_be(&mut wide, -2).is_ok());
-    let mut want = [0xff; 17];
-    want[15] = 0xfe;
-    want[16] = 0x55;
-    assert_eq!(rt; wide, want);
-    Ok(())
 }

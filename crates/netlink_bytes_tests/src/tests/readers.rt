@@ -1,63 +1,19 @@
-//! Single bytes, addresses and texts.
+//! Single bytes, addresses and strings.
 
+use crate::tests::errors::assert_refused;
+use crate::tests::value::{READ, REFUSED};
 use netlink_bytes::laws::values_equal;
-use netlink_bytes::{
-    IpAddr, NonZeroI32, parse_i8, parse_ip, parse_ipv6, parse_mac, parse_string, parse_u8,
-};
-use std::test::Fail;
+use netlink_bytes::{IpAddr, NonZeroI32, parse_string};
+use std::alloc::Global;
 
 #[test]
-fn bytes_and_addresses(rt: HostRuntime) -> Result<(), Fail> {
-    let alloc = rt.alloc();
-    assert_eq!(rt; parse_u8(&[7]).ok(), Some(7));
-    assert_eq!(rt; parse_i8(&[0x80]).ok(), Some(-128));
-    assert_eq!(rt;
-        parse_mac(&[1, 2, 3, 4, 5, 6]).ok(),
-        Some([1, 2, 3, 4, 5, 6])
-    );
-    assert_eq!(rt; parse_ipv6(&[9; 16]).ok(), Some([9; 16]));
-    assert_eq!(rt;
-        parse_ip(&[127, 0, 0, 1]).ok(),
-        Some(IpAddr::V4([127, 0, 0, 1]))
-    );
-    assert_eq!(rt; parse_ip(&[9; 16]).ok(), Some(IpAddr::V6([9; 16])));
-    let refusals = [
-        (
-            parse_u8(&[]).err(),
-            4,
-            "Invalid number. Expected 1 bytes, received 0 bytes",
-        ),
-        (
-            parse_i8(&[1, 2]).err(),
-            4,
-            "Invalid number. Expected 1 bytes, received 2 bytes",
-        ),
-        (
-            parse_mac(&[0; 5]).err(),
-            2,
-            "Invalid MAC address. Expected 6 bytes, received 5 bytes",
-        ),
-        (
-            parse_ipv6(&[0; 4]).err(),
-            3,
-            "Invalid IP address. Expected 4 or 16 bytes, received 4 bytes",
-        ),
-        (
-            parse_ip(&[0; 5]).err(),
-            3,
-            "Invalid IP address. Expected 4 or 16 bytes, received 5 bytes",
-        ),
-    ];
-    for (refusal, number, text) in &refusals {
-        match refusal {
-            Some(e) => {
-                assert_eq!(rt; e.number(), *number, "{text}");
-                assert_eq!(rt; e.to_string(alloc)?.as_str(), *text);
-            }
-            None => assert!(rt; false, "{text}"),
-        }
+fn bytes_and_addresses(rt: HostRuntime) {
+    for (at, (value, bytes)) in READ.iter().enumerate() {
+        assert!(rt; value.is_read_from(bytes), "row {at}");
     }
-    Ok(())
+    for (like, bytes, number, text) in REFUSED {
+        assert_refused(&rt, rt.alloc(), like.parse_same_type(bytes), number, text);
+    }
 }
 
 #[test]
@@ -81,60 +37,57 @@ fn values_are_copied_and_told_apart(rt: HostRuntime) {
     }
 }
 
-#[test]
-fn texts(rt: HostRuntime) -> Result<(), Fail> {
-    let alloc = rt.alloc();
-    let rows: [(&[u8], &str); 5] = [
-        (&[0x61, 0, 0], "a\0"),
-        (&[0xc3, 0xa9, 0], "\u{e9}"),
-        (&[0x61], "a"),
-        (&[0], ""),
-        (&[], ""),
-    ];
-    for (bytes, text) in rows {
-        match parse_string(alloc, bytes) {
-            Ok(read) => assert_eq!(rt; read.as_str(), text),
-            Err(_) => assert!(rt; false, "{text}"),
-        }
+const TEXTS: [(&[u8], &str); 5] = [
+    (&[0x61, 0, 0], "a\0"),
+    (&[0xc3, 0xa9, 0], "\u{e9}"),
+    (&[0x61], "a"),
+    (&[0], ""),
+    (&[], ""),
+];
+
+/// Returns whether the bytes are read as the text.
+fn is_text(alloc: Global, bytes: &[u8], text: &str) -> bool {
+    match parse_string(alloc, bytes) {
+        Ok(read) => read.as_str() == text,
+        Err(_) => false,
     }
-    Ok(())
 }
 
-/// The words behind the fixed beginning are those of Rust's own error. A zero at the end goes
-/// first, so that `c3 00` is a sequence that was cut short.
 #[test]
-fn texts_that_are_not_utf8(rt: HostRuntime) -> Result<(), Fail> {
-    let alloc = rt.alloc();
-    let rows: [(&[u8], &str); 5] = [
-        (
-            &[0xff],
-            "Invalid UTF-8 sequence: invalid utf-8 sequence of 1 bytes from index 0",
-        ),
-        (
-            &[0xc3, 0],
-            "Invalid UTF-8 sequence: incomplete utf-8 byte sequence from index 0",
-        ),
-        (
-            &[0xc3, 0, 0],
-            "Invalid UTF-8 sequence: invalid utf-8 sequence of 1 bytes from index 0",
-        ),
-        (
-            &[0x61, 0xff, 0x62],
-            "Invalid UTF-8 sequence: invalid utf-8 sequence of 1 bytes from index 1",
-        ),
-        (
-            &[0x61, 0xe2, 0x82],
-            "Invalid UTF-8 sequence: incomplete utf-8 byte sequence from index 1",
-        ),
-    ];
-    for (bytes, text) in rows {
-        match parse_string(alloc, bytes) {
-            Ok(_) => assert!(rt; false, "{text}"),
-            Err(e) => {
-                assert_eq!(rt; e.number(), 14, "{text}");
-                assert_eq!(rt; e.to_string(alloc)?.as_str(), text);
-            }
-        }
+fn texts(rt: HostRuntime) {
+    for (bytes, text) in TEXTS {
+        assert!(rt; is_text(rt.alloc(), bytes, text), "{text}");
     }
-    Ok(())
+}
+
+/// The words after the fixed beginning are those of Rust's own error. A zero at the end is removed
+/// first, so `c3 00` is a truncated sequence.
+const NOT_UTF8: [(&[u8], &str); 5] = [
+    (
+        &[0xff],
+        "Invalid UTF-8 sequence: invalid utf-8 sequence of 1 bytes from index 0",
+    ),
+    (
+        &[0xc3, 0],
+        "Invalid UTF-8 sequence: incomplete utf-8 byte sequence from index 0",
+    ),
+    (
+        &[0xc3, 0, 0],
+        "Invalid UTF-8 sequence: invalid utf-8 sequence of 1 bytes from index 0",
+    ),
+    (
+        &[0x61, 0xff, 0x62],
+        "Invalid UTF-8 sequence: invalid utf-8 sequence of 1 bytes from index 1",
+    ),
+    (
+        &[0x61, 0xe2, 0x82],
+        "Invalid UTF-8 sequence: incomplete utf-8 byte sequence from index 1",
+    ),
+];
+
+#[test]
+fn texts_that_are_not_utf8(rt: HostRuntime) {
+    for (bytes, text) in NOT_UTF8 {
+        assert_refused(&rt, rt.alloc(), parse_string(rt.alloc(), bytes), 14, text);
+    }
 }

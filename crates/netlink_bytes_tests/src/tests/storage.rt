@@ -4,9 +4,10 @@ ghost use Rattle.std.specs.Prelude.{◌≡◌, ◌≤◌, ◌<◌, ◌-◌, leng
 ghost use Rattle.netlink_bytes.specs.Storage.{put_at};
 
 use netlink_bytes::{Storage, StorageMut};
+use std::process::Abort;
 use std::test::Fail;
 
-/// How many bytes there are.
+/// Returns the number of bytes.
 fn count<T: Storage>(storage: &T) -> usize
     ensures { result ≡ length (T.contents storage.now) }
 {
@@ -24,7 +25,7 @@ fn set_at<T: StorageMut>(storage: &mut T, at: usize, value: u8)
     bytes[at] = value;
 }
 
-/// Writes a part of the bytes.
+/// Writes one value over a part of the bytes.
 fn fill_part<T: StorageMut>(storage: &mut T, start: usize, end: usize, value: u8)
     requires order { start ≤ end }
     requires inside { end ≤ length (T.contents storage.old) }
@@ -54,7 +55,7 @@ impl<T: StorageMut> View<T> {
     }
 }
 
-/// Two writes in one slice.
+/// Writes twice to a slice.
 fn write_slice(bytes: &mut [u8])
     requires { 2 ≤ length bytes.old }
     ensures { bytes.new ≡ slice_set (slice_set bytes.old 0 1) 1 2 }
@@ -64,7 +65,7 @@ fn write_slice(bytes: &mut [u8])
     view.set(1, 2);
 }
 
-/// Two writes in one vector.
+/// Writes twice to a vector.
 fn write_vec(bytes: &mut Vec<u8>)
     requires { 2 ≤ length bytes.old.items }
     ensures { bytes.new.items ≡ slice_set (slice_set bytes.old.items 0 1) 1 2 }
@@ -73,24 +74,35 @@ fn write_vec(bytes: &mut Vec<u8>)
     set_at(bytes, 1, 2);
 }
 
-#[test]
-fn storage(rt: HostRuntime) -> Result<(), Fail> {
-    let alloc = rt.alloc();
+/// Reads and writes slices.
+fn assert_slices(rt: &impl Abort) {
     let shared: &[u8] = &[5, 6, 7, 8];
-    assert_eq!(rt; shared.bytes(), [5, 6, 7, 8].as_slice());
-    assert_eq!(rt; count(&shared), 4);
+    assert!(rt; shared.bytes() == [5, 6, 7, 8].as_slice());
+    assert!(rt; count(&shared) == 4);
     let mut array = [5, 6, 7, 8];
     write_slice(&mut array);
-    assert_eq!(rt; array, [1, 2, 7, 8]);
+    assert!(rt; array == [1, 2, 7, 8]);
     let mut slice: &mut [u8] = &mut array;
     assert!(rt; count(&slice) == 4);
     fill_part(&mut slice, 1, 3, 9);
-    assert_eq!(rt; slice.bytes(), [1, 9, 9, 8].as_slice());
-    let mut vec = Vec::from_array(alloc, [5, 6, 7, 8])?;
-    assert_eq!(rt; count(&vec), 4);
-    write_vec(&mut vec);
+    assert!(rt; slice.bytes() == [1, 9, 9, 8].as_slice());
+}
+
+/// Reads and writes a vector that holds 5, 6, 7 and 8.
+fn assert_vec(rt: &impl Abort, vec: &mut Vec<u8>)
+    requires { length vec.old.items ≡ 4 }
+{
+    assert!(rt; count(vec) == 4);
+    write_vec(vec);
     assert!(rt; vec.len() == 4);
-    fill_part(&mut vec, 1, 3, 9);
-    assert_eq!(rt; vec.bytes(), [1, 9, 9, 8].as_slice());
+    fill_part(vec, 1, 3, 9);
+    assert!(rt; vec.bytes() == [1, 9, 9, 8].as_slice());
+}
+
+#[test]
+fn storage(rt: HostRuntime) -> Result<(), Fail> {
+    assert_slices(&rt);
+    let mut vec = Vec::from_array(rt.alloc(), [5, 6, 7, 8])?;
+    assert_vec(&rt, &mut vec);
     Ok(())
 }

@@ -1,17 +1,17 @@
-//! The basic traits, at types of the tests and through their bounds.
+//! The basic traits, for types of the tests and through their bounds.
 #![tactic(auto, using(netlink_bytes::specs::NumberLaws::text_sizes))]
 
 ghost use Rattle.std.specs.Prelude.{◌≡◌, ◌≢◌, ◌<◌, ◌^◌, ⊤, [], true, length, if◌then◌else◌, IfOk};
 ghost use Rattle.netlink_bytes.specs.Numbers.{number_be, number_le, bytes_le};
 ghost use Rattle.netlink_bytes.specs.declared.error.DecodeError.TheVariants.{InvalidNumber};
 
+use crate::tests::errors::assert_refused;
 use netlink_bytes::{
     DecodeError, Emitable, Parseable, ParseableParametrized, emit_u16, parse_u16_be, parse_u16_le,
 };
 use std::alloc::{AllocError, Global};
-use std::test::Fail;
 
-/// A number of two bytes.
+/// A 16-bit integer.
 #[derive(Clone, Copy, Debug, PartialEq, Eq)]
 struct Word(u16);
 
@@ -31,7 +31,7 @@ impl Emitable for Word {
     }
 }
 
-/// The parameter says whether the highest byte comes first.
+/// The parameter is whether the highest byte comes first.
 impl<'a> ParseableParametrized<&'a [u8], bool> for Word {
     ghost can_parse = { λ buf high_first. ⊤ };
 
@@ -52,7 +52,7 @@ impl<'a> ParseableParametrized<&'a [u8], bool> for Word {
     }
 }
 
-/// Bytes of one's own.
+/// Bytes in a vector of their own.
 #[derive(Debug, Drop)]
 struct Copied(Vec<u8>);
 
@@ -74,7 +74,7 @@ impl<'a> Parseable<&'a [u8]> for Copied {
     }
 }
 
-/// The bytes of a value.
+/// Returns the encoding of a value.
 fn written<E: Emitable>(alloc: Global, value: &E) -> Result<Vec<u8>, AllocError>
     requires can { E.can_emit value.now }
     requires longer { E.takes_longer ≡ true }
@@ -86,7 +86,7 @@ fn written<E: Emitable>(alloc: Global, value: &E) -> Result<Vec<u8>, AllocError>
     Ok(bytes)
 }
 
-/// What the bytes are read as.
+/// Returns what the bytes decode to.
 fn read<'a, V: Parseable<&'a [u8]>>(alloc: Global, bytes: &'a [u8]) -> Result<V, DecodeError>
     requires can { V.can_parse bytes }
     ensures { IfOk result (V.reads bytes.entry) }
@@ -94,35 +94,44 @@ fn read<'a, V: Parseable<&'a [u8]>>(alloc: Global, bytes: &'a [u8]) -> Result<V,
     V::parse(alloc, &bytes)
 }
 
+/// Returns whether a word is written as these bytes.
+fn is_written(alloc: Global, word: Word, expected: &[u8]) -> bool {
+    match written(alloc, &word) {
+        Ok(bytes) => bytes.as_slice() == expected,
+        Err(_) => false,
+    }
+}
+
+/// Returns whether the bytes are read as the same bytes.
+fn is_copied(alloc: Global, bytes: &[u8]) -> bool {
+    let copied: Result<Copied, DecodeError> = read(alloc, bytes);
+    match copied {
+        Ok(copied) => copied.0.as_slice() == bytes,
+        Err(_) => false,
+    }
+}
+
 #[test]
-fn written_and_read(rt: HostRuntime) -> Result<(), Fail> {
+fn written_and_read(rt: HostRuntime) {
     let alloc = rt.alloc();
-    let bytes = written(alloc, &Word(0x1234))?;
-    assert_eq!(rt; bytes.as_slice(), [0x34, 0x12].as_slice());
+    assert!(rt; is_written(alloc, Word(0x1234), &[0x34, 0x12]));
     let mut longer = [0x55; 3];
     Word(0x1234).emit(&mut longer);
     assert_eq!(rt; longer, [0x34, 0x12, 0x55]);
     let two: &[u8] = &[0x12, 0x34];
-    assert_eq!(rt;
-        Word::parse_with_param(alloc, &two, true).ok(),
-        Some(Word(0x1234))
-    );
-    assert_eq!(rt;
-        Word::parse_with_param(alloc, &two, false).ok(),
-        Some(Word(0x3412))
-    );
+    for (high_first, word) in [(true, Word(0x1234)), (false, Word(0x3412))] {
+        assert_eq!(rt;
+            Word::parse_with_param(alloc, &two, high_first).ok(),
+            Some(word)
+        );
+    }
     let three: &[u8] = &[1, 2, 3];
-    match Word::parse_with_param(alloc, &three, true) {
-        Ok(_) => assert!(rt; false),
-        Err(e) => assert_eq!(rt;
-            e.to_string(alloc)?.as_str(),
-            "Invalid number. Expected 2 bytes, received 3 bytes"
-        ),
-    }
-    let copied: Result<Copied, DecodeError> = read(alloc, three);
-    match copied {
-        Ok(copied) => assert_eq!(rt; copied.0.as_slice(), three),
-        Err(_) => assert!(rt; false),
-    }
-    Ok(())
+    assert_refused(
+        &rt,
+        alloc,
+        Word::parse_with_param(alloc, &three, true),
+        4,
+        "Invalid number. Expected 2 bytes, received 3 bytes",
+    );
+    assert!(rt; is_copied(alloc, three));
 }

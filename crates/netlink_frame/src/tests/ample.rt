@@ -1,10 +1,10 @@
-//! With ample memory, want of memory is not answered.
+//! With ample memory, `OutOfMemory` is never returned.
 
 use crate::ping_pong::PingPongMessage;
 use crate::tests::messages::Message;
 use netlink_packet_core::{DecodeError, is_canonical_frame, normalize, normalize_nlas};
 
-/// An answer, or a refusal for another cause.
+/// Returns whether a result is `Ok` or an error other than `OutOfMemory`.
 fn has_memory<T: Drop>(answer: Result<T, DecodeError>) -> bool {
     match answer {
         Ok(_) => true,
@@ -12,7 +12,7 @@ fn has_memory<T: Drop>(answer: Result<T, DecodeError>) -> bool {
     }
 }
 
-/// Frames of each type that copies, with every small size of a payload of ones.
+/// Frames of each type whose payload is copied, with payloads of 0 to 64 ones.
 #[test]
 fn frames_of_every_small_size(rt: HostRuntime) {
     for kind in [2u8, 3, 4, 18, 20] {
@@ -32,7 +32,7 @@ fn frames_of_every_small_size(rt: HostRuntime) {
     }
 }
 
-/// Attributes with every small size of a value of ones.
+/// Attributes with values of 0 to 64 ones.
 #[test]
 fn attributes_of_every_small_size(rt: HostRuntime) {
     for size in 0..=64u8 {

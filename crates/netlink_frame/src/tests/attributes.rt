@@ -1,4 +1,4 @@
-//! The commands over attributes.
+//! The commands for attributes.
 
 use crate::command::Command;
 use crate::nlas::nlas_fault;
@@ -30,7 +30,7 @@ fn lines_of_attributes(rt: HostRuntime) -> Result<(), Fail> {
     Ok(())
 }
 
-/// What stands before a fault is shown.
+/// What precedes an error is printed.
 #[test]
 fn lines_up_to_a_fault(rt: HostRuntime) -> Result<(), Fail> {
     let rows: [(&[u8], &str, u8, &str); 2] = [
@@ -82,7 +82,7 @@ fn canonical_blocks(rt: HostRuntime) -> Result<(), Fail> {
     Ok(())
 }
 
-/// The block ends in an attribute whose length says 3.
+/// The second attribute of the block has a length field of 3.
 #[test]
 fn a_damaged_block_has_no_canonical_one(rt: HostRuntime) -> Result<(), Fail> {
     let mut reader: &[u8] = &SHORT;

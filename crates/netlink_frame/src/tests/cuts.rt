@@ -1,4 +1,4 @@
-//! Blocks that are cut and joined, and what `nlas` makes of them.
+//! Truncated and concatenated blocks, and what `nlas` writes for them.
 
 use crate::command::Command;
 use crate::run::{Fault, run};
@@ -8,10 +8,10 @@ use std::alloc::Global;
 use std::process::Abort;
 use std::test::Fail;
 
-/// The number of the fault that a walk ends with, and its two sizes as they are named in the cause.
+/// The number of the error that ends a walk, and its two sizes: `buffer_len` and `nla_len`.
 pub type Ending = (u8, usize, usize);
 
-/// A walk without a fault.
+/// A walk without an error.
 pub const WELL: Ending = (0, 0, 0);
 
 const FIRST: &str = "0001 1 aa\n";
@@ -20,7 +20,7 @@ const BOTH: &str = "0001 1 aa\n0002 4 01020304\n";
 
 const EMPTY: &str = "0001 0 -\n";
 
-/// What `nlas` writes of a block, and how it ends.
+/// Returns what `nlas` writes for a block, and how the walk ends.
 pub(crate) fn nlas_of(alloc: Global, block: &[u8]) -> Result<(Vec<u8>, Ending), Fail> {
     let mut reader = block;
     let mut output = Vec::new(alloc);
@@ -49,7 +49,7 @@ fn ending_of(cause: &DecodeError) -> Ending {
     }
 }
 
-/// A row for each cut, from no bytes to the whole block.
+/// A test case for each prefix, from no bytes to the whole block.
 #[test]
 fn each_cut_of_two_attributes(rt: HostRuntime) -> Result<(), Fail> {
     let rows: [(&str, Ending); 17] = [
@@ -91,7 +91,7 @@ fn each_cut_of_a_damaged_block(rt: HostRuntime) -> Result<(), Fail> {
     cut_as(&rt, rt.alloc(), &SHORT, &rows)
 }
 
-/// Cuts the block at each row's index, and compares the lines and the ending.
+/// Truncates the block to the index of each test case, and compares the lines and the ending.
 fn cut_as(
     rt: &impl Abort,
     alloc: Global,
@@ -108,8 +108,8 @@ fn cut_as(
     Ok(())
 }
 
-/// Behind a canonical block the walk goes on as that of what follows. A block that lacks padding
-/// takes it from what follows.
+/// After a canonical block, the walk continues as the walk of what follows. If a block lacks
+/// padding, what follows serves as its padding.
 #[test]
 fn joined_blocks(rt: HostRuntime) -> Result<(), Fail> {
     let rows: [(&[u8], &[u8], &str, Ending); 2] = [

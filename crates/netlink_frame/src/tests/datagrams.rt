@@ -1,4 +1,4 @@
-//! The command over datagrams.
+//! The command for datagrams.
 
 use crate::command::Command;
 use crate::frames::frames_fault;
@@ -29,7 +29,7 @@ fn lines_of_frames(rt: HostRuntime) -> Result<(), Fail> {
     Ok(())
 }
 
-/// Behind the 37 bytes four more begin inside the padding, so that one is left of them.
+/// Four bytes follow the first 37. Three of them are padding, so one is left.
 #[test]
 fn lines_of_frames_up_to_a_fault(rt: HostRuntime) -> Result<(), Fail> {
     let mut datagram = DATAGRAM[..37].to_vec(rt.alloc())?;

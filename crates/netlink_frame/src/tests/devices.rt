@@ -12,7 +12,7 @@ use std::io;
 use std::io::{Read, Write};
 use std::test::Fail;
 
-/// Each command, with bytes of which it makes some output.
+/// Each command, with an input for which it has output.
 const COMMANDS: [(Command, &[u8]); 5] = [
     (Command::Normalize, &PING),
     (Command::Show, &PING),
@@ -21,7 +21,8 @@ const COMMANDS: [(Command, &[u8]); 5] = [
     (Command::Frames, &DATAGRAM),
 ];
 
-/// Puts the first of the bytes into the buffer, and tells how many it put.
+/// Moves the first byte into the buffer, if there is one and the buffer has room. Returns the
+/// number of bytes moved.
 fn give_one(bytes: &mut &[u8], buf: &mut [u8]) -> usize
     ensures { result ≤ length buf.old }
 {
@@ -35,7 +36,7 @@ fn give_one(bytes: &mut &[u8], buf: &mut [u8]) -> usize
     }
 }
 
-/// Gives a byte a call, and fails after some.
+/// Gives one byte per call, and fails after `good` bytes.
 #[derive(Drop)]
 struct FailingReader<'a> {
     bytes: &'a [u8],
@@ -52,7 +53,7 @@ impl Read for FailingReader<'_> {
     }
 }
 
-/// Gives a byte a call, for ever.
+/// Gives one byte per call, forever.
 #[derive(Drop)]
 struct Endless {
     calls: u64,
@@ -73,7 +74,7 @@ impl Read for Endless {
     }
 }
 
-/// Is interrupted before each byte.
+/// Is interrupted before each byte that it gives.
 #[derive(Drop)]
 struct Interrupted<'a> {
     bytes: &'a [u8],
@@ -90,7 +91,7 @@ impl Read for Interrupted<'_> {
     }
 }
 
-/// Takes some bytes, and then fails.
+/// Takes `room` bytes, and then fails.
 #[derive(Drop)]
 struct FailingWriter {
     taken: Vec<u8>,
@@ -113,7 +114,7 @@ impl Write for FailingWriter {
     }
 }
 
-/// Takes all, and counts its calls.
+/// Takes everything, and counts its calls.
 #[derive(Drop)]
 struct Counting {
     calls: u64,
@@ -180,7 +181,7 @@ fn an_output_is_written_by_one_call(rt: HostRuntime) {
     }
 }
 
-/// Of no bytes each command makes no output, with a fault or without.
+/// For an empty input, each command has no output, whether it ends with an error or not.
 #[test]
 fn no_output_is_not_written(rt: HostRuntime) {
     for (command, _) in COMMANDS {
@@ -214,7 +215,7 @@ fn a_writer_that_fails(rt: HostRuntime) -> Result<(), Fail> {
     Ok(())
 }
 
-/// The line in front of the fault is not taken, so the fault is not told.
+/// The line before the error is not written in full, so `Write` is returned and not that error.
 #[test]
 fn a_failed_write_stands_before_a_fault(rt: HostRuntime) {
     let mut reader: &[u8] = &SHORT;

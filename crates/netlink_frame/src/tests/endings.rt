@@ -1,4 +1,4 @@
-//! The arguments, the statuses and what stands on standard error.
+//! The arguments, the statuses, and what goes to standard error.
 
 use crate::command::Command;
 use crate::ending::{Usage, asked, ended};
@@ -16,7 +16,7 @@ const USAGE: &str = "usage: netlink_frame normalize|show|nlas|canon|frames\n";
 const EMPTY_INPUT: &str =
     "failed deserializing NetlinkMessage caused by invalid netlink buffer length caused by invalid netlink buffer: length is 0 but netlink packets are at least 16 bytes\n";
 
-/// The arguments as they are handed to a program.
+/// Returns the arguments as they are passed to a program.
 fn args_of(alloc: Global, words: &[&str]) -> Result<Args, AllocError> {
     let mut args = Vec::new(alloc);
     for word in words {
@@ -79,7 +79,7 @@ fn each_ending_has_its_status_and_its_text(rt: HostRuntime) -> Result<(), Fail> 
     Ok(())
 }
 
-/// What the program does with its arguments, its input and its output.
+/// What the program does with its command, its input and its output.
 #[test]
 fn runs_end_with_their_status(rt: HostRuntime) -> Result<(), Fail> {
     let alloc = rt.alloc();

@@ -1,4 +1,4 @@
-//! Length fields, each value in place of the field.
+//! Length fields that are set to other values.
 
 use crate::ping_pong::PingPongMessage;
 use crate::samples::Zeros;
@@ -12,7 +12,8 @@ use std::alloc::Global;
 use std::process::Abort;
 use std::test::Fail;
 
-/// A ping of four bytes with another length: it is refused, read shorter, or cut.
+/// A ping of four bytes with other lengths. Below 16 the error is `FrameLength`, above 20
+/// `FrameCut`. Otherwise the payload is the bytes up to the length.
 #[test]
 fn lengths_of_a_ping(rt: HostRuntime) {
     for length in 0..22 {
@@ -48,7 +49,7 @@ fn ping_of_length(rt: &impl Abort, alloc: Global, length: u32) {
     }
 }
 
-/// An attribute of kind 1 with another length.
+/// An attribute of kind 1 with other lengths.
 #[test]
 fn lengths_of_an_attribute(rt: HostRuntime) -> Result<(), Fail> {
     let rows: [(u16, &str, Ending); 11] = [
@@ -74,7 +75,7 @@ fn lengths_of_an_attribute(rt: HostRuntime) -> Result<(), Fail> {
     Ok(())
 }
 
-/// Error and done bodies of fewer than four bytes. A done body of none has code 0.
+/// Error and done bodies of fewer than four bytes. An empty done body has code 0.
 #[test]
 fn lengths_of_a_body(rt: HostRuntime) {
     for size in 0..4u8 {
@@ -109,7 +110,7 @@ fn lengths_of_a_body(rt: HostRuntime) {
     }
 }
 
-/// The frame of type 19 with a count of zeros.
+/// Returns a frame of type 19 with a count of zeros.
 pub(crate) fn counted(count: u64) -> [u8; 24] {
     let mut frame = [0u8; 24];
     frame[0] = 24;
@@ -119,13 +120,13 @@ pub(crate) fn counted(count: u64) -> [u8; 24] {
     frame
 }
 
-/// Four zeros as they are written.
+/// The encoding of a message of four zeros.
 pub const FOUR_ZEROS: [u8; 20] = [
     0x14, 0, 0, 0, 0x12, 0, 0, 0, 0, 0, 0, 0, 0, 0, 0, 0, 0, 0, 0, 0,
 ];
 
-/// The longest message that fits 32 bits has 4294967279 bytes behind its header; no test makes
-/// them.
+/// The longest message whose length fits in 32 bits has 4294967279 bytes after its header. No test
+/// creates them.
 #[test]
 fn the_longest_message(rt: HostRuntime) -> Result<(), Fail> {
     let longest = NetlinkMessage::from_inner(Zeros(4294967279));
@@ -141,7 +142,7 @@ fn the_longest_message(rt: HostRuntime) -> Result<(), Fail> {
     Ok(())
 }
 
-/// Zeros are counted or read as a count; all else is refused.
+/// Zeros are counted, or read as a count. Everything else is rejected.
 #[test]
 fn zeros_are_read(rt: HostRuntime) -> Result<(), Fail> {
     let mut three = [0u8; 19];

@@ -1,7 +1,7 @@
-//! Calls that ask for no memory.
+//! Functions that do not allocate.
 //!
-//! `tests/memory` runs each test with every request behind its mark refused: it passes as ever, and
-//! it makes none.
+//! `tests/memory` runs each test with every allocation failing, starting at its marker. The test
+//! must pass, and allocate nothing after the marker.
 
 mod above;
 pub(crate) mod attributes;

@@ -31,12 +31,12 @@ pub const NOOP: [u8; 24] = [
     0x18, 0, 0, 0, 1, 0, 0, 0, 0, 0, 0, 0, 0, 0, 0, 0, 1, 2, 3, 4, 5, 6, 7, 8,
 ];
 
-/// What that is normalised to.
+/// What that is normalized to.
 pub const PLAIN_NOOP: [u8; 16] = [0x10, 0, 0, 0, 1, 0, 0, 0, 0, 0, 0, 0, 0, 0, 0, 0];
 
 pub const EMPTY_DONE: [u8; 16] = [0x10, 0, 0, 0, 3, 0, 0, 0, 0, 0, 0, 0, 0, 0, 0, 0];
 
-/// What that is normalised to.
+/// What that is normalized to.
 pub const PLAIN_DONE: [u8; 20] = [
     0x14, 0, 0, 0, 3, 0, 0, 0, 0, 0, 0, 0, 0, 0, 0, 0, 0, 0, 0, 0,
 ];
@@ -155,7 +155,7 @@ fn an_error_message_is_written(rt: HostRuntime) -> Result<(), Fail> {
     Ok(())
 }
 
-/// What a shared payload says: its type, its code and its bytes.
+/// Returns the type, the code and the bytes of a payload that every protocol shares.
 fn parts(message: &Message) -> (u16, i32, &[u8]) {
     match &message.payload {
         NetlinkPayload::Noop => (1, 0, &[]),
@@ -166,7 +166,7 @@ fn parts(message: &Message) -> (u16, i32, &[u8]) {
     }
 }
 
-/// Each frame with its payload's type, code and bytes, and the frame that it is normalised to.
+/// Each frame with its payload's type, code and bytes, and the frame that it is normalized to.
 #[test]
 fn shared_payloads(rt: HostRuntime) -> Result<(), Fail> {
     let nothing: &[u8] = &[];

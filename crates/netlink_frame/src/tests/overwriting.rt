@@ -1,4 +1,4 @@
-//! Values written in place, each followed by the walk of the block.
+//! Values overwritten in place, each followed by a walk of the block.
 
 ghost use Rattle.std.specs.Prelude.{◌≡◌, ◌∷◌, []};
 
@@ -49,7 +49,8 @@ fn a_value_is_written_over(rt: HostRuntime) -> Result<(), Fail> {
     Ok(())
 }
 
-/// A caller that knows the block learns the bytes that it becomes.
+/// Returns a block with a value overwritten. The contract shows that a caller who knows the block
+/// also knows the bytes that it becomes.
 fn replaced() -> [u8; 16]
     ensures { result ≡ 5 ∷ 0 ∷ 1 ∷ 0 ∷ 0xaa ∷ 0 ∷ 0 ∷ 0 ∷ 8 ∷ 0 ∷ 2 ∷ 0 ∷ 8 ∷ 0 ∷ 2 ∷ 0 ∷ [] }
 {
@@ -63,7 +64,7 @@ fn a_known_block(rt: HostRuntime) {
     assert_eq!(rt; replaced(), REPLACED);
 }
 
-/// A value is lent and written through the loan; what is not there is not lent.
+/// A value is mutably borrowed and overwritten. The result is `None` if there is no such attribute.
 #[test]
 fn a_value_is_lent(rt: HostRuntime) -> Result<(), Fail> {
     let mut block = TWO;
@@ -89,7 +90,7 @@ fn a_value_is_lent(rt: HostRuntime) -> Result<(), Fail> {
     Ok(())
 }
 
-/// In front of a fault too.
+/// An empty value is borrowed, even before an error.
 #[test]
 fn a_value_of_no_bytes_is_lent(rt: HostRuntime) -> Result<(), Fail> {
     let mut block = SHORT;

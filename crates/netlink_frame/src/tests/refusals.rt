@@ -1,4 +1,4 @@
-//! Bytes that are refused, with their causes.
+//! Bytes that are rejected, with their errors.
 
 use crate::ping_pong::PingPongMessage;
 use crate::tests::messages::{Message, PING};
@@ -12,17 +12,17 @@ const EMPTY_ERROR: [u8; 16] = [0x10, 0, 0, 0, 2, 0, 0, 0, 0, 0, 0, 0, 0, 0, 0, 0
 
 pub const UNKNOWN: [u8; 16] = [0x10, 0, 0, 0, 0x13, 0, 0, 0, 0, 0, 0, 0, 0, 0, 0, 0];
 
-/// 24 bytes whose length field says 40.
+/// 24 bytes whose length field is 40.
 const CUT: [u8; 24] = [
     0x28, 0, 0, 0, 0, 0, 0, 0, 0, 0, 0, 0, 0, 0, 0, 0, 0, 0, 0, 0, 0, 0, 0, 0,
 ];
 
-/// 24 bytes whose length field says 15.
+/// 24 bytes whose length field is 15.
 const SHORT_LENGTH: [u8; 24] = [
     0x0f, 0, 0, 0, 0, 0, 0, 0, 0, 0, 0, 0, 0, 0, 0, 0, 0, 0, 0, 0, 0, 0, 0, 0,
 ];
 
-/// Bytes with the number and the text of their cause.
+/// Bytes with the number and the text of their error.
 const REFUSED: [(&[u8], u8, &str); 6] = [
     (
         &[0x28, 0, 0, 0],
@@ -56,7 +56,7 @@ const REFUSED: [(&[u8], u8, &str); 6] = [
     ),
 ];
 
-/// Whether an answer is a refusal with this number.
+/// Returns whether a result is an error with this number.
 pub(crate) fn refuses<T: Drop>(answer: Result<T, DecodeError>, number: u8) -> bool {
     match answer {
         Ok(_) => false,

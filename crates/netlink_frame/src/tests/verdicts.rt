@@ -1,4 +1,4 @@
-//! What is canonical, and what is not.
+//! Which bytes are canonical, and which are not.
 
 use crate::ping_pong::PingPongMessage;
 use crate::samples::Zeros;

@@ -1,4 +1,4 @@
-//! A protocol of one message, for tests.
+//! A protocol with one message, for tests.
 
 ghost use Rattle.std.proofs.Common.{rules};
 ghost use Rattle.std.proofs.lemmas.Grind.{common_steps};
@@ -11,11 +11,11 @@ use std::alloc::Global;
 use std::error::Error;
 use std::fmt;
 
-/// A message of type 16 without bytes. Bytes that come with it are dropped.
+/// A message of type 16 without bytes. Bytes in its payload are dropped.
 #[derive(Debug, Drop, PartialEq, Eq)]
 pub struct Beat;
 
-/// The header has another type than 16.
+/// The error for a header whose type is not 16.
 #[derive(Debug, Drop)]
 pub struct NotABeat;
 

@@ -16,7 +16,7 @@ fn error_of(alloc: Global, code: i32) -> ErrorMessage {
     }
 }
 
-/// Bodies are equal by their codes and their bytes.
+/// Bodies are equal if their codes and their bytes are.
 #[test]
 fn bodies_are_told_apart(rt: HostRuntime) -> Result<(), Fail> {
     bodies_equal();
@@ -33,7 +33,7 @@ fn bodies_are_told_apart(rt: HostRuntime) -> Result<(), Fail> {
     Ok(())
 }
 
-/// Each code with its number and what is printed of it.
+/// Each code with its errno and what is printed for it.
 #[test]
 fn codes_and_their_numbers(rt: HostRuntime) -> Result<(), Fail> {
     let rows: [(i32, u32, &str); 5] = [
@@ -90,7 +90,7 @@ fn an_error_message_is_read_and_written(rt: HostRuntime) -> Result<(), Fail> {
     Ok(())
 }
 
-/// An acknowledgement has no code, a refusal has one.
+/// An acknowledgment has no code, and an error has one.
 #[test]
 fn views_of_codes(rt: HostRuntime) {
     let acknowledged = [0u8; 4];

@@ -1,4 +1,4 @@
-//! The numbers of the format.
+//! The constants of the format.
 
 use netlink_packet_core::{
     NETLINK_HEADER_LEN, NLM_F_ACK, NLM_F_ACK_TLVS, NLM_F_APPEND, NLM_F_ATOMIC, NLM_F_CAPPED,

@@ -1,4 +1,4 @@
-//! A header, read and written by the basic traits.
+//! A header, read and written through the basic traits.
 #![tactic(auto, using(netlink_packet_core::specs::Sizes::text_sizes))]
 
 use crate::tests::views::REQUEST;

@@ -1,4 +1,4 @@
-//! Each law, called and seen at run time.
+//! Each law, called and observed at run time.
 
 use crate::tests::beat::Beat;
 use crate::tests::canonical::bytes_of;
@@ -14,7 +14,7 @@ use netlink_packet_core::{
 use std::alloc::{AllocError, Global};
 use std::test::Fail;
 
-/// A done message with this header, this code and these bytes.
+/// Returns a done message with this header, this code and these bytes.
 fn done(
     alloc: Global,
     header: NetlinkHeader,
@@ -43,7 +43,7 @@ fn messages_are_told_apart(rt: HostRuntime) -> Result<(), Fail> {
     Ok(())
 }
 
-/// What is written reads back whatever follows, and is equal where the messages are.
+/// An encoding reads back, whatever follows, and is equal if the messages are.
 #[test]
 fn written_messages_read_back(rt: HostRuntime) -> Result<(), Fail> {
     let zeros = NetlinkHeader::default();
@@ -60,7 +60,7 @@ fn written_messages_read_back(rt: HostRuntime) -> Result<(), Fail> {
     Ok(())
 }
 
-/// No proper beginning of a frame is read, nor canonical.
+/// No proper prefix of a frame is read, and none is canonical.
 #[test]
 fn cut_frames_are_refused(rt: HostRuntime) -> Result<(), Fail> {
     let bytes = bytes_of(rt.alloc(), 20, 2, &[0xc3, 0xdd, 0xff, 0xff])?;
@@ -74,7 +74,7 @@ fn cut_frames_are_refused(rt: HostRuntime) -> Result<(), Fail> {
     Ok(())
 }
 
-/// With bytes behind a frame the same message is read, and the same refusal is answered.
+/// If bytes follow a frame, the same message is read, and the same error is returned.
 #[test]
 fn what_follows_a_frame_is_ignored(rt: HostRuntime) -> Result<(), Fail> {
     tail_ignored::<Beat>(&BEAT, &[0x21, 0]);
@@ -92,7 +92,7 @@ fn what_follows_a_frame_is_ignored(rt: HostRuntime) -> Result<(), Fail> {
     Ok(())
 }
 
-/// Frames that are canonical are normalised to themselves, and others are not.
+/// Canonical frames are normalized to themselves, and others are not.
 #[test]
 fn canonical_frames_stay(rt: HostRuntime) -> Result<(), Fail> {
     let rows: [(u8, u8, &[u8], bool); 4] = [
@@ -111,7 +111,8 @@ fn canonical_frames_stay(rt: HostRuntime) -> Result<(), Fail> {
     Ok(())
 }
 
-/// The frame of what a protocol reads is canonical, whatever the fields beside type and length.
+/// The frame of what a protocol reads is canonical, whatever the fields other than type and length
+/// are.
 #[test]
 fn readings_are_canonical(rt: HostRuntime) -> Result<(), Fail> {
     reading_is_canonical::<Beat>();
@@ -122,7 +123,7 @@ fn readings_are_canonical(rt: HostRuntime) -> Result<(), Fail> {
     Ok(())
 }
 
-/// A header and a view are copied, and what was copied stays.
+/// A header and a view are copied, and the originals stay unchanged.
 #[test]
 fn copies_are_equal(rt: HostRuntime) {
     let header = NetlinkHeader {

@@ -1,4 +1,4 @@
-//! Messages that are read, written and normalised.
+//! Messages that are read, written and normalized.
 
 ghost use Rattle.std.specs.Prelude.{replicate};
 
@@ -13,7 +13,7 @@ use std::test::Fail;
 /// A beat with all flags, a sequence number and a port.
 pub const BEAT: [u8; 16] = [0x10, 0, 0, 0, 0x10, 0, 0xff, 0xff, 4, 3, 2, 1, 8, 7, 6, 5];
 
-/// The header of that, before its length and its type are filled in.
+/// Returns the header of that, before its length and its type are set.
 fn header() -> NetlinkHeader {
     NetlinkHeader {
         length: 0,
@@ -44,7 +44,7 @@ fn a_beat_is_written_and_read_back(rt: HostRuntime) -> Result<(), Fail> {
     Ok(())
 }
 
-/// A message is written with the length and the type of its payload, whatever its header said.
+/// A message is written with the length and the type of its payload, whatever its header contained.
 #[test]
 fn a_message_becomes_its_frame(rt: HostRuntime) -> Result<(), Fail> {
     let beat = NetlinkMessage::from_inner(Beat);
@@ -64,7 +64,7 @@ fn a_message_becomes_its_frame(rt: HostRuntime) -> Result<(), Fail> {
     Ok(())
 }
 
-/// What bytes are normalised to; what follows a frame is dropped.
+/// What bytes are normalized to; what follows a frame is dropped.
 #[test]
 fn frames_are_normalised(rt: HostRuntime) -> Result<(), Fail> {
     let rows: [(u8, u8, &[u8], u8, &[u8]); 6] = [
@@ -90,7 +90,7 @@ fn frames_are_normalised(rt: HostRuntime) -> Result<(), Fail> {
     Ok(())
 }
 
-/// Each refusal by its number and its text; `normalize` refuses alike.
+/// Each error with its number and its text; `normalize` returns the same error.
 #[test]
 fn frames_are_refused(rt: HostRuntime) -> Result<(), Fail> {
     let rows: [(u8, u8, &[u8], u8, &str); 5] = [
@@ -141,7 +141,7 @@ fn frames_are_refused(rt: HostRuntime) -> Result<(), Fail> {
     Ok(())
 }
 
-/// What an answer is refused for.
+/// Returns the error of a result.
 pub(crate) fn refusal_of<T: Drop>(answer: Result<T, DecodeError>) -> Result<DecodeError, Fail> {
     match answer {
         Ok(_) => Err(Fail::from("the bytes are read")),
@@ -149,7 +149,7 @@ pub(crate) fn refusal_of<T: Drop>(answer: Result<T, DecodeError>) -> Result<Deco
     }
 }
 
-/// A message of type 16 with so many zero bytes.
+/// A message of type 16 with `count` zero bytes.
 #[derive(Drop)]
 struct Zeros {
     count: usize,

@@ -80,7 +80,7 @@ fn refusal_of(bytes: &[u8]) -> Result<DecodeError, Fail> {
     }
 }
 
-/// The five setters and the payload's bytes make the request out of zeros.
+/// The five setters and the bytes of the payload turn zeros into the request.
 #[test]
 fn a_request_is_built_in_place(rt: HostRuntime) -> Result<(), Fail> {
     let mut bytes = [0u8; 40];
@@ -113,7 +113,7 @@ fn the_payload_length_past_the_storage(rt: HostRuntime) {
     assert!(rt; view != NetlinkBuffer::new(&REQUEST[..23]));
 }
 
-/// What a vector or a mutable slice holds is read by the view that is lent of it.
+/// What a vector or a mutable slice holds is read by a view that borrows from it.
 #[test]
 fn lent_views_are_read(rt: HostRuntime) -> Result<(), Fail> {
     let view = NetlinkBuffer::new_checked(REQUEST.to_vec(rt.alloc())?)?;

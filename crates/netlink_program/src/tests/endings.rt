@@ -1,4 +1,4 @@
-//! The statuses, and what stands on standard error.
+//! The statuses, and what goes to standard error.
 
 use crate::Ending;
 use std::alloc::Global;
@@ -8,7 +8,7 @@ use std::io;
 use std::process::{ExitCode, Termination};
 use std::test::Fail;
 
-/// Keeps what is said on standard error.
+/// Stores what is printed to standard error.
 #[derive(Drop)]
 struct Said {
     alloc: Global,
@@ -55,7 +55,7 @@ fn each_ending_has_its_status_and_its_text(rt: HostRuntime) -> Result<(), Fail> 
     Ok(())
 }
 
-/// Has no standard error.
+/// Fails each time something is printed.
 #[derive(Drop)]
 struct Closed;
 
@@ -69,7 +69,7 @@ impl Eprint for Closed {
     }
 }
 
-/// The status is the same where nothing can be said.
+/// The status is the same if nothing can be printed.
 #[test]
 fn a_failed_write_is_no_fault(rt: HostRuntime) {
     let ending: Ending<u8, &str> = Ending::Failed(40);

@@ -1,4 +1,4 @@
-//! Inputs that are read whole, and readers that fail.
+//! Inputs that are read as a whole, and readers that fail.
 
 use crate::{ReadFault, read_all};
 use std::io;
@@ -14,7 +14,7 @@ fn all_is_read(rt: HostRuntime) -> Result<(), Fail> {
     Ok(())
 }
 
-/// Gives a byte a call and is interrupted before each, and fails after some.
+/// Is interrupted before each byte that it gives, and fails after `good` bytes.
 #[derive(Drop)]
 struct Failing {
     good: usize,

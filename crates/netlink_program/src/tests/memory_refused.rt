@@ -1,7 +1,7 @@
-//! Calls that ask for memory.
+//! Functions that allocate.
 //!
-//! `tests/memory` runs each test once for each of its requests, with that one refused. Then it
-//! passes as ever, or it ends with want of memory, which it hands on by `?`.
+//! `tests/memory` runs each test once per allocation, with that allocation failing. The test must
+//! pass, or end with an out-of-memory error that it propagates with `?`.
 
 use crate::read_all;
 use std::test::Fail;

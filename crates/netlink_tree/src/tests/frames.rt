@@ -1,4 +1,4 @@
-//! Datagrams walked, and added to.
+//! Walking datagrams, and appending to them.
 
 use crate::{Frames, append_frame, frames_fault};
 use std::alloc::{AllocError, Global};
@@ -10,10 +10,10 @@ const TWO: &[u8] = &[
     0, 0, 0, 0, 0, 0xff,
 ];
 
-/// A header alone whose length field says 15.
+/// A lone header whose length field is 15.
 const SHORT_LENGTH: &[u8] = &[15, 0, 0, 0, 18, 0, 0, 0, 0, 0, 0, 0, 0, 0, 0, 0];
 
-/// 24 bytes whose length field says 40.
+/// 24 bytes whose length field is 40.
 const CUT: &[u8] = &[
     40, 0, 0, 0, 18, 0, 0, 0, 0, 0, 0, 0, 0, 0, 0, 0, 0, 0, 0, 0, 0, 0, 0, 0,
 ];
@@ -62,7 +62,7 @@ fn datagrams_are_frames_and_then_the_fault(rt: HostRuntime) -> Result<(), Fail> 
     Ok(())
 }
 
-/// The size of each frame, their bytes one after another, and the text of the fault.
+/// Returns the size of each frame, their bytes one after another, and the error text.
 fn walked(alloc: Global, datagram: &[u8]) -> Result<(Vec<usize>, Vec<u8>, String), AllocError> {
     let mut sizes = Vec::new(alloc);
     let mut frames = Vec::new(alloc);

@@ -91,7 +91,7 @@ fn both_flag_bits_are_kept(rt: HostRuntime) -> Result<(), Fail> {
     Ok(())
 }
 
-/// The most bytes of a value: what 16 bits can count, less a header of four.
+/// The maximum size of a value in bytes: the largest 16-bit length, less a 4-byte header.
 const LONGEST: usize = 65531;
 
 #[test]
@@ -107,7 +107,7 @@ fn values_have_at_most_65531_bytes(rt: HostRuntime) -> Result<(), Fail> {
     let nest = nested(alloc, 1, leaf(alloc, 65525)?)?;
     assert_eq!(rt; written(alloc, &nest)?.1.as_str(), TOO_LONG);
 
-    // the padding of the leaf is missing, and is wanted where it is written
+    // the leaf lacks its padding, which writing it needs
     let mut block = vec![in alloc; 0xff, 0xff, 1, 0x80, 0xfb, 0xff, 2, 0]?;
     block.resize(65535, 0)?;
     let trees = read_tree(alloc, &block)?;
@@ -139,7 +139,7 @@ fn kinds_are_looked_at_inside(rt: HostRuntime) -> Result<(), Fail> {
     Ok(())
 }
 
-/// Calls alone: a law has no effect, and its clause is proved.
+/// Only calls: a law has no effect at run time, and its clause is proved.
 #[test]
 fn the_laws_are_called() {
     frames_total();
@@ -159,7 +159,7 @@ const TOO_DEEP: &str = "attributes are nested deeper than 16";
 
 const TOO_LONG: &str = "the value of an attribute is longer than 65531 bytes";
 
-/// Each fault with its exact text, as it is made of what `?` hands on; and `==` tells them apart.
+/// Each error with its exact text, converted as `?` does, and told apart by `==`.
 #[test]
 fn texts_of_faults(rt: HostRuntime) -> Result<(), Fail> {
     let alloc = rt.alloc();
@@ -184,7 +184,7 @@ fn texts_of_faults(rt: HostRuntime) -> Result<(), Fail> {
     Ok(())
 }
 
-/// The text of the fault of bytes, or none where they are read.
+/// Returns the error text for the bytes, or the empty string if they are read.
 fn read_fault(alloc: Global, bytes: &[u8]) -> Result<String, AllocError> {
     match read_tree(alloc, bytes) {
         Ok(_) => Ok(String::new(alloc)),
@@ -192,7 +192,7 @@ fn read_fault(alloc: Global, bytes: &[u8]) -> Result<String, AllocError> {
     }
 }
 
-/// The size of what is written of trees, or the text of the fault.
+/// Returns the size of the encoded trees, or the error text.
 fn written(alloc: Global, trees: &[NlaTree]) -> Result<(usize, String), AllocError> {
     if !is_well_formed(trees) {
         return Ok((0, String::new(alloc)));
@@ -203,13 +203,13 @@ fn written(alloc: Global, trees: &[NlaTree]) -> Result<(usize, String), AllocErr
     }
 }
 
-/// A leaf of kind 2 with a value of so many zeros.
+/// Returns a leaf of kind 2 whose value is `size` zeros.
 fn leaf(alloc: Global, size: usize) -> Result<Vec<NlaTree>, AllocError> {
     let value = vec![in alloc; 0; size]?;
     Ok(vec![in alloc; NlaTree::Leaf { kind: 2, value }]?)
 }
 
-/// The trees inside so many nests of kind 0x8001.
+/// Returns the trees inside `depth` nests of kind 0x8001.
 fn nested(alloc: Global, depth: usize, inside: Vec<NlaTree>) -> Result<Vec<NlaTree>, AllocError> {
     let mut trees = inside;
     for _ in 0..depth {

@@ -5,6 +5,6 @@ use Rattle.netlink_attributes.specs.Steps.{unread}
 use Rattle.netlink_attributes.specs.Progress.{Passes}
 use Rattle.netlink_attributes.proofs.block.rewritten.Given as goal
 
--- some attributes are passed, and they are written
+-- some attributes have been passed, and they are written
 abbrev pub invariant-loop-item : goal.invariant-loop-item
 invariant-loop-item l = (done : List Attribute) × Passes l.bytes done (unread l.item-iterator) × (l.block.items ≡ canonical_block done)

@@ -4,6 +4,6 @@ use Rattle.netlink_attributes.specs.Steps.{unread}
 use Rattle.netlink_attributes.specs.Progress.{Passes}
 use Rattle.netlink_attributes.proofs.fault.nlas_fault.Given as goal
 
--- some attributes are passed
+-- some attributes have been passed
 abbrev pub invariant-loop-item : goal.invariant-loop-item
 invariant-loop-item l = (done : List Attribute) × Passes l.block done (unread l.item-iterator)

@@ -5,7 +5,7 @@ use Rattle.netlink_attributes.specs.Progress.{Passes}
 use Rattle.netlink_attributes.specs.Steps.{unread}
 use Rattle.netlink_attributes.proofs.find.find.Given as goal
 
--- so many attributes are passed, none of this kind
+-- that many attributes have been passed, none of this kind
 abbrev pub invariant-loop-item : goal.invariant-loop-item
 invariant-loop-item l = record {
   count : l.index * 4 + length (unread l.item-iterator) ≤ length l.block;

@@ -7,7 +7,7 @@ use Rattle.netlink_attributes.specs.Steps.{unread}
 use Rattle.netlink_attributes.specs.Walk.{Walk}
 use Rattle.netlink_attributes.proofs.place.nla_place.Given as goal
 
--- the place that is sought is one of those of what is left
+-- the location that is sought is one of those of what is left
 abbrev pub invariant-loop-item : goal.invariant-loop-item
 invariant-loop-item l = record {
   shorter : length (unread l.item-iterator) ≤ length l.block;

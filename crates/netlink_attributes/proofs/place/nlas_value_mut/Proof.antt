@@ -1,4 +1,4 @@
--- The range is looked up, and that part of the slice is lent on, or the slice stays.
+-- The range is looked up, and that part of the slice is reborrowed, or the slice is unchanged.
 use Rattle.std.proofs.Common.{◌≡◌, ℕ, ◌-◌, ◌^◌, ◌<◌, ◌≤◌, List, [], ◌∷◌, ◌++◌, refl, ap, ◌∙◌, lit<, w64, arith, length, take, ◌+◌, MutBor}
 use Rattle.std.proofs.VecSteps.Element.{Some-of, none_of}
 use Rattle.std.proofs.VecSteps.Shapes.{after}
@@ -55,15 +55,16 @@ use Rattle.netlink_attributes.proofs.place.ranged.Met.{met}
 abbrev stayed : Stays f.ended.signature.params f.ended.kept
 stayed = (stay_dropped (SliceRefMutOf (0 ∷ []) tt (plain (λ κs. u8)) (λ κs. tt)) no, (stay_dropped (plain (λ _. usize)) yes, tt))
 
--- what the clause asks of the block's last value, with the value's last bytes behind the result
+-- what the clause states about the block's last value, given the result and the last bytes written
+-- through it
 abbrev Follows : List ℕ → ℕ → Option (MutBor (List ℕ)) → List ℕ → List ℕ → Type 0
 Follows bytes index r value new = OnSome r (IsWritten bytes index value new)
 
--- the function, the block's last value at `None`, and why they meet the clause
+-- the function, the block's last value for `None`, and why they satisfy the clause
 abbrev Such : List ℕ → ℕ → Option (MutBor (List ℕ)) → Type 0
 Such bytes index r = (s : (List ℕ → List ℕ) × List ℕ) × ((value : List ℕ) → Follows bytes index r value (s.0 value)) × (s.1 ≡ bytes)
 
--- the machine's value of a triple
+-- the machine value of a triple
 abbrev triple : List Val → List Val → List Val → List Val
 triple us vs ws = vstruct (of_list (us ++ (vs ++ (ws ++ [])))) ∷ []
 
@@ -94,7 +95,7 @@ nlas_value_mut_spec 𝓤 𝓛 𝓜 𝓡 wired =
     qed 𝓛 (raw (G.pre z) ∷ []) ∵
     enter ! _ _ _ _ _ $ alloc_all !
     (λ l. pass_all ! refl ((tt, (tt, (record { fits = are.0.0.1.0 }, tt))), ((tt, record { fits = are.1.0.1 }), tt)) $
-    -- the slice is passed on, and comes back with its range
+    -- the slice is passed to `ranged`, which returns it with its range
     sets ! (addr ! (from ! (fld ! refl (hop ! (look_in_at ! 1 (sub ! 0 refl (whole !))) (stop !))))) refl (tt, tt) $
     sets ! (agg ! (and_then ! (get ! refl) (and_then ! (get_in ! (fld ! refl (stop !)) (sub ! 1 refl (whole !))) (no_more !)))) refl
     (tt, (tt, (record { fits = are.0.0.1.0 }, tt))) $

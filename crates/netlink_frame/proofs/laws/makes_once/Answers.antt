@@ -1,10 +1,10 @@
 use Rattle.netlink_frame.specs.declared.command.Command.TheVariants.{Normalize, Show, Nlas, Canon, Frames}
-use Rattle.netlink_frame.proofs.Once.{Uniqueness, normalizes_once, shows_once, nlas_once, canon_once, frames_once}
+use Rattle.netlink_frame.proofs.Once.{IsUnique, normalizes_once, shows_once, nlas_once, canon_once, frames_once}
 use Rattle.netlink_frame.proofs.laws.makes_once.Goals as goal
 
 pub returns : goal.returns
 returns c =
-    let unique : Uniqueness =
+    let unique : IsUnique =
     record {
       same = c.frame_unique.ensures.same;
       fits = c.frame_unique.ensures.fits;

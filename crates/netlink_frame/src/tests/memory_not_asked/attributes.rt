@@ -6,14 +6,11 @@ use crate::overwrite::overwrite;
 use crate::tests::attributes::{FLAGGED, SHORT, TWO};
 use crate::tests::mark::refuse_from_here;
 use crate::tests::refusals::refuses;
-use netlink_ethernet::{Comparisons, look_up};
 use netlink_packet_core::{
-    DefaultNla, Emitable, EthernetProtocol, Nla, NlaBuffer, Nlas, NlasIterator, Parseable,
-    append_nla, emit_nla, is_canonical_nlas, nla_align, nla_buffer_len, nla_find, nla_find_raw,
+    DefaultNla, Emitable, Nla, NlaBuffer, Nlas, NlasIterator, Parseable, append_nla,
+    append_padding, emit_nla, is_canonical_nlas, nla_align, nla_buffer_len, nla_find, nla_find_raw,
     nla_fits, nla_place, nlas_fault, nlas_value_mut, normalize_nlas, write_nla_value, write_nlas,
 };
-use std::fmt;
-use std::fmt::Write;
 use std::test::Fail;
 
 #[test]
@@ -155,6 +152,17 @@ fn an_attribute_is_appended(rt: HostRuntime) -> Result<(), Fail> {
     Ok(())
 }
 
+/// Padding goes into a vector with room for it.
+#[test]
+fn padding_is_appended(rt: HostRuntime) -> Result<(), Fail> {
+    let alloc = rt.alloc();
+    let mut bytes = Vec::with_capacity(alloc, 3)?;
+    refuse_from_here(alloc);
+    assert!(rt; append_padding(&mut bytes, 3).is_ok());
+    assert!(rt; bytes.as_slice() == [0, 0, 0].as_slice());
+    Ok(())
+}
+
 #[test]
 fn attributes_without_a_value(rt: HostRuntime) -> Result<(), Fail> {
     let alloc = rt.alloc();
@@ -168,43 +176,4 @@ fn attributes_without_a_value(rt: HostRuntime) -> Result<(), Fail> {
     }
     assert!(rt; nla.try_clone(alloc)? == nla);
     Ok(())
-}
-
-/// A buffer that text is written to, of few bytes.
-#[derive(Drop)]
-struct Line {
-    text: [u8; 8],
-    len: usize,
-}
-
-impl fmt::Write for Line {
-    fn write_str(&mut self, s: &str) -> fmt::Result {
-        for byte in s.as_bytes().iter() {
-            match self.text.get_mut(self.len) {
-                Some(place) => *place = *byte,
-                None => return Err(fmt::Error),
-            }
-            self.len += 1;
-        }
-        Ok(())
-    }
-}
-
-#[test]
-fn ethernet_protocols(rt: HostRuntime) {
-    refuse_from_here(rt.alloc());
-    assert!(rt; EthernetProtocol::from(0x0800) == EthernetProtocol::Ip);
-    assert!(rt; EthernetProtocol::from(0x1234).value() == 0x1234);
-    assert!(rt; EthernetProtocol::Other(0x0800).value() == 0x0800);
-    assert!(rt; u16::from(EthernetProtocol::Ip) == 0x0800);
-    let mut comparisons = Comparisons::new();
-    assert!(rt; look_up(0x0800, &mut comparisons) == EthernetProtocol::Ip);
-    assert!(rt; comparisons.count() <= 7);
-    let mut line = Line {
-        text: [0; 8],
-        len: 0,
-    };
-    assert!(rt; write!(line, "{}", EthernetProtocol::Ip).is_ok());
-    assert!(rt; write!(line, "{}", EthernetProtocol::Other(0x1234)).is_ok());
-    assert!(rt; line.text == *b"ip0x1234");
 }

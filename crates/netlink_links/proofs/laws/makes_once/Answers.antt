@@ -1,11 +1,13 @@
-use Rattle.netlink_links.proofs.Once.{Uniqueness, once}
+use Rattle.netlink_links.proofs.Once.{IsUnique, once}
 use Rattle.netlink_links.proofs.laws.makes_once.Goals as goal
 
 pub returns : goal.returns
 returns c =
-    let unique : Uniqueness =
+    let unique : IsUnique =
     record {
       same = c.frame_unique.ensures.same;
+      fits = c.frame_unique.ensures.fits;
+      written = c.frame_unique.ensures.written;
       refusal = c.refusal_unique.ensures.unique;
       frame = c.refusal_unique.ensures.frame;
     } in

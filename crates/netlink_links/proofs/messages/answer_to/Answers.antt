@@ -1,6 +1,5 @@
-use Rattle.std.proofs.Common.{◌≢◌, ℕ, List, [], ◌∷◌, ◌++◌, ◌∙◌, ap, drop, subst, sym, arith}
+use Rattle.std.proofs.Common.{ℕ, List, [], ◌∷◌, ◌++◌, ◌∙◌, ap, drop, subst, sym, arith}
 use Rattle.std.proofs.lemmas.Grind.{common_steps}
-use Rattle.netlink_packet_core.specs.DecodeError.TheVariants.{OutOfMemory}
 use Rattle.netlink_links.specs.Messages.{Messages}
 use Rattle.netlink_links.proofs.Passing.{lines_push, makes_all, makes_front, messages_push, none_left, some_left}
 use Rattle.netlink_links.proofs.messages.answer_to.Goals as goal
@@ -23,11 +22,11 @@ loop-rest-preserved c =
 
 pub returns-in-Err : goal.returns-in-Err
 returns-in-Err c =
-    let known : c.in-Err.cause ≢ OutOfMemory = λ same. absurd (let no = c.if-is_out_of_memory.ensures.memory.1 same in cc) in
-    makes_front c.args.input.now c.loop-rest.rest.now _ c.loop-rest.invariant.0 _ c.in-Err.cause c.loop-rest.invariant.1
+    let is = c.in_ok-rejection-in-Err.ensures.known in
+    makes_front c.args.input.now c.loop-rest.rest.now _ c.loop-rest.invariant.0 _ _ c.in-Err.cause c.loop-rest.invariant.1
     c.loop-rest.invariant.2
     (some_left c.loop-rest.rest.now (grind (arith, common_steps, c.is_empty.ensures, c.loop-rest-test.true)))
-    (c.in-Err.ensures.refuses known) known (omega (arith, c.loop-rest.invariant.3))
+    (c.in-Err.ensures.refuses is.2) is.2 (omega (arith, c.loop-rest.invariant.3)) is.0 is.1
 
 pub returns : goal.returns
 returns c =

@@ -13,7 +13,7 @@ decreases-read_attribute l = 2 * l.levels + 1
 abbrev pub decreases-read_block : goal.decreases-read_block
 decreases-read_block l = 2 * l.levels
 
--- the attributes so far came to the trees so far
+-- the attributes so far are read as the trees so far
 abbrev pub invariant-read_block-loop-item : goal.invariant-read_block-loop-item
 invariant-read_block-loop-item l =
     (done : List Attribute) × Passes l.bytes done (unread l.item-iterator) × AreRead (Trees (l.levels - 1)) done (views l.trees.items)

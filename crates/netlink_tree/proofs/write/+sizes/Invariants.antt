@@ -4,7 +4,7 @@ use Rattle.netlink_tree.specs.Tree.{views}
 use Rattle.netlink_tree.specs.Writing.{are_too_long, tree_bytes}
 use Rattle.netlink_tree.proofs.write.+sizes.Given as goal
 
--- none so far is too long, and the size is theirs
+-- no tree so far is too long, and `size` is the size of their encoding
 abbrev pub invariant-text_size-loop-tree : goal.invariant-text_size-loop-tree
 invariant-text_size-loop-tree l =
     (are_too_long (views l.trees) ≡ are_too_long (views (drop l.tree-index l.trees)))

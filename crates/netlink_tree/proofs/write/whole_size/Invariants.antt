@@ -4,7 +4,7 @@ use Rattle.netlink_tree.specs.Tree.{views}
 use Rattle.netlink_tree.specs.Writing.{are_too_long, tree_bytes}
 use Rattle.netlink_tree.proofs.write.whole_size.Given as goal
 
--- none so far is too long, and the size is theirs as far as a number can say it
+-- no tree so far is too long, and `size` is the size of their encoding, up to the largest `usize`
 abbrev pub invariant-loop-tree : goal.invariant-loop-tree
 invariant-loop-tree l =
     (are_too_long (views l.trees) ≡ are_too_long (views (drop l.tree-index l.trees)))

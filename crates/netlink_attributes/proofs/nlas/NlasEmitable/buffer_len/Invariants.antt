@@ -3,7 +3,7 @@ use Rattle.netlink_attributes.specs.Block.{canonical_block}
 use Rattle.netlink_attributes.specs.Nla.{attributes_of}
 use Rattle.netlink_attributes.proofs.nlas.NlasEmitable.buffer_len.Given as goal
 
--- the size so far and that of what is left are the whole size
+-- the size so far plus that of what is left is the whole size
 abbrev pub invariant-loop-nla : goal.invariant-loop-nla
 invariant-loop-nla g l =
     l.size + length (canonical_block (attributes_of g.T.Nla.kind_of g.T.Nla.value_of (drop l.nla-index l.nla-items)))

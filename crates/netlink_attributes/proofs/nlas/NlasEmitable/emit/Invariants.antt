@@ -4,7 +4,7 @@ use Rattle.netlink_attributes.specs.Block.{canonical_block}
 use Rattle.netlink_attributes.specs.Nla.{attributes_of}
 use Rattle.netlink_attributes.proofs.nlas.NlasEmitable.emit.Given as goal
 
--- the front is written, and what is left of the list comes behind it
+-- the front is written, and what is left of the list follows it
 abbrev pub invariant-loop-nla : goal.invariant-loop-nla
 invariant-loop-nla g l = record {
   kinds : AllWithin (λ nla. g.T.Nla.kind_of nla < 2 ^ 16) l.nla-items 0 l.nla-index;

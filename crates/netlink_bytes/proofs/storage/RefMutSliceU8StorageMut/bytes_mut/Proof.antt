@@ -1,4 +1,4 @@
--- The inner reference is lent on: what is left in it is what the outer one holds.
+-- The inner reference is reborrowed: what is left in it is what the outer one holds.
 use Rattle.std.proofs.Common.{◌*◌, ◌^◌, List, [], ◌∷◌, refl, ap, w8, length}
 use Rattle.std.proofs.raw_atomic.Walks.{proved}
 use base.Fraction.{full_share}

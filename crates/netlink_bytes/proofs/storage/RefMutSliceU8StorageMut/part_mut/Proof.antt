@@ -1,4 +1,4 @@
--- Part of what the inner reference holds is lent on.
+-- A part of what the inner reference holds is reborrowed.
 use Rattle.std.proofs.Common.{◌≡◌, ℕ, ◌*◌, ◌-◌, ◌^◌, ◌<◌, ◌≤◌, List, [], ◌∷◌, refl, ap, w8, w64, arith, length, ◌+◌}
 use Rattle.netlink_bytes.specs.Lending.{starts_at, length_part, mid, lends_part}
 use Rattle.netlink_bytes.specs.Storage.{put_at}

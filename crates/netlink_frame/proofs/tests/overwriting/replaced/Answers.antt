@@ -21,7 +21,7 @@ starts_two : Starts second two []
 unfolding bytes_le
 starts_two = record { fits = record { kind = omega arith; value = omega arith }; gap = []; whole = refl; gap_size = inl refl }
 
--- the block walks as its two attributes
+-- walking the block yields its two attributes
 walk : Walk (5 ∷ 0 ∷ 1 ∷ 0 ∷ 170 ∷ 0 ∷ 0 ∷ 0 ∷ second) (one ∷ two ∷ []) None
 walk = (second, starts_one, ([], starts_two, refl))
 

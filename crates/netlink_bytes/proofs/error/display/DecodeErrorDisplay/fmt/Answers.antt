@@ -1,4 +1,4 @@
--- Each arm is the text of its own cause, as what was matched says.
+-- Each arm prints the text of the variant that it matched.
 use Rattle.std.proofs.Common.{subst, sym}
 use Rattle.std.specs.Fmt.{HasWritten}
 use Rattle.netlink_bytes.specs.Causes.{cause_text}
