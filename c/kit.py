@@ -1,4 +1,4 @@
-"""What the scripts of this folder share: how C is compiled and linked."""
+"""What the scripts of this folder share: how they compile and link C."""
 
 import os
 import shutil
@@ -9,19 +9,19 @@ HERE = os.path.dirname(os.path.abspath(__file__))
 OUT = os.path.join(HERE, "out")
 sys.path.append(os.path.join(os.path.dirname(HERE), "tests"))
 
-from libraries import TOP, kit  # noqa: E402 (it stands in that folder)
+from libraries import TOP, kit  # noqa: E402 (it is in that folder)
 
-# The headers of C that heap.c, the tests and the examples include. The toolchain's clang has none.
+# The standard headers that heap.c, the tests and the examples include. The toolchain's clang has none.
 HEADERS = "inttypes stdbool stddef stdint stdio stdlib string".split()
 
 
 def compiler():
-    """The C compiler of the machine: CC, or cc, or clang; none where it has none."""
+    """Returns the C compiler of the machine: $CC, cc or clang. Returns None if there is none."""
     return os.environ.get("CC") or shutil.which("cc") or shutil.which("clang")
 
 
 def headers(folder):
-    """Makes a folder of C's headers, each of which is plain.h."""
+    """Makes a folder with these headers, each of which only includes plain.h, and returns its path."""
     made = os.path.join(folder, "plain")
     os.makedirs(made, exist_ok=True)
     for name in HEADERS:
@@ -31,7 +31,7 @@ def headers(folder):
 
 
 def compile_object(flags, source, made, folder):
-    """Compiles a source into an object file, by the toolchain's clang where the machine has no compiler."""
+    """Compiles a source file into an object file, by the toolchain's clang if the machine has no C compiler."""
     words = [compiler()]
     if words == [None]:
         clang = os.path.join(kit(), "toolchain", "bin", "clang")
@@ -41,7 +41,7 @@ def compile_object(flags, source, made, folder):
 
 
 def link_program(flags, files, program):
-    """Links object files and archives into a program, as compile_object compiled them."""
+    """Links object files and archives into a program, with the same compiler as compile_object."""
     words = [compiler(), *flags, *files, "-o", program]
     if words[0] is None:
         words = [os.path.join(kit(), "bin", "rattle-link"), "--target", "x86_64-unknown-linux-gnu"]

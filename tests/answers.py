@@ -1,16 +1,16 @@
 #!/usr/bin/env python3
-"""Runs the built program on each input of answers.txt, and compares its output with that of the Rust crate.
+"""Runs the built program on each input of answers.txt, and compares the result with the recorded one of the Rust crate.
 
-A line of that file has a command, the input and the output in hexadecimal (`-` for none), and `ok` or
-the error text. Status, standard output and standard error must be exactly those; a mismatch is
-shown with its line. The datagrams in examples/captured are inputs of the list. The file must be the one whose number of
-lines and sha256 digest tests/expected.txt states, so that no line can be left out or replaced by another.
+A line of that file has a command, the input and the output in hexadecimal (`-` for none), and `ok` or the error text.
+The status, the standard output and the standard error must be exactly those; the script shows the line of each
+difference. The datagrams in examples/captured must be inputs of the file. The file must have the number of lines and
+the sha256 digest that tests/expected.txt states, so that no line can be left out or replaced by another.
 """
 
 import glob
 import os
 
-from built import TOP, built, run, side_by_side, tally
+from built import TOP, built, in_parallel, run, tally
 from expected import Expected, differs
 
 ANSWERS = "tests/answers.txt"
@@ -25,26 +25,26 @@ def main():
     with open(os.path.join(TOP, ANSWERS), encoding="utf-8") as file:
         lines = file.read().splitlines()
 
-    def fault_of(numbered):
+    def difference(numbered):
         number, line = numbered
-        command, given, output, fault = line.split(" ", 3)
-        said = b"" if fault == "ok" else fault.encode() + b"\n"
-        wanted = (1 if said else 0, bytes_of(output), said)
-        answer = run([program, command], bytes_of(given))
-        return None if answer == wanted else f"line {number}: {line}\n  answered {answer}"
+        command, stdin, output, error = line.split(" ", 3)
+        stderr = b"" if error == "ok" else error.encode() + b"\n"
+        result = run([program, command], bytes_of(stdin))
+        wanted = (1 if stderr else 0, bytes_of(output), stderr)
+        return None if result == wanted else f"line {number}: {line}\n  returned {result}"
 
-    faults = [it for it in side_by_side(fault_of, enumerate(lines, 1)) if it]
-    passed = len(lines) - len(faults)
+    failures = [it for it in in_parallel(difference, enumerate(lines, 1)) if it]
+    passed = len(lines) - len(failures)
     expected = Expected()
     stated = expected.lines["passes"].get("tests/answers.py", 0)
-    faults += filter(None, [differs(f"lines of {ANSWERS}", len(lines), stated), expected.wrong_digest(ANSWERS)])
+    failures += filter(None, [differs(f"lines of {ANSWERS}", len(lines), stated), expected.wrong_digest(ANSWERS)])
     inputs = {line.split(" ", 2)[1] for line in lines}
     for path in glob.glob(os.path.join(TOP, "examples", "captured", "*.bin")):
         with open(path, "rb") as file:
             if file.read().hex() not in inputs:
-                faults.append(f"{os.path.relpath(path, TOP)} is not an input of {ANSWERS}")
-    print(f"{len(lines)} answers of the Rust crate were replayed")
-    tally("answers", faults, passed)
+                failures.append(f"{os.path.relpath(path, TOP)} is not an input of {ANSWERS}")
+    print(f"{len(lines)} recorded results of the Rust crate were compared")
+    tally("answers", failures, passed)
 
 
 main()

@@ -1,23 +1,23 @@
 #!/usr/bin/env python3
-"""Has netlink_route read each frame of examples/captured, and looks at what it makes of it.
+"""Decodes each frame of examples/captured by netlink_route, and checks the result.
 
-The frame goes to a test of the crate on standard input, which writes its normal form. A frame of a
-link or an address, and one of the core's own types, is canonical as the kernel sends it, so it has
-to be its own normal form. Any other is refused, with the exact text for its message type.
+The script passes the frame on standard input to a test of the crate, which writes its canonical form or the error text.
+The kernel sent the frames of links, of addresses and of the core's own message types in canonical form, so the test
+must write these unchanged. It must reject any other frame, with the exact error text for its message type.
 """
 
 import csv
 import os
 import struct
 
-from built import TOP, built, run, side_by_side, tally
+from built import TOP, built, in_parallel, run, tally
 from expected import Expected, differs
 
 TEST = "tests::captured::standard_input_is_normalised"
-ENDS = b"\ntest result: ok\n"
+RESULT = b"\ntest result: ok\n"
 CAPTURED = os.path.join(TOP, "examples", "captured")
 
-# How many datagrams there are. tests/expected.txt states how many frames they have.
+# The number of datagrams. tests/expected.txt states how many frames they have.
 DATAGRAMS = 44
 
 OWN_TYPES = range(1, 5)  # NLMSG_NOOP to NLMSG_OVERRUN of linux/netlink.h
@@ -28,14 +28,14 @@ HEADER_SIZE = 16
 
 NO_ROUTE_MESSAGE = "message type {0} is none of links and addresses"
 
-# Frames of generic netlink whose type is that of a link: its family's header has 4 bytes, the
-# second of which is the family's version, and a link's has 16, the second of which is zero.
+# Errors for frames of generic netlink that have the type of a link. The header of their family has 4 bytes, and the
+# second is the family's version. The header of a link has 16 bytes, and the second is zero.
 SHORT = "the payload has {1} bytes, and its header 16"
 VERSION = "the second byte of the header is not zero"
 
 
 def frames_of(datagram):
-    """The frames of a datagram, each without the padding behind it."""
+    """Yields the frames of a datagram, each without its padding."""
     at = 0
     while at < len(datagram):
         size = struct.unpack_from("<I", datagram, at)[0]
@@ -44,7 +44,7 @@ def frames_of(datagram):
 
 
 def wanted(protocol, frame):
-    """What the test has to write of the frame."""
+    """Returns what the test must write for the frame."""
     kind, payload = struct.unpack_from("<H", frame, 4)[0], len(frame) - HEADER_SIZE
     if kind in OWN_TYPES or (protocol == ROUTE and kind in LINKS_AND_ADDRESSES):
         return frame
@@ -63,21 +63,21 @@ def main():
         with open(os.path.join(CAPTURED, name + ".bin"), "rb") as file:
             rows += [(f"{name}, frame {at}", protocol, it) for at, it in enumerate(frames_of(file.read()))]
 
-    def fault_of(row):
+    def difference(row):
         name, protocol, frame = row
-        answer = run([program, TEST], frame)
-        is_well = answer == (0, wanted(protocol, frame) + ENDS, b"")
-        return None if is_well else f"{name}: {frame.hex()}\n  answered {answer}"
+        result = run([program, TEST], frame)
+        is_right = result == (0, wanted(protocol, frame) + RESULT, b"")
+        return None if is_right else f"{name}: {frame.hex()}\n  returned {result}"
 
-    faults = [it for it in side_by_side(fault_of, rows) if it]
-    passed = len(rows) - len(faults)
+    failures = [it for it in in_parallel(difference, rows) if it]
+    passed = len(rows) - len(failures)
     if len(datagrams) != DATAGRAMS:
-        faults.append(f"{len(datagrams)} datagrams, not {DATAGRAMS}")
+        failures.append(f"{len(datagrams)} datagrams, not {DATAGRAMS}")
     why = differs("captured frames", len(rows), Expected().lines["passes"].get("tests/captured.py", 0))
-    faults += [why] * bool(why)
+    failures += [why] * bool(why)
     own = sum(wanted(protocol, frame) == frame for _, protocol, frame in rows)
-    print(f"{own} captured frames are their own normal form, and {len(rows) - own} are no route message")
-    tally("captured", faults, passed)
+    print(f"{own} captured frames are their own canonical form, and {len(rows) - own} are not route messages")
+    tally("captured", failures, passed)
 
 
 main()

@@ -15,8 +15,8 @@ class BadEdit(Exception):
 
 
 class Edit:
-    """The pairs of texts of a file, old and new, each in a file of the crate, and the functions, if any are named,
-    whose contracts must reject the edit. An edit that tests the script names its crate and what it expects."""
+    """The pairs of old and new text, each with its file of the crate, and the named functions, if any, whose contracts
+    must reject the edit. An edit that tests the script also names its crate and what it expects."""
 
     def __init__(self, crate, path):
         self.crate, self.name = crate, os.path.basename(path)
@@ -40,8 +40,8 @@ class Edit:
                     old = None
 
     def applied(self, texts):
-        """Returns the crate's texts, by file, after each pair in turn. Raises BadEdit if a pair cannot be applied or
-        changes something other than code."""
+        """Returns the crate's texts, by file, after all pairs are applied in turn. Raises BadEdit if a pair cannot be
+        applied or changes something other than code."""
         made = dict(texts)
         if not self.pairs:
             raise BadEdit("it has no pair of texts")
@@ -56,16 +56,16 @@ class Edit:
         return made
 
     def functions(self, texts):
-        """Returns the functions that the edit changes. Raises BadEdit if it changes code outside of a function and
-        names no function that must reject it."""
+        """Returns the functions that the edit changes. Raises BadEdit if it changes code outside a function and does
+        not name a function that must reject it."""
         found = {function_at(file, texts[file], texts[file].find(old), len(old)) for file, old, _ in self.pairs}
         if None in found and not self.only:
-            raise BadEdit("it changes code outside of a function, so a line `only:` must name the function that rejects it")
+            raise BadEdit("it changes code outside a function, so a line `only:` must name a function that rejects it")
         return found - {None}
 
 
 def changed_kind(file, before, after):
-    """Returns what a pair changes that is not code, or nothing."""
+    """Returns what a pair changes other than code, "nothing" if it changes nothing, or None if it changes code."""
     if not file.startswith("src/"):
         return "a file that is not below src/,"
     start = len(os.path.commonprefix([before, after]))
@@ -79,9 +79,10 @@ def changed_kind(file, before, after):
 
 
 def function_at(file, text, at, size=0):
-    """Returns the module, trait, type and name of the function that contains this stretch of the text, or None.
+    """Returns the module, trait, type and name of the function that contains `size` characters of the text, starting
+    at `at`, or None if no function does.
 
-    The files are laid out by `rt fmt`: a function ends at the first line that closes a brace at its own indent.
+    The files are formatted by `rt fmt`: a function ends at the first line that closes a brace at its own indentation.
     """
     starts = [it for it in FUNCTION.finditer(text) if it.start() <= at]
     if at < 0 or not starts:
@@ -97,7 +98,7 @@ def function_at(file, text, at, size=0):
 
 
 def function_at_line(file, text, number):
-    """Returns the function that contains the line with this number, or whose attributes begin there."""
+    """Returns the function that contains the line with this number, or whose attributes begin at it."""
     lines = text.splitlines(True)
     while lines[number - 1].lstrip().startswith("#["):
         number += 1
@@ -106,9 +107,9 @@ def function_at_line(file, text, number):
 
 
 def owner_of(above):
-    """Returns the trait and the type whose impl, or the trait whose body, is the last that begins in this text, as far
-    as the prover's path for a member shows them: `From<AllocError>` is `FromAllocError`, and `&mut [u8]` is
-    `RefMutSliceU8`."""
+    """Returns the trait, or "", and the type of the last impl that begins in this text. If a trait begins after it,
+    returns "" and that trait. Both names are as in the prover's path for a member: `From<AllocError>` is
+    `FromAllocError`, and `&mut [u8]` is `RefMutSliceU8`."""
     head = re.sub(r"'\w+", "", ["", *MEMBER_OF.findall(above)][-1])
     head = re.sub(r"From<(?:\w+::)*([\w]+)[^ ]*>", r"From\1", head)
     head = re.sub(r"& *mut *\[(\w+)\]", r"RefMutSlice\1", head)
@@ -121,10 +122,10 @@ def owner_of(above):
 
 
 def is_of(function, path):
-    """Returns whether the path of a function, without its crate, is this function's.
+    """Returns whether this is the path of the function, without the name of its crate.
 
-    A member of a type's own impl has the path of the type, wherever the impl is. A member of a trait's impl has the
-    path of the module, then the type and the trait in one word, in which a number's type begins with a capital.
+    A member of an inherent impl has the path of the type, wherever the impl is. A member of a trait's impl has the path
+    of the module, and then the type and the trait in one word, in which a number's type begins with a capital letter.
     """
     module, trait, owner, name = function
     *front, member, last = ["", *path.split("::")]

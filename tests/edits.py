@@ -8,16 +8,16 @@ that no longer fits does not count.
 
 `rt must-fail` tries the same edits one at a time, accepts any reason, and loads the standard library and the crate each
 time. Here, one check tries edits of many functions. The prover proves a function against the contracts of the functions
-that it calls, not against their bodies, so one broken implementation does not affect the goals of another. An edit that
-such a check does not show to be rejected is tried alone.
+that it calls, not against their bodies, so one broken implementation does not affect the goals of another. If such a
+check does not show that an edit is rejected, the edit is tried alone.
 
     tests/edits.py [--over FOLDER] [--follow] [--lanes N] [--log FOLDER] [CRATE..]
 
-Uses the libraries that `rt ci` or `rt check` left in the folders out/ of FOLDER, a copy of this repository (default: this
-one). First proves each crate as it is; an edit counts only if the crate is proved without it. With --follow it reads
-from standard input the names of the libraries that are proved, one per line, and starts each crate as soon as the
-libraries below it are there. Runs N checks in parallel (default: one per processor). --log keeps what each check printed.
-Without names it also tries the edits of tests/edits/, each of which says what this script must print of it.
+Uses the libraries that `rt ci` or `rt check` left in the folders out/ of FOLDER, a copy of this repository (default:
+this one). First proves each crate as it is; an edit counts only if the crate is proved without it. With --follow, reads
+the names of proved libraries from standard input, one per line, and starts a crate once the libraries below it are
+proved. Runs N checks in parallel (default: one per processor). --log keeps what each check prints. If no crate is
+named, also tries the edits of tests/edits/, each of which states what this script must print for it.
 """
 
 import argparse
@@ -39,17 +39,17 @@ from libraries import TOP, below, dependencies, folder_of, words_over_rlibs
 BATCH = 16
 PARTS = ("src", "specs", "proofs")
 
-# The last line of a check of some functions: how many were asked for, and how many of them are proved.
+# The last line of a check of some functions: how many were requested, and how many of them are proved.
 ONLY = re.compile(r"only=(\d+) proved=(\d+)")
-# A function of the crate that is proved, by its path.
+# The path of a function of the crate that is proved.
 PROVED = re.compile(r"(?m)^fn ([\w+]+(?:::[\w+]+)*): proved$")
-# A goal of an `ensures` that no answer of a proof file was written for, and where in the code it arises.
+# A goal of an `ensures` for which no proof file has an answer, and where in the code it arises.
 OPEN_GOAL = re.compile(r"(?m)^note: (src/\S+?):(\d+):\d+: it is not proved that what the function ensures holds")
-# A goal that its answer in a proof file does not prove: the function's folder in proofs/, the goal, and why.
+# A goal that its answer in a proof file does not prove: the function's folder in proofs/, the goal, and the reason.
 WRONG_ANSWER = re.compile(r"(?m)^(?:\./)?proofs/(\S+)/Answers\.antt:\d+:\d+: error: `([^`]+)`: (.*)$")
-# The name of a goal of an `ensures`; of functions that call one another, it begins with the function's name.
+# The name of a goal of an `ensures`. If functions call one another, it begins with the function's name.
 ENSURES = re.compile(r"(?:(\w+)-)?returns(?:-.*)?")
-# An answer that fails because the edit took a name away says little of the contract.
+# If an answer fails because the edit removed a name, that shows little about the contract.
 NAME_GONE = re.compile(r"has no field|is not in scope|has no `|was not admitted|is no name|names nothing")
 ERROR = re.compile(r"^(?:\./)?(\S+?):\d+:\d+: error: (?:(`[^`]*`): )?(.*)$", re.M)
 UNREAD = re.compile(r"is not in scope|has no field|is no name|operand is missing|expected the end|cannot continue")
@@ -68,8 +68,8 @@ def texts_of(crate):
 
 
 class Checked:
-    """What a check of the crate with these texts prints, for all its functions or only for some, over a copy of the
-    kept work of another check."""
+    """A check of the crate with these texts, of all its functions or only of some, that starts from a copy of the work
+    that another check kept: its status and what it printed."""
 
     def __init__(self, words, texts, kept, only=(), keep=False):
         self.texts = texts
@@ -85,12 +85,12 @@ class Checked:
             words += [word for path in only for word in ("--only", path)]
             how = {"cwd": os.path.join(room, "crate"), "stdin": subprocess.DEVNULL, "stdout": subprocess.PIPE}
             ran = subprocess.run(words, **how, stderr=subprocess.STDOUT, text=True, errors="replace")
-        self.status, self.said = ran.returncode, ran.stdout.rstrip("\n")
+        self.status, self.output = ran.returncode, ran.stdout.rstrip("\n")
 
     def last(self):
-        return self.said.rpartition("\n")[2]
+        return self.output.rpartition("\n")[2]
 
-    def is_refused(self):
+    def is_rejected(self):
         """Returns whether the check ended because something is not proved."""
         some = ONLY.fullmatch(self.last())
         return self.status == 1 and (some[1] != some[2] if some else self.last().startswith("logic=not-proved"))
@@ -99,30 +99,30 @@ class Checked:
         return self.status == 0 and (bool(ONLY.fullmatch(self.last())) or self.last().startswith("logic=proved "))
 
     def unread(self):
-        """Returns the line that says that the prover could not read a text, if there is one."""
-        for it in ERROR.finditer(self.said):
-            file, name, said = it.groups()
+        """Returns the line that states that the prover could not read a text, or None."""
+        for it in ERROR.finditer(self.output):
+            file, name, message = it.groups()
             ours = file.startswith(("src/", "specs/"))
-            if ours and (not name or UNREAD.search(re.sub(r"`[^`]*`", "", said))):
+            if ours and (not name or UNREAD.search(re.sub(r"`[^`]*`", "", message))):
                 return it[0]
         return None
 
     def broken(self, paths):
-        """Returns those of these functions, by their paths in the crate, of which a goal of an `ensures` is not proved."""
+        """Returns which of these functions, all paths in the crate, have a goal of an `ensures` that is not proved."""
         found = set()
-        for it in OPEN_GOAL.finditer(self.said):
+        for it in OPEN_GOAL.finditer(self.output):
             function = function_at_line(it[1], self.texts.get(it[1], ""), int(it[2]))
             found |= {path for path in paths if function and is_of(function, path)}
-        for it in WRONG_ANSWER.finditer(self.said):
+        for it in WRONG_ANSWER.finditer(self.output):
             goal, path = ENSURES.fullmatch(it[2]), re.sub(r"(^|::)\+", r"\1", it[1].replace("/", "::"))
             if goal and not NAME_GONE.search(re.sub(r"`[^`]*`", "`", it[3])):
                 found.add("::".join([*path.split("::")[:-1], goal[1]]) if goal[1] else path)
         return found.intersection(paths)
 
     def why(self):
-        """Returns the first line that says what was not proved or not read."""
-        lines = [it for it in self.said.split("\n") if re.match(r"(note: )?\S+:\d+:\d+: (error|it is not)", it)]
-        return lines[0][:300] if lines else self.said[:300]
+        """Returns the first line that states what was not proved or not read."""
+        lines = [it for it in self.output.split("\n") if re.match(r"(note: )?\S+:\d+:\d+: (error|it is not)", it)]
+        return lines[0][:300] if lines else self.output[:300]
 
 
 class Batch:
@@ -132,7 +132,7 @@ class Batch:
         self.texts, self.edits, self.functions = texts, [], set()
 
     def takes(self, edit, functions):
-        """Adds the edit if it changes none of the functions that the batch changes; returns whether it did."""
+        """Adds the edit if it changes none of the functions that the batch changes. Returns whether it was added."""
         if len(self.edits) == BATCH or self.functions & functions:
             return False
         try:
@@ -147,7 +147,8 @@ class Batch:
 def batches(edits, functions, texts):
     """Returns the edits in batches, and those that must be tried alone.
 
-    Deals them out in turn, so that neighbors, which often call one another, are tried apart.
+    Distributes them in turn, so that functions next to each other, which often call one another, are in different
+    batches.
     """
     wide = [it for it in edits if not it.only]
     held = [it for edit in wide for it in functions[edit]]
@@ -161,7 +162,7 @@ def batches(edits, functions, texts):
 
 
 class Crate:
-    """A crate's edits, the libraries that they are tried over, and the kept work of its proof."""
+    """A crate's edits, the libraries with which they are tried, and the work that its proof kept."""
 
     def __init__(self, name, top, folder, log=None):
         self.name, self.words, self.texts = name, words_over_rlibs(name, "check", top), texts_of(name)
@@ -170,17 +171,18 @@ class Crate:
         self.log, self.proved, self.functions = log, [], {}
 
     def is_proved(self):
-        """Proves the crate as it is, over what an earlier check kept, if one did, and keeps that work."""
+        """Proves the crate as it is, and returns whether it is proved. Starts from the work that an earlier check kept,
+        if there is any, and keeps the work of this proof."""
         if os.path.isdir(self.earlier):
             shutil.copytree(self.earlier, self.kept)
         os.makedirs(self.kept, exist_ok=True)
         checked = Checked(self.words, self.texts, self.kept, keep=True)
-        self.proved = [it.partition("::")[2] for it in PROVED.findall(checked.said)]
+        self.proved = [it.partition("::")[2] for it in PROVED.findall(checked.output)]
         return checked.is_proved()
 
     def targets(self, edit):
-        """Returns the functions whose contracts must reject the edit, each by its paths: two impls of one trait for a
-        type have the same. Raises BadEdit if one is not found."""
+        """Returns the paths of each function whose contract must reject the edit. Several paths match one function if
+        its type has several impls of its trait. Raises BadEdit if a function is not found."""
         if edit.only:
             wanted = [(it, [path for path in self.proved if f"::{path}".endswith(f"::{it}")]) for it in edit.only]
         else:
@@ -191,7 +193,7 @@ class Crate:
         return [paths for _, paths in wanted]
 
     def tries(self):
-        """Returns what is to be tried, the longest first: functions that return edits, each with whether it passes and
+        """Returns the tries, the longest first. A try is a function that returns edits, each with whether it passes and
         what to print."""
         bad = []
         for edit in self.edits:
@@ -201,12 +203,14 @@ class Crate:
                 self.targets(edit)
             except BadEdit as why:
                 bad.append((edit, False, f"BAD EDIT: {why}"))
-        together, alone = batches([it for it in self.edits if it not in {it for it, _, _ in bad}], self.functions, self.texts)
+        good = [it for it in self.edits if it not in {it for it, _, _ in bad}]
+        together, alone = batches(good, self.functions, self.texts)
         tries = [lambda it=it: self.batch(it) for it in together] + [lambda it=it: [self.alone(it)] for it in alone]
         return [*tries, lambda: bad]
 
     def batch(self, batch):
-        """Tries a batch, then once more those of its edits that it does not show to be rejected, and the rest alone."""
+        """Tries a batch. If it leaves edits that it does not show to be rejected, tries these in batches once more, and
+        then alone."""
         shown, rest = self.together(batch)
         again, alone = batches(rest, self.functions, self.texts) if 1 < len(rest) < len(batch.edits) else ([], rest)
         for it in again:
@@ -219,19 +223,19 @@ class Crate:
         checked = Checked(self.words, texts, kept, [f"{self.name}::{it}" for it in paths])
         if self.log:
             with open(os.path.join(self.log, f"{self.name}.{name}.txt"), "w", encoding="utf-8") as file:
-                file.write(checked.said)
+                file.write(checked.output)
         return checked
 
     def together(self, batch):
-        """Returns the edits of the batch that the check shows to be rejected, with what to print, and the others."""
+        """Returns the edits of the batch that a check shows to be rejected, with what to print, and the others."""
         groups = {edit: self.targets(edit) for edit in batch.edits}
         asked = sorted({path for it in groups.values() for paths in it for path in paths})
         checked = self.checked(batch.texts, self.kept, asked, f"batch-{batch.edits[0].name}")
-        broken = checked.broken(asked) if checked.is_refused() and not checked.unread() else set()
+        broken = checked.broken(asked) if checked.is_rejected() and not checked.unread() else set()
         shown, rest = [], []
         for edit in batch.edits:
-            if said := rejected(groups[edit], broken):
-                shown.append((edit, True, f"rejected, next to {len(batch.edits) - 1} others, by {said}"))
+            if functions := rejected(groups[edit], broken):
+                shown.append((edit, True, f"rejected, together with {len(batch.edits) - 1} others, by {functions}"))
             else:
                 rest.append(edit)
         return shown, rest
@@ -242,11 +246,12 @@ class Crate:
         paths = [path for it in groups for path in it]
         for kept in (self.kept, None):
             checked = self.checked(edited, kept, paths, edit.name)
-            if checked.is_refused() and not checked.unread() and (said := rejected(groups, checked.broken(paths))):
-                return edit, True, f"rejected, alone, by {said}"
+            broken = checked.broken(paths) if checked.is_rejected() and not checked.unread() else set()
+            if functions := rejected(groups, broken):
+                return edit, True, f"rejected, alone, by {functions}"
             if checked.is_proved():
                 return edit, False, f"NOT REJECTED: {' '.join(paths)} is proved with this edit"
-            if checked.is_refused():
+            if checked.is_rejected():
                 break
         if line := checked.unread():
             return edit, False, f"BAD EDIT: the prover cannot read the edited text: {line[:300]}"
@@ -261,8 +266,8 @@ def rejected(groups, broken):
 
 
 class SelfTest(Crate):
-    """The edits of tests/edits/ that apply to a crate: they test this script, which must print of each what its line
-    `expect:` says."""
+    """The edits of tests/edits/ that apply to a crate. They test this script, which must print for each what its line
+    `expect:` states."""
 
     def __init__(self, name, top, folder, log=None):
         super().__init__(name, top, os.path.join(folder, "selftest"), log)
@@ -272,20 +277,20 @@ class SelfTest(Crate):
         return [lambda it=it: [self.expected(it)] for it in self.edits]
 
     def expected(self, edit):
-        """Returns the edit, whether what is printed of it is what it expects, and what to print."""
+        """Returns the edit, whether the message for it is the expected one, and what to print."""
         try:
             edit.applied(self.texts)
             self.functions[edit] = edit.functions(self.texts)
-            _, _, said = self.alone(edit)
+            _, _, message = self.alone(edit)
         except BadEdit as why:
-            said = f"BAD EDIT: {why}"
-        is_well = said.startswith(edit.expect)
-        return edit, is_well, f"as expected: {said}" if is_well else f"expected {edit.expect}, not: {said}"
+            message = f"BAD EDIT: {why}"
+        is_right = message.startswith(edit.expect)
+        return edit, is_right, f"as expected: {message}" if is_right else f"expected {edit.expect}, not: {message}"
 
 
 class Lanes:
-    """Threads that take the waiting tasks, the lowest rank first: the proof of a crate as it stands, since its tries
-    wait for it, and then these."""
+    """Threads that run the waiting tasks, the lowest rank first: the proof of a crate as it is, because its tries wait
+    for that, and then the tries."""
 
     def __init__(self, number):
         self.waiting, self.turns = PriorityQueue(), itertools.count()
@@ -293,7 +298,7 @@ class Lanes:
             Thread(target=self.work, daemon=True).start()
 
     def submit(self, rank, task):
-        """What the task gives, once a thread has had time for it."""
+        """Adds a task. Returns the future that will have its result."""
         future = Future()
         self.waiting.put((rank, next(self.turns), task, future))
         return future
@@ -308,32 +313,34 @@ class Lanes:
 
 
 def begun(crate, lanes):
-    """Starts the tries of a crate if it is proved as it is; else returns None."""
-    return [lanes.submit(1, lambda it=it: shown(it)) for it in crate.tries()] if crate.is_proved() else None
+    """Starts the tries of a crate if it is proved as it is, and returns them. Otherwise returns None."""
+    return [lanes.submit(1, lambda it=it: run_try(it)) for it in crate.tries()] if crate.is_proved() else None
 
 
-def shown(tries):
-    """Prints what a try found of each of its edits, and gives how many passed and failed."""
-    found = tries()
-    for edit, well, said in found:
-        print(f"{edit.crate}/{edit.name}: {said}", flush=True)
-    passed = sum(well for _, well, _ in found)
+def run_try(try_edits):
+    """Runs a try and prints the result for each of its edits. Returns how many passed and how many failed."""
+    found = try_edits()
+    for edit, _, message in found:
+        print(f"{edit.crate}/{edit.name}: {message}", flush=True)
+    passed = sum(is_right for _, is_right, _ in found)
     return passed, len(found) - passed
 
 
-def asked(words):
-    """What the command line asks for."""
-    parser = argparse.ArgumentParser(description="Tries the must-fail edits: the prover has to refuse each.")
-    parser.add_argument("--over", default=TOP, help="the copy of the repository whose libraries are taken")
-    parser.add_argument("--follow", action="store_true", help="read the proved libraries' names from standard input")
-    parser.add_argument("--lanes", type=int, default=len(os.sched_getaffinity(0)), help="how many checks run at once")
+def options(words):
+    """Returns the options of the command line."""
+    parser = argparse.ArgumentParser(description="Tries the must-fail edits: a contract must reject each.")
+    parser.add_argument("--over", default=TOP, help="use the libraries built in this copy of the repository")
+    parser.add_argument("--follow", action="store_true", help="read the names of proved libraries from standard input")
+    parser.add_argument(
+        "--lanes", type=int, default=len(os.sched_getaffinity(0)), help="number of checks to run in parallel"
+    )
     parser.add_argument("--log", help="write what each check prints to a file in this folder")
-    parser.add_argument("crates", nargs="*", help="the crates, else all")
+    parser.add_argument("crates", nargs="*", help="crates to test (default: all)")
     return parser.parse_args(words)
 
 
 def main(words):
-    how, names = asked(words), dependencies()
+    how, names = options(words), dependencies()
     top, lanes, bases, proved = os.path.abspath(how.over), Lanes(how.lanes), {}, set() if how.follow else {*names}
     with tempfile.TemporaryDirectory(prefix="edits-kept-") as folder:
         kinds = [Crate] if how.crates else [Crate, SelfTest]
@@ -348,7 +355,7 @@ def main(words):
         for crate in crates:
             tries = bases[crate].result() if crate in bases else None
             if tries is None:
-                why = "is not proved as it stands" if crate in bases else "lacks a library"
+                why = "is not proved without an edit" if crate in bases else "lacks a library"
                 print(f"FAILED: {crate.name} {why}, so none of its edits was tried")
             counts += [(0, 1)] if tries is None else [it.result() for it in tries]
     passed, failed = map(sum, zip(*counts)) if counts else (0, 0)

@@ -63,7 +63,7 @@ class Expected:
             raise BadLine(f"{FILE}, line {at} cannot be read: {word} {rest}")
         name, value = form.groups()
         if name in self.lines[word]:
-            raise BadLine(f"{FILE}, line {at} states `{word} {name}` once more")
+            raise BadLine(f"{FILE}, line {at} states `{word} {name}` a second time")
         self.lines[word][name] = value if word == "digest" else int(value or 0)
 
     def crates(self):
@@ -72,7 +72,7 @@ class Expected:
         return sorted(it for it in os.listdir(folder) if os.path.isdir(os.path.join(folder, it)))
 
     def edits_of(self, name):
-        """Returns how many edits the crate has, or the folder of edits that test the script."""
+        """Returns how many edits the crate has or, for the name OWN_EDITS, how many edits test the script."""
         folder = name if name == OWN_EDITS else os.path.join("crates", name, "must-fail")
         return len(glob.glob(os.path.join(glob.escape(self.top), folder, "*.edit")))
 
@@ -90,7 +90,7 @@ class Expected:
             yield f"{FILE} names the crate {name}, which does not exist"
 
     def wrong_tests(self, counted):
-        """Yields each difference in the numbers of tests that ran and passed, by crate."""
+        """Yields each difference in the numbers of tests that ran and passed in each crate."""
         stated = self.lines["tests"]
         for crate in sorted({*stated, *counted, *(it for it in self.crates() if it.endswith("_tests"))}):
             if not counted.get(crate):
@@ -104,11 +104,11 @@ class Expected:
         return None if found == stated else f"{path} has the sha256 digest {found}; {FILE} states {stated}"
 
     def wrong_files(self):
-        """Returns the differences that are known before any step has run: those of edits and digests."""
+        """Returns the differences that are known before any step runs: those of edits and digests."""
         return [*self.wrong_edits(), *filter(None, map(self.wrong_digest, self.lines["digest"]))]
 
     def wrong_names(self, steps):
-        """Yields each line that names a step other than these, and each of these without a line."""
+        """Yields each line that names a step other than these, and each of these steps that no line names."""
         named = {*self.lines["passes"], *self.lines["passes-at-least"]}
         for name in sorted({*named, *(it.partition(" ")[2] for it in self.lines["skippable"])} - {*steps}):
             yield f"{FILE} names the step {name}, which does not exist"
@@ -123,13 +123,13 @@ class Expected:
                 yield f"{step} skipped {name} ({reason}), which {FILE} does not list as skippable"
 
     def wrong_number(self, step, number, skips):
-        """Returns how the number that passed in a step differs, or None. Each listed skip allows fewer."""
+        """Returns how the number that passed in a step differs, or None. Each listed skip reduces the stated number."""
         fewer = sum(self.lines["skippable"].get(f"{name} {step}", 0) for name, _ in skips)
         is_exact = step in self.lines["passes"]
         stated = self.lines["passes" if is_exact else "passes-at-least"].get(step, 1) - fewer
         return differs(f"passed in {step}", number, stated, is_exact)
 
     def note(self, step, number):
-        """Returns a line that asks to raise a number that need not be exact, or None."""
+        """Returns a line that asks you to raise a number that is only a lower bound, or None."""
         stated = self.lines["passes-at-least"].get(step)
         return differs(f"passed in {step}", number, stated) if stated and number > stated else None

@@ -1,4 +1,4 @@
-"""What the scripts share that call the prover: the crates, their libraries, and the toolchain's folder."""
+"""What the scripts that call the prover share: the crates, their libraries, and the folder of the toolchain."""
 
 import os
 import subprocess
@@ -7,7 +7,7 @@ TOP = os.path.dirname(os.path.dirname(os.path.abspath(__file__)))
 
 
 def kit():
-    """The toolchain's folder, where the page stands that `rt doc` names."""
+    """Returns the folder of the toolchain. `rt doc` prints the path of a page in it."""
     page = subprocess.run(["rt", "doc"], stdout=subprocess.PIPE, text=True, check=True).stdout
     return os.path.dirname(page.strip())
 
@@ -21,19 +21,19 @@ def rlib_of(crate, top=TOP):
 
 
 def heads():
-    """The lines of crates.txt, each a crate's words and the names of the crates that it stands on."""
+    """Returns the lines of crates.txt, each as the words before the colon and the crates that the crate depends on."""
     with open(os.path.join(TOP, "crates.txt")) as file:
         parts = [line.partition(":") for line in file]
     return [(head.split(), names.split()) for head, colon, names in parts if colon]
 
 
 def dependencies():
-    """The crates that each crate names, by crates.txt."""
+    """Returns for each crate the crates that it depends on, according to crates.txt."""
     return {words[0]: names for words, names in heads()}
 
 
 def below(crate, names):
-    """All crates below a crate, each behind those that it stands on."""
+    """Returns all crates that a crate depends on, directly or not. Each follows its own dependencies."""
     found = []
     for name in names[crate]:
         found += [it for it in [*below(name, names), name] if it not in found]
@@ -41,7 +41,7 @@ def below(crate, names):
 
 
 def words_over_rlibs(crate, verb, top=TOP):
-    """A call of the prover for the crate, from its own folder, over the libraries that lie in the folders out/."""
+    """Returns the command that runs the prover in the folder of the crate, with the libraries in the folders out/."""
     own, names = kit(), dependencies()
     root = "src/main.rt" if os.path.isfile(os.path.join(folder_of(crate), "src", "main.rt")) else "src/lib.rt"
     words = [f"{own}/bin/rattle", verb, "--crate-name", crate, root, "--links", f"{crate}="]

@@ -1,16 +1,16 @@
 #!/usr/bin/env python3
-"""Runs the built program `netlink_links`: captured datagrams, each error, wrong arguments, and inputs and outputs that
-fail.
+"""Runs the built program `netlink_links` on captured datagrams, on inputs with each error, with wrong arguments, and
+with inputs and outputs that fail.
 
-This script makes the lines of the captured datagrams itself, with Python's struct and ipaddress, from the numbers of
-linux/if.h, if_link.h and if_addr.h. The error texts are those of docs/FORMAT.md.
+This script computes the expected lines for the captured datagrams itself, with Python's struct and ipaddress and the
+numbers of linux/if.h, if_link.h and if_addr.h. The expected error texts are those of docs/FORMAT.md.
 """
 
 import ipaddress
 import os
 import struct
 
-from built import TOP, FailingDevices, built, error_of, row, side_by_side, silent, tally
+from built import TOP, FailingDevices, built, error_of, in_parallel, row, silent, tally
 
 CAPTURED = ["links-0", "links-1", "links-2", "addresses-0", "addresses-1", "link-by-name-0"]
 CAPTURED += ["link-unknown-0", "link-mtu-0", "event-0", "event-1", "event-2"]
@@ -27,7 +27,7 @@ LINE = b"7: a: <> link/[0]\n"
 
 
 def blocks(data, size):
-    """The pieces of a walk: their bytes by the length in front of each, padded to 4."""
+    """Yields the items of a walk. Each begins with a length field of `size` bytes and is padded to a multiple of 4."""
     at = 0
     while at < len(data):
         length = int.from_bytes(data[at : at + size], "little")
@@ -49,23 +49,23 @@ def number(value):
 
 def link_line(kind, body):
     _, device, index, flags, _ = struct.unpack_from("<HHIII", body)
-    had = attributes(body[16:])
+    attrs = attributes(body[16:])
     names = ",".join(name for bit, name in FLAGS if flags & bit)
-    below = f"@if{number(had[5])}" if 5 in had else ""
-    words = [f"{'Deleted ' if kind == 17 else ''}{index}: {text(had[3])}{below}: <{names}>"]
-    words.append(f"mtu {number(had[4])}")
-    words += [f"master if{number(had[10])}"] if 10 in had else []
-    words += [f"state {STATES[had[16][0]]}", f"link/{DEVICES[device]} {had[1].hex(':')}"]
-    words += [f"kind {text(attributes(had[18])[1])}"] if 18 in had else []
+    lower = f"@if{number(attrs[5])}" if 5 in attrs else ""
+    words = [f"{'Deleted ' if kind == 17 else ''}{index}: {text(attrs[3])}{lower}: <{names}>"]
+    words.append(f"mtu {number(attrs[4])}")
+    words += [f"master if{number(attrs[10])}"] if 10 in attrs else []
+    words += [f"state {STATES[attrs[16][0]]}", f"link/{DEVICES[device]} {attrs[1].hex(':')}"]
+    words += [f"kind {text(attributes(attrs[18])[1])}"] if 18 in attrs else []
     return " ".join(words)
 
 
 def address_line(body):
     family, prefix, _, scope, index = struct.unpack_from("<BBBBI", body)
-    had = attributes(body[8:])
-    own = ipaddress.ip_address(had.get(2, had[1]))
-    line = f"{index}: {FAMILIES[family]} {own}/{prefix} scope {SCOPES[scope]}"
-    return line + (f" {text(had[3])}" if 3 in had else "")
+    attrs = attributes(body[8:])
+    address = ipaddress.ip_address(attrs.get(2, attrs[1]))
+    line = f"{index}: {FAMILIES[family]} {address}/{prefix} scope {SCOPES[scope]}"
+    return line + (f" {text(attrs[3])}" if 3 in attrs else "")
 
 
 def line_of(frame):
@@ -95,18 +95,18 @@ def link(*attributes, index=7):
 
 
 NAMED = attribute(3, b"a\0")
-FRONT = "failed deserializing NetlinkMessage caused by invalid netlink buffer length caused by "
-FRONT += "invalid netlink buffer: "
+FRAME = "failed deserializing NetlinkMessage caused by invalid netlink buffer length caused by "
+FRAME += "invalid netlink buffer: "
 PARSE = "Failed to parse message with type "
 NO_TEXT = "is not a text with one zero byte at its end"
 OF_SIZE = "has a value of {} bytes instead of 4"
-LEAST = "netlink packets are at least 16 bytes"
+MINIMUM = "netlink packets are at least 16 bytes"
 
-# Bytes that hold no message, and why.
-FAULTS = [
-    (b"\0", f"{FRONT}length is 1 but {LEAST}"),
-    (link(NAMED)[:39], f"{FRONT}length field says 40 the buffer is 39 bytes long"),
-    (frame(16, bytes(16), 15), f"{FRONT}length field says 15 but {LEAST}"),
+# Bytes that are not a message, and the error text for each.
+ERRORS = [
+    (b"\0", f"{FRAME}length is 1 but {MINIMUM}"),
+    (link(NAMED)[:39], f"{FRAME}length field says 40 the buffer is 39 bytes long"),
+    (frame(16, bytes(16), 15), f"{FRAME}length field says 15 but {MINIMUM}"),
     (frame(24, bytes(12)), f"{PARSE}24: message type 24 is none of links and addresses"),
     (frame(16, bytes(15)), f"{PARSE}16: the payload has 15 bytes, and its header 16"),
     (frame(20, bytes(7)), f"{PARSE}20: the payload has 7 bytes, and its header 8"),
@@ -131,7 +131,7 @@ FAULTS = [
 
 
 def rows():
-    """The runs over inputs that can be read, to an output that can be written."""
+    """Yields the runs whose input can be read and whose output can be written."""
     folder = os.path.join(TOP, "examples", "captured")
     datagrams = [open(os.path.join(folder, f"{name}.bin"), "rb").read() for name in CAPTURED]
     for name, data in zip(CAPTURED, datagrams):
@@ -139,38 +139,38 @@ def rows():
     whole = b"".join(datagrams)
     yield row("all of them", [], (0, lines_of(whole), ""), whole)
     yield row("nothing", [], (0, b"", ""))
-    for given, fault in FAULTS:
-        yield row(given.hex(), [], (1, b"", f"byte 0: {fault}"), given)
-        behind = link(NAMED) + given
-        yield row(behind.hex(), [], (1, LINE, f"byte 40: {fault}"), behind)
+    for data, error in ERRORS:
+        yield row(data.hex(), [], (1, b"", f"byte 0: {error}"), data)
+        longer = link(NAMED) + data
+        yield row(longer.hex(), [], (1, LINE, f"byte 40: {error}"), longer)
     for words in (["links"], [""], ["-h"], ["a", "b"], [b"\xff"]):
         yield row(f"arguments {words}", words, USAGE, link(NAMED))
 
 
 def failing_rows(devices):
-    """Inputs that cannot be read, outputs that cannot be written, and a closed standard error.
+    """Yields runs whose input cannot be read, whose output cannot be written, or whose standard error is closed.
 
-    The whole output is written before an error of the input is printed, so `write failed` comes first. Output that is
-    empty is not written, so no device can fail. Wrong arguments come before any input and output.
+    The program writes all its output before it prints an error of the input, so it reports `write failed` instead. It
+    does not write an empty output, so no device can fail then. It checks its arguments before it reads or writes.
     """
-    given, (rejected, error) = link(NAMED), FAULTS[0]
+    data, (rejected, error) = link(NAMED), ERRORS[0]
     yield from devices.unread("netlink_links", [])
-    yield from devices.unwritten("a link", [], given)
-    yield from devices.unwritten("a link and an error", [], given + rejected)
+    yield from devices.unwritten("a link", [], data)
+    yield from devices.unwritten("a link and an error", [], data + rejected)
     yield from devices.unwritten("an error alone", [], rejected, (1, b"", f"byte 0: {error}"))
     yield from devices.unwritten("nothing", [], b"", (0, b"", ""))
-    yield from devices.unwritten("an argument", ["links"], given, USAGE)
+    yield from devices.unwritten("an argument", ["links"], data, USAGE)
     yield row("an argument and a closed input", ["links"], USAGE, closed="0<&-")
-    yield silent("a link", [], (0, LINE), given)
-    yield silent("a link and an error", [], (1, LINE), given + rejected)
-    yield silent("an argument", ["links"], USAGE, given)
-    yield row("a directory, no standard error", [], (1, b"", ""), stdin=devices.folder, closed="2>&-")
+    yield silent("a link", [], (0, LINE), data)
+    yield silent("a link and an error", [], (1, LINE), data + rejected)
+    yield silent("an argument", ["links"], USAGE, data)
+    yield row("a directory, no standard error", [], (1, b"", ""), devices.folder, closed="2>&-")
 
 
 def main():
     program = built("netlink_links", "netlink_links")
     all_rows = [*rows(), *failing_rows(FailingDevices())]
-    errors = [it for it in side_by_side(lambda it: error_of(program, it), all_rows) if it]
+    errors = [it for it in in_parallel(lambda it: error_of(program, it), all_rows) if it]
     tally("links", errors, len(all_rows) - len(errors))
 
 

@@ -1,16 +1,17 @@
 """Runs a program of this repository: ./netlink_frame and ./netlink_links call `main`.
 
 The program gets the arguments, standard input and standard output unchanged, and its exit status is the script's.
-Before that, the script proves and builds the program and the crates below it, if they changed, and says on standard
-error which crate it proves. `--quick` or `--verbose` changes this if it is the first argument. The program does not
-get that word:
+Before that, the script proves and builds the program and the crates below it, if they changed, and prints on standard
+error which crate it proves. `--quick` or `--verbose` as the first argument changes this. The program does not get that
+word:
 
---verbose  also shows what the toolchain says, for each crate when its proof ends. Without it, only a failure is shown.
+--verbose  also shows what the toolchain prints for each crate, when its proof ends. Without it, only the output of a
+           failed proof is shown.
 --quick    runs the program without proofs, by `rt try`. The input is at most 64 MiB, ends when nothing arrives for
            two seconds, and cannot be a terminal. The output is at most 1 MiB. The program has 60 seconds and no
            environment.
 
-Status 3: there is no answer, because the toolchain is missing or is another one, a crate is not proved, or `rt try`
+Status 3: there is no result, because the toolchain is missing or is another one, a crate is not proved, or `rt try`
 did not run the program to its end. Standard output is then empty.
 """
 
@@ -24,9 +25,9 @@ import tempfile
 import time
 
 from libraries import below, dependencies, folder_of
-from toolchain import NO_ANSWER, kit_named, need_kit
+from toolchain import NO_RESULT, kit_named, need_kit
 
-# What `rt try` says after the program's own standard error, if the program ended.
+# What `rt try` prints after the program's own standard error, if the program ended.
 ENDED = re.compile(rb"(interpreter: .*\n)?(checked: .*\n)?(races: .*\n)?run=ended .*\n\Z")
 
 
@@ -34,8 +35,8 @@ def say(text):
     print(text, file=sys.stderr, flush=True)
 
 
-def write(stream, said):
-    stream.buffer.write(said)
+def write(stream, data):
+    stream.buffer.write(data)
     stream.flush()
 
 
@@ -45,19 +46,19 @@ def quick(program, words):
     how = {"cwd": folder_of(program), "stdout": subprocess.PIPE, "stderr": subprocess.PIPE}
     with subprocess.Popen(["rt", "try", "--", *words], **how) as run:
         try:
-            output, said = run.communicate()
+            output, error = run.communicate()
         finally:
             run.terminate()
-    ended = ENDED.search(said)
+    ended = ENDED.search(error)
     if not ended:
-        write(sys.stderr, said)
-        say(f"{program}: no answer, for the reason above")
-        return NO_ANSWER
-    said = said[: ended.start()]
+        write(sys.stderr, error)
+        say(f"{program}: no result, for the reason above")
+        return NO_RESULT
+    error = error[: ended.start()]
     if output[-1:] not in (b"", b"\n"):
         # `rt try` then ends the line on standard error, before the program's own lines.
-        said = re.sub(rb"\A((?:rt: .*\n)*)\n", rb"\1", said)
-    write(sys.stderr, said)
+        error = re.sub(rb"\A((?:rt: .*\n)*)\n", rb"\1", error)
+    write(sys.stderr, error)
     write(sys.stdout, output)
     return run.returncode
 
@@ -68,7 +69,7 @@ def bytes_of(path):
 
 
 def sums_of(crates, names):
-    """Returns for each crate a hash of all that it is built from: the kit, its sources and the crates below it."""
+    """Returns for each crate a hash of everything it is built from: the kit, its sources and the crates below it."""
     sums = {}
     for crate in crates:
         made = hashlib.sha256(repr([kit_named(), crate, [sums[it] for it in names[crate]]]).encode())
@@ -86,7 +87,8 @@ def kept_at(crate):
 
 
 def kept_text(crate, sum):
-    """Returns what the file `kept_at` holds if `rt` proved what has this sum and a program is still as it was built."""
+    """Returns what the file `kept_at` contains after a proof of the sources with this sum, as long as the built
+    program, if the crate is one, is unchanged."""
     path = f"{folder_of(crate)}/out/{crate}"
     return f"{sum} {hashlib.sha256(bytes_of(path)).hexdigest() if os.path.isfile(path) else ''}".encode()
 
@@ -101,19 +103,19 @@ def chain(crate, names):
 
 
 def start(crate, program, names):
-    """Starts the proof of a crate, after the libraries below it; returns the run and the file of what it says.
+    """Starts the proof of a crate. Returns the run and the file with what it prints.
 
-    `rt` locks the crate and those below it, so crates that do not use each other are proved at the same time. A crate
-    has to wait for the libraries below it, because `rt` proves only over libraries that are built. The longest chain
-    therefore decides how long all takes, and the other crates get only the processor time that it leaves.
+    `rt` locks the crate and those below it, so crates that do not depend on each other are proved in parallel. A crate
+    must wait for the libraries below it, because `rt` needs them built. So the longest chain of crates determines the
+    total time, and the other crates get only the processor time that it leaves.
     """
     is_in_chain = crate in chain(program, names)
     words = [] if is_in_chain else ["nice", "-n", "19"]
     # No command of `rt` builds a program without running it.
     words += ["rt", "run" if crate == program else "lib", "--jobs", "4" if is_in_chain else "2"]
-    said = tempfile.TemporaryFile()
-    how = {"stdin": subprocess.DEVNULL, "stdout": said, "stderr": subprocess.STDOUT}
-    return subprocess.Popen(words, cwd=folder_of(crate), **how), said
+    output = tempfile.TemporaryFile()
+    how = {"stdin": subprocess.DEVNULL, "stdout": output, "stderr": subprocess.STDOUT}
+    return subprocess.Popen(words, cwd=folder_of(crate), **how), output
 
 
 def prove(program, is_verbose):
@@ -131,15 +133,15 @@ def prove(program, is_verbose):
                 say(f"proving {crate} ({len(stale) - len(waiting)} of {len(stale)})")
             time.sleep(0.05)
             for crate in [it for it, (run, _) in running.items() if run.poll() is not None]:
-                run, said = running.pop(crate)
-                said.seek(0)
-                # `rt run` says this right before it runs the program.
-                said, line, _ = said.read().partition(b"rt: running out/")
+                run, output = running.pop(crate)
+                output.seek(0)
+                # `rt run` prints this right before it runs the program.
+                printed, line, _ = output.read().partition(b"rt: running out/")
                 is_proved = bool(line) if crate == program else not run.returncode
                 if is_verbose or not is_proved:
-                    write(sys.stderr, said)
+                    write(sys.stderr, printed)
                 if not is_proved:
-                    say(f"{program}: no answer, because {crate} is not proved")
+                    say(f"{program}: no result, because {crate} is not proved")
                     return False
                 if sums_of(crates, names)[crate] == sums[crate]:
                     with open(kept_at(crate), "wb") as file:
@@ -152,7 +154,7 @@ def prove(program, is_verbose):
 
 def main(program):
     words = sys.argv[1:]
-    # Python ignores these two, and the program would inherit that.
+    # Python ignores these two signals, and the program would inherit that.
     for it in (signal.SIGPIPE, signal.SIGXFSZ):
         signal.signal(it, signal.SIG_DFL)
     for it in (signal.SIGINT, signal.SIGTERM, signal.SIGHUP):
@@ -163,6 +165,6 @@ def main(program):
     if option == "--quick":
         return quick(program, words)
     if not prove(program, option == "--verbose"):
-        return NO_ANSWER
+        return NO_RESULT
     path = f"{folder_of(program)}/out/{program}"
     os.execv(path, [path, *words])

@@ -14,13 +14,13 @@ TOKEN = re.compile(
     re.S | re.X,
 )
 
-# The words that begin a clause, as `ensures* name { .. }`.
+# The words that begin a clause, such as `ensures* name { .. }`.
 CLAUSES = {"requires", "ensures", "invariant", "also_owns"}
 CLAUSE = re.compile(r"\*?\s*(?:[^\W\d]\w*\s*)?\{")
 
 
 def parts(text):
-    """The stretches of the text that are not code, in order: their start, their end and their kind."""
+    """Returns the parts of the text that are not code, in order: the start, the end and the kind of each."""
     found, at = [], 0
     while token := TOKEN.search(text, at):
         at = token.end()
@@ -32,7 +32,7 @@ def parts(text):
 
 
 def kind_of(token, text):
-    """The kind of what begins with this token."""
+    """Returns the kind of the part that begins with this token."""
     word = token["word"]
     if token["comment"]:
         return COMMENT
@@ -46,8 +46,8 @@ def kind_of(token, text):
 
 
 def end_of(token, kind, text):
-    """Where that ends: a comment with its token, an attribute and a contract with their closing bracket, and a ghost
-    item with the `;` or `,` after it."""
+    """Returns where that part ends: a comment with its token, an attribute or a contract with its closing bracket, and
+    a ghost item with the `;` or `,` after it."""
     if kind == COMMENT:
         return token.end()
     depth, at = int(kind == ATTRIBUTE), token.end()
@@ -61,7 +61,7 @@ def end_of(token, kind, text):
 
 
 def kind_between(text, start, end):
-    """What this stretch of the text has that is not code, or CODE; white space has no kind."""
+    """Returns the kind of the first part between these offsets that is not code, or CODE. White space has no kind."""
     for first, last, kind in parts(text):
         if first < end and start < last and text[max(first, start) : min(last, end)].strip():
             return kind

@@ -1,11 +1,11 @@
 #!/usr/bin/env python3
-"""Runs the built program to each of its ends: status, standard output and standard error, exactly.
+"""Runs the built program `netlink_frame` to each of its ends, and compares status, standard output and standard error.
 
-Each cause that a command can give, each wrong list of arguments, and inputs and outputs that fail.
-The expected texts are those of docs/FORMAT.md, and the lines are made by hand.
+It gets inputs with each error that a command can report, wrong arguments, and inputs and outputs that fail. The
+expected error texts are those of docs/FORMAT.md, and the expected lines are written by hand.
 """
 
-from built import FailingDevices, built, error_of, row, side_by_side, silent, tally
+from built import FailingDevices, built, error_of, in_parallel, row, silent, tally
 
 COMMANDS = ["normalize", "show", "nlas", "canon", "frames"]
 
@@ -16,7 +16,7 @@ PONG = bytes.fromhex("1400000014000000000000000000000000010203")
 BLOCK = bytes.fromhex("05000100aa000000")
 LINES = b"length 20\ntype 18\nflags 0\nsequence 0\nport 0\npayload ping 00010203\n"
 
-# What each command makes of an input that it takes whole.
+# A valid input of each command, and the output for it.
 GOOD = {
     "normalize": (PING, PING),
     "show": (PING, LINES),
@@ -30,8 +30,8 @@ def header(length, kind):
     return length.to_bytes(4, "little") + kind.to_bytes(2, "little") + bytes(10)
 
 
-def short_body(front, name, size):
-    line = f"{front} caused by invalid {name} length caused by invalid {name}: "
+def short_body(prefix, name, size):
+    line = f"{prefix} caused by invalid {name} length caused by invalid {name}: "
     return f"{line}length is {size} but {name} are at least 4 bytes"
 
 
@@ -40,31 +40,31 @@ def unknown_type(kind):
     return f"{line}invalid ping-pong message: invalid message type"
 
 
-LEAST = "netlink packets are at least 16 bytes"
+MINIMUM = "netlink packets are at least 16 bytes"
 FRAME = "invalid netlink buffer length caused by invalid netlink buffer: "
 INSIDE = "failed deserializing NetlinkMessage caused by "
 DONE, ERROR = "failed to parse NLMSG_DONE", "failed parsing NLMSG_ERROR"
 
-# Bytes that are no frame, and why.
+# Bytes that are not a frame, and the error text for each.
 NO_FRAMES = [
-    (b"\0", f"{FRAME}length is 1 but {LEAST}"),
-    (PING[:4], f"{FRAME}length is 4 but {LEAST}"),
-    (PING[:15], f"{FRAME}length is 15 but {LEAST}"),
+    (b"\0", f"{FRAME}length is 1 but {MINIMUM}"),
+    (PING[:4], f"{FRAME}length is 4 but {MINIMUM}"),
+    (PING[:15], f"{FRAME}length is 15 but {MINIMUM}"),
     (PING[:16], f"{FRAME}length field says 20 the buffer is 16 bytes long"),
     (PING[:19], f"{FRAME}length field says 20 the buffer is 19 bytes long"),
     (header(0xFFFFFFFF, 18), f"{FRAME}length field says 4294967295 the buffer is 16 bytes long"),
-    (header(0, 18), f"{FRAME}length field says 0 but {LEAST}"),
-    (header(15, 18) + bytes(8), f"{FRAME}length field says 15 but {LEAST}"),
+    (header(0, 18), f"{FRAME}length field says 0 but {MINIMUM}"),
+    (header(15, 18) + bytes(8), f"{FRAME}length field says 15 but {MINIMUM}"),
 ]
 
-# Frames that are no message, and why.
+# Frames that are not messages, and the error text for each.
 NO_MESSAGES = [
     *[(header(16 + n, 3) + bytes(n), short_body(DONE, "DoneBuffer", n)) for n in (1, 2, 3)],
     *[(header(16 + n, 2) + bytes(n), short_body(ERROR, "ErrorBuffer", n)) for n in range(4)],
     *[(header(16, kind), unknown_type(kind)) for kind in (0, 5, 17, 19, 21, 65535)],
 ]
 
-# Bytes that hold no attribute, and why.
+# Bytes that are not an attribute, and the error text for each.
 NO_ATTRIBUTES = [
     (b"\5", "buffer has length 1, but an NLA header is 4 bytes"),
     (b"\5\0", "buffer has length 2, but an NLA header is 4 bytes"),
@@ -78,7 +78,8 @@ NO_ATTRIBUTES = [
     ],
 ]
 
-# No word, two, extra and unknown ones, words in capitals, cut, longer, empty and not UTF-8.
+# No command, two commands, additional and unknown words, and words that are capitalized, truncated, too long, empty or
+# not UTF-8.
 WRONG_ARGUMENTS = [
     [],
     ["normalize", "show"],
@@ -98,30 +99,30 @@ WRONG_ARGUMENTS = [
 
 
 def good_rows():
-    for command, (given, output) in GOOD.items():
-        yield row(f"{command} of what it takes", [command], (0, output, ""), given)
+    for command, (data, output) in GOOD.items():
+        yield row(f"{command} of a valid input", [command], (0, output, ""), data)
     for command in ("nlas", "canon", "frames"):
         yield row(f"{command} of nothing", [command], (0, b"", ""))
 
 
-def refused_rows():
+def rejected_rows():
     for command in ("normalize", "show"):
-        for given, fault in NO_FRAMES:
-            yield row(f"{command} of {given.hex()}", [command], (1, b"", INSIDE + fault), given)
-        for given, fault in NO_MESSAGES:
-            yield row(f"{command} of {given.hex()}", [command], (1, b"", fault), given)
-        fault = f"{INSIDE}{FRAME}length is 0 but {LEAST}"
-        yield row(f"{command} of nothing", [command], (1, b"", fault))
-    for given, fault in NO_FRAMES:
-        yield row(f"frames of {given.hex()}", ["frames"], (1, b"", fault), given)
-        behind = PING + PONG + given
-        yield row(f"frames of {behind.hex()}", ["frames"], (1, b"20 18\n20 20\n", fault), behind)
-    for given, fault in NO_ATTRIBUTES:
-        behind = BLOCK + given
-        yield row(f"nlas of {given.hex()}", ["nlas"], (1, b"", fault), given)
-        yield row(f"nlas of {behind.hex()}", ["nlas"], (1, b"0001 1 aa\n", fault), behind)
-        yield row(f"canon of {given.hex()}", ["canon"], (1, b"", fault), given)
-        yield row(f"canon of {behind.hex()}", ["canon"], (1, b"", fault), behind)
+        for data, error in NO_FRAMES:
+            yield row(f"{command} of {data.hex()}", [command], (1, b"", INSIDE + error), data)
+        for data, error in NO_MESSAGES:
+            yield row(f"{command} of {data.hex()}", [command], (1, b"", error), data)
+        error = f"{INSIDE}{FRAME}length is 0 but {MINIMUM}"
+        yield row(f"{command} of nothing", [command], (1, b"", error))
+    for data, error in NO_FRAMES:
+        yield row(f"frames of {data.hex()}", ["frames"], (1, b"", error), data)
+        longer = PING + PONG + data
+        yield row(f"frames of {longer.hex()}", ["frames"], (1, b"20 18\n20 20\n", error), longer)
+    for data, error in NO_ATTRIBUTES:
+        longer = BLOCK + data
+        yield row(f"nlas of {data.hex()}", ["nlas"], (1, b"", error), data)
+        yield row(f"nlas of {longer.hex()}", ["nlas"], (1, b"0001 1 aa\n", error), longer)
+        yield row(f"canon of {data.hex()}", ["canon"], (1, b"", error), data)
+        yield row(f"canon of {longer.hex()}", ["canon"], (1, b"", error), longer)
 
 
 def usage_rows():
@@ -130,15 +131,15 @@ def usage_rows():
 
 
 def failing_rows(devices):
-    """Inputs that cannot be read, and outputs that cannot be written."""
-    for command, (given, _) in GOOD.items():
+    """Yields runs whose input cannot be read or whose output cannot be written."""
+    for command, (data, _) in GOOD.items():
         yield from devices.unread(command, [command])
-        yield from devices.unwritten(command, [command], given)
-    for command, given in (("nlas", BLOCK + b"\5"), ("frames", PING + b"\0")):
-        yield from devices.unwritten(f"{command} with an error after its lines", [command], given)
+        yield from devices.unwritten(command, [command], data)
+    for command, data in (("nlas", BLOCK + b"\5"), ("frames", PING + b"\0")):
+        yield from devices.unwritten(f"{command} with an error after its lines", [command], data)
     for command in ("nlas", "canon", "frames"):
         yield from devices.unwritten(f"{command} of nothing", [command], b"", (0, b"", ""))
-    truncated = (1, b"", f"{INSIDE}{FRAME}length is 4 but {LEAST}")
+    truncated = (1, b"", f"{INSIDE}{FRAME}length is 4 but {MINIMUM}")
     yield from devices.unwritten("a truncated frame", ["normalize"], PING[:4], truncated)
     usage = (2, b"", USAGE)
     yield from devices.unwritten("a wrong word", ["help"], PING, usage)
@@ -146,7 +147,7 @@ def failing_rows(devices):
 
 
 def silent_rows():
-    """Runs whose standard error is closed: the status tells."""
+    """Yields runs whose standard error is closed. Only the status shows the error."""
     yield silent("normalize", ["normalize"], (0, PING), PING)
     yield silent("normalize of a truncated frame", ["normalize"], (1, b""), PING[:4])
     yield silent("nlas with an error after its lines", ["nlas"], (1, b"0001 1 aa\n"), BLOCK + b"\5")
@@ -156,9 +157,9 @@ def silent_rows():
 def main():
     program = built("netlink_frame")
     failing = failing_rows(FailingDevices())
-    rows = [*good_rows(), *refused_rows(), *usage_rows(), *failing, *silent_rows()]
-    errors = [it for it in side_by_side(lambda it: error_of(program, it), rows) if it]
-    print(f"{len(rows)} ends of the program were looked at")
+    rows = [*good_rows(), *rejected_rows(), *usage_rows(), *failing, *silent_rows()]
+    errors = [it for it in in_parallel(lambda it: error_of(program, it), rows) if it]
+    print(f"{len(rows)} runs of the program were checked")
     tally("statuses", errors, len(rows) - len(errors))
 
 

@@ -9,7 +9,7 @@ import sys
 import time
 from threading import Lock, Thread, Timer
 
-# Each process of a step has this variable in its environment, with a value of that step's own.
+# Each process of a step has this variable in its environment, with a value that only this step has.
 MARK = "CHECK_STEP"
 
 TALLY = re.compile(r"(?:.* )?(\d+) passed, (\d+) failed")
@@ -17,7 +17,7 @@ SKIPPED = re.compile(r"skipped: ([\w-]+) \((.+)\)")
 
 PRINTING = Lock()
 
-# Held while a process is started: until it runs its own program, it has the open files of the gate.
+# Held while a process is started, because it has the open files of the gate until it runs its own program.
 STARTING = Lock()
 
 
@@ -54,7 +54,7 @@ def holds(process, mark, pipe):
 
 
 def members(leader, mark, pipe):
-    """Returns the processes of a step: its group and session, all with its mark or output, and their descendants."""
+    """Returns the processes of a step: its group and session, those with its mark or output, and all descendants."""
     found = processes()
     found.pop(os.getpid())
     own = {it for it, (_, *groups) in found.items() if it == leader or leader in groups or holds(it, mark, pipe)}
@@ -71,7 +71,7 @@ def send(process, number):
 
 
 def kill_members(*step):
-    """Kills the processes of a step, and returns how many these were. They are stopped first, so that none can start
+    """Kills the processes of a step. Returns how many there were. They are stopped first, so that none can start
     another one or lose its parent before all are found."""
     stopped = set()
     with STARTING:
@@ -85,7 +85,7 @@ def kill_members(*step):
 
 
 class Step:
-    """A step: a command and its time limit, and the result of the run."""
+    """A step: a command, its time limit, and the result of the run."""
 
     def __init__(self, name, words, minutes, on_line=lambda line: None):
         self.name, self.words, self.minutes, self.on_line = name, words, minutes, on_line
@@ -102,7 +102,7 @@ class Step:
         show(self.failures[-1])
 
     def read(self, output):
-        """Shows what the step prints. If that fails, nothing would read the output, so the step is stopped."""
+        """Shows what the step prints. If that fails, stops the step, because nothing would read its output."""
         try:
             for line in output:
                 self.take(line.rstrip("\n"))
@@ -110,7 +110,7 @@ class Step:
             self.stop(f"was stopped, because its output could not be shown: {why}")
 
     def take(self, line):
-        """Shows a line, and hands it to `on_line`."""
+        """Shows a line and passes it to `on_line`."""
         show(line)
         self.last = line.strip()
         if line.startswith("skipped: "):
@@ -119,14 +119,14 @@ class Step:
         self.on_line(line)
 
     def stop(self, why):
-        """Stops the step with all processes that it started, unless it has ended."""
+        """Stops the step and all processes that it started, unless it has ended."""
         with self.stopping:
             if self.leader is not None and self.why_stopped is None:
                 self.why_stopped = why
                 kill_members(self.leader, self.mark, self.pipe)
 
     def run(self, folder, stdin=subprocess.DEVNULL):
-        """Runs the command in that folder, to its end or to its limit."""
+        """Runs the command in that folder until it ends or reaches its time limit."""
         begun, how = time.monotonic(), {"stdout": subprocess.PIPE, "encoding": "utf-8", "errors": "replace"}
         how["env"] = {**os.environ, MARK: self.mark.partition("=")[2]}
         try:
@@ -142,7 +142,7 @@ class Step:
         timer.daemon = True
         reader.start()
         timer.start()
-        # The leader is reaped last, so that its number stays its own as long as others are looked for by it.
+        # The leader is reaped last, so that no other process gets its number while its group is searched.
         os.waitid(os.P_PID, process.pid, os.WEXITED | os.WNOWAIT)
         timer.cancel()
         timer.join()
@@ -156,12 +156,12 @@ class Step:
         return self
 
     def judge(self, status, left, is_held):
-        """Reads the tally, and fails the step if it was stopped, or ended otherwise than it says."""
+        """Reads the tally, and fails the step if it was stopped or if its end does not agree with the tally."""
         found = TALLY.fullmatch(self.last)
         if self.why_stopped:
             self.fail(f"{self.name} {self.why_stopped}")
         elif is_held:
-            self.fail(f"{self.name} ended, and a process that it left holds its output")
+            self.fail(f"{self.name} ended, but a process that it left still holds its output")
         elif found:
             self.passed, self.failed = map(int, found.groups())
             self.has_tally = True
@@ -169,11 +169,11 @@ class Step:
         if not self.failed and (status or not found):
             self.fail(f"{self.name} ended with status {status}: {self.last}")
         if left and not self.why_stopped:
-            show(f"note: {self.name} ended and left {left} processes, which were stopped")
+            show(f"note: {self.name} left {left} processes when it ended; they were stopped")
 
 
 def table(steps, wall):
-    """Yields the lines of a table: what passed and failed in each step, and its wall and processor time in seconds."""
+    """Yields the lines of a table: for each step, what passed and failed, and its wall and processor time."""
     rows = [(it.name, it.passed, it.failed, it.wall, it.processor) for it in steps]
     sums = [sum(column) for column in list(zip(*rows))[1:]]
     rows.append(("all", *sums[:2], wall, sums[3]))
@@ -183,6 +183,6 @@ def table(steps, wall):
 
 
 def end_on_signals():
-    """Has the signals that end the gate raise SystemExit, so that it stops its steps."""
+    """Makes the signals that end the gate raise SystemExit, so that it stops its steps."""
     for number in (signal.SIGINT, signal.SIGTERM, signal.SIGHUP):
         signal.signal(number, lambda got, _: sys.exit(128 + got))

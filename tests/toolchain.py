@@ -1,6 +1,6 @@
-"""Whether the toolchain is the one that README.md names, by the line that `rt version` prints.
+"""Checks that the toolchain is the one that README.md names, by the line that `rt version` prints.
 
-./check, c/build, ./netlink_frame and ./netlink_links call `need_kit` first.
+./check, c/build, ./netlink_frame and ./netlink_links first call `need_kit`.
 """
 
 import os
@@ -11,12 +11,12 @@ import sys
 
 TOP = os.path.dirname(os.path.dirname(os.path.abspath(__file__)))
 
-# A script ends with this status if it has no answer, for example because the toolchain is missing.
-NO_ANSWER = 3
+# A script ends with this status if it has no result, for example because the toolchain is missing.
+NO_RESULT = 3
 
 
 def kit_named():
-    """Returns the one line of `rt version` that README.md names, or "" if it names none or several."""
+    """Returns the line of `rt version` that README.md names, or "" if it names none or several."""
     with open(os.path.join(TOP, "README.md"), encoding="utf-8") as file:
         lines = set(re.findall(r"rattle-kit-\w+ logic \w+", file.read()))
     return lines.pop() if len(lines) == 1 else ""
@@ -28,24 +28,24 @@ def kit_found():
     if rt is None:
         return None
     try:
-        # `rt version` prints this file of its kit, but takes longer than all else that a script does first.
+        # `rt version` prints this file of its kit, but takes longer than everything else that a script does first.
         with open(os.path.join(os.path.dirname(os.path.dirname(os.path.realpath(rt))), "KIT-ID"), "rb") as file:
-            said = file.read()
+            line = file.read()
     except OSError:
         how = {"stdin": subprocess.DEVNULL, "stdout": subprocess.PIPE, "stderr": subprocess.DEVNULL}
         try:
-            said = subprocess.run([rt, "version"], **how).stdout
+            line = subprocess.run([rt, "version"], **how).stdout
         except OSError:
             return None
-    return said.decode(errors="replace").rstrip("\n")
+    return line.decode(errors="replace").rstrip("\n")
 
 
 def need_kit(script):
-    """Ends the script with one line on standard error and status 3 unless the toolchain is the one named."""
+    """Ends the script with one line on standard error and status 3, unless README.md names this toolchain."""
     named, found = kit_named(), kit_found()
     if named and found == named:
         return
-    fault = "`rt` is not on the path" if found is None else f"`rt version` prints `{found.partition(chr(10))[0]}`"
-    wanted = f"install the Rattle kit whose `rt version` prints `{named}`" if named else "README.md has to name one kit"
-    print(f"{script}: {fault}: {wanted}", file=sys.stderr)
-    sys.exit(NO_ANSWER)
+    error = "`rt` is not on the path" if found is None else f"`rt version` prints `{found.partition(chr(10))[0]}`"
+    remedy = f"install the Rattle kit whose `rt version` prints `{named}`" if named else "README.md must name one kit"
+    print(f"{script}: {error}: {remedy}", file=sys.stderr)
+    sys.exit(NO_RESULT)

@@ -16,10 +16,11 @@
  * the library is for little-endian machines with 64 bits. No call keeps a pointer, and none owns
  * anything. No call allocates, but for the four that say so.
  *
- * Answers: NLP_OK, or one of the answers below, or the number of a cause (1 to 16); a cause's
- * other numbers are then in the struct nlp_fault. Proved of each call: on NLP_OK (and NLP_END) the
- * fault is left as it was; on any other answer all else that is to be written is left so, but for the
- * cursor of a walk and the `*size` of NLP_NO_ROOM.
+ * Answers: NLP_OK, or one of the answers below, or the number of a cause (1 to 16, except 8, which is
+ * NLP_NO_ROOM); a cause's other numbers are then in the struct nlp_fault. Proved of each call: on
+ * NLP_OK (and NLP_END) the fault is left as it was; on any other answer all else that is to be written
+ * is left so, but for the cursor of a walk and the `*size` of NLP_NO_ROOM. NLP_NO_ROOM does not fill
+ * the fault either: the code leaves it unchanged, but no contract states that.
  *
  * For those who know libmnl:
  *
@@ -55,7 +56,7 @@ enum {
     NLP_ATTR_SHORT = 5,     /* fewer than 4 bytes are left                   size, wanted = 4      */
     NLP_ATTR_CUT = 6,       /* an attribute's length is above what is left   size, wanted = length */
     NLP_ATTR_LENGTH = 7,    /* an attribute's length is below 4              size = 4, wanted = length */
-    NLP_NO_ROOM = 8,        /* what is to be written does not fit the buffer; nothing is changed   */
+    NLP_NO_ROOM = 8,        /* what is to be written does not fit the buffer; only `*size` changes */
     NLP_FRAME_SHORT = 9,    /* fewer than 16 bytes                           size                  */
     NLP_FRAME_CUT = 10,     /* a frame's length is above what there is       size, wanted = length */
     NLP_FRAME_LENGTH = 11,  /* a frame's length is below 16                  wanted = length       */
@@ -78,7 +79,7 @@ enum {
 struct nlp_fault {
     uint32_t cause;  /* its number */
     uint32_t inside; /* 1 where the fault was found inside a larger call, else 0 */
-    size_t size;     /* the bytes that there are, or 0 */
+    size_t size;     /* the bytes that there are, or 0; for NLP_ATTR_LENGTH always 4, the minimum */
     size_t wanted;   /* what a length field says or what is wanted, or 0 */
 };
 

@@ -1,11 +1,11 @@
 #!/usr/bin/env python3
-"""Refuses each request for memory in turn, by its number, and looks at what is answered.
+"""Makes each allocation of a run fail in turn, by its number, and checks the result.
 
-The library of refuse.c is preloaded. Run are the two programs, each command of netlink_frame on a
-dozen inputs and netlink_links on datagrams of a kernel, and the built tests of the crates, each in a
-process of its own. What asks for memory is run once for each
-of its requests, with that one refused: it answers as ever, or with want of memory. What asks for
-none is run with all refused from its mark on: it answers as ever, and makes no request behind it.
+It preloads the library of refuse.c into the two programs and into the built tests of the crates, each in a process of
+its own. netlink_frame runs each command on a dozen inputs, and netlink_links runs on captured datagrams. Code that
+allocates is run once per allocation, with that allocation failing: it must give its usual result or report out of
+memory. Code that must not allocate is run with every allocation failing, starting at its marker: it must give its usual
+result and allocate nothing after the marker.
 """
 
 import os
@@ -15,31 +15,31 @@ import tempfile
 
 sys.path.insert(0, os.path.join(os.path.dirname(os.path.abspath(__file__)), ".."))
 
-from built import TOP, built, run, side_by_side, tally
+from built import TOP, built, in_parallel, run, tally
 
-# The other ways to ask for memory: of these the programs take none, so that no request goes past.
-OTHER_WAYS = "aligned_alloc posix_memalign memalign valloc reallocarray mmap mmap64 brk".split()
+# Other functions that allocate. The programs must not use them, because refuse.c does not count them.
+OTHER_ALLOCATORS = "aligned_alloc posix_memalign memalign valloc reallocarray mmap mmap64 brk".split()
 
-# How a run of each program is answered while its arguments are read, and of both behind that.
-USAGE_ANSWER = (2, b"", b"usage: netlink_frame normalize|show|nlas|canon|frames\n")
-LINKS_USAGE_ANSWER = (2, b"", b"usage: netlink_links < FILE\n")
-WANT = (1, b"", b"out of memory\n")
+# The result if an allocation fails while a program reads its arguments, and the result if one fails later.
+FRAME_USAGE = (2, b"", b"usage: netlink_frame normalize|show|nlas|canon|frames\n")
+LINKS_USAGE = (2, b"", b"usage: netlink_links < FILE\n")
+OUT_OF_MEMORY = (1, b"", b"out of memory\n")
 
-# How a test ends that passes, and one that hands on want of memory by `?`.
+# The result of a test that passes, and the results of a test that returns out of memory by `?`.
 PASSES = (0, b"\ntest result: ok\n", b"")
 ENDS = b"\nthe test failed: its result gives status 1\n"
-WANTS = [
+TEST_OUT_OF_MEMORY = [
     (101, b"", b"error: " + error + ENDS)
     for error in (b"OutOfMemory", b"AllocError", b"Decode(OutOfMemory)")
 ]
 
-# The modules of tests that are run here, in whichever crate, and a test of the example's caller.
-REFUSED, NOT_ASKED = "::memory_refused::", "::memory_not_asked::"
+# The modules of the tests that this script runs, in any crate, and a test of the caller in the example.
+ALLOCATES, DOES_NOT_ALLOCATE = "::memory_refused::", "::memory_not_asked::"
 ANSWERED = ("netlink_example", "tests::answers::requests_are_answered")
 
 COMMANDS = ["normalize", "show", "nlas", "canon", "frames"]
 
-# Each as its hexadecimal digits: messages, blocks and datagrams, whole, damaged, long and empty.
+# Messages, blocks and datagrams in hexadecimal: complete, damaged, long and empty.
 INPUTS = {
     "a ping": "1400000012000000000000000000000000010203",
     "a pong and more": "140000001400000000000000000000000001020321",
@@ -56,10 +56,10 @@ INPUTS = {
     "no bytes": "",
 }
 
-# What netlink_links gets: captured datagrams, and where each ends.
+# The inputs of netlink_links: captured datagrams, each with the end of the part that the program gets.
 DATAGRAMS = {
     "links": ("links-0.bin", None),
-    "links, the last one cut": ("links-0.bin", -1),
+    "links, the last one truncated": ("links-0.bin", -1),
     "addresses": ("addresses-0.bin", None),
     "an error with its request": ("link-mtu-refused-0.bin", None),
     "neighbours, of no known type": ("neighbours-0.bin", None),
@@ -68,13 +68,14 @@ DATAGRAMS = {
 
 
 def compiler():
-    """The toolchain's clang, which stands beside the page that `rt doc` names, or another C compiler."""
+    """Returns the toolchain's clang, which is next to the page that `rt doc` names, or else another C compiler."""
     page = subprocess.run(["rt", "doc"], stdout=subprocess.PIPE, text=True).stdout.strip()
     own = os.path.join(os.path.dirname(page), "toolchain", "bin", "clang")
     return [own, "-fuse-ld=lld"] if os.path.isfile(own) else ["cc"]
 
 
 def compiled(folder):
+    """Compiles refuse.c in the folder, and returns the path of the library."""
     library = os.path.join(folder, "refuse.so")
     source = os.path.join(TOP, "tests", "memory", "refuse.c")
     words = ["-shared", "-fPIC", "-O1", "-Wall", "-Wextra", "-Werror", "-nostdlib", "-o", library, source]
@@ -82,97 +83,98 @@ def compiled(folder):
     return library
 
 
-def run_refused(library, words, given, refuse):
-    """What a run answers with these requests refused; how many it made, and how many were refused."""
+def run_failing(library, words, stdin, failing):
+    """Runs a program with these allocations failing. Returns its result, how many allocations it tried, and how many of
+    them failed."""
     here, there = os.pipe()
     with os.fdopen(here, "rb") as report:
         try:
-            environment = {"LD_PRELOAD": library, "REPORT": str(there), "REFUSE": str(refuse)}
-            answer = run(words, given, env=environment, pass_fds=[there])
+            environment = {"LD_PRELOAD": library, "REPORT": str(there), "FAIL": str(failing)}
+            result = run(words, stdin, env=environment, pass_fds=[there])
         finally:
             os.close(there)
-        said = report.read().split()
-    # a run that was stopped has reported nothing
-    requests, refusals = map(int, said) if len(said) == 2 else (-1, -1)
-    return answer, requests, refusals
+        numbers = report.read().split()
+    # A run that exceeded its time limit has reported nothing.
+    allocations, failures = map(int, numbers) if len(numbers) == 2 else (-1, -1)
+    return result, allocations, failures
 
 
-def other_ways_of(program):
-    """What is wrong with how the program asks for memory."""
+def other_allocators_of(program):
+    """Returns a failure for each other function by which the program allocates."""
     with open(program, "rb") as file:
         names = file.read()
-    taken = [it for it in OTHER_WAYS if it.encode() + b"\0" in names]
-    return [f"{os.path.relpath(program, TOP)} asks for memory by {it}" for it in taken]
+    used = [it for it in OTHER_ALLOCATORS if it.encode() + b"\0" in names]
+    return [f"{os.path.relpath(program, TOP)} allocates by {it}" for it in used]
 
 
 class Sweep:
-    """The runs of one call, each with another request refused, and what was wrong with them."""
+    """The runs of one command or test, each with a different allocation failing, and the failures of this script."""
 
-    def __init__(self, library, name, words, given=b""):
-        self.library, self.name, self.words, self.given = library, name, words, given
-        self.runs, self.faults = 0, []
+    def __init__(self, library, name, words, stdin=b""):
+        self.library, self.name, self.words, self.stdin = library, name, words, stdin
+        self.runs, self.failures = 0, []
 
-    def run(self, refuse):
+    def run(self, failing):
         self.runs += 1
-        return run_refused(self.library, self.words, self.given, refuse)
+        return run_failing(self.library, self.words, self.stdin, failing)
 
-    def expects(self, is_well, refused, answered):
-        if not is_well:
-            self.faults.append(f"{self.name}, refused {refused}: (answer, requests, refusals) {answered}")
+    def expect(self, is_right, failing, result):
+        if not is_right:
+            self.failures.append(f"{self.name}, {failing} failing: (result, allocations, failures) {result}")
 
-    def each_in_turn(self, usual, early, wants):
-        """Refuses the requests one by one. The first ones have these early answers and no other; each
-        later one the usual answer, or one of want of memory."""
-        answered = self.run(0)
-        least = max(1, len(early))
-        self.expects(answered[0] == usual and answered[1] >= least and answered[2] == 0, "none", answered)
-        for number in range(1, answered[1] + 1):
-            refused = self.run(number)
-            allowed = [early[number - 1]] if number <= len(early) else [usual, *wants]
-            self.expects(refused[0] in allowed and refused[2] == 1, f"the request {number}", refused)
-        behind = self.run(answered[1] + 1)
-        self.expects(behind == answered, "none", behind)
+    def each_in_turn(self, usual, early, later):
+        """Makes the allocations fail one by one. If one of the first fails, the result must be that of its place in
+        `early`. If another one fails, the result must be the usual one or one of `later`."""
+        result = self.run(0)
+        minimum = max(1, len(early))
+        self.expect(result[0] == usual and result[1] >= minimum and result[2] == 0, "none", result)
+        for number in range(1, result[1] + 1):
+            failed = self.run(number)
+            allowed = [early[number - 1]] if number <= len(early) else [usual, *later]
+            self.expect(failed[0] in allowed and failed[2] == 1, f"allocation {number}", failed)
+        last = self.run(result[1] + 1)
+        self.expect(last == result, "none", last)
         return self
 
-    def none_behind_the_mark(self):
-        answered = self.run("mark")
-        self.expects(answered[0] == PASSES and answered[2] == 1, "all from the mark on", answered)
+    def none_after_marker(self):
+        result = self.run("marker")
+        self.expect(result[0] == PASSES and result[2] == 1, "all from the marker on", result)
         return self
 
 
 def of_frame(library):
-    """A sweep of each command of netlink_frame on each input."""
+    """Returns the sweeps of netlink_frame: each command on each input."""
     program = built("netlink_frame")
-    # requests while the arguments are read, by the word's size: those of a word that is unknown
+    # How many allocations the program makes to read its arguments, by the size of the word: those of an unknown word.
     reading = {}
     for size in {len(command) for command in COMMANDS}:
-        answer, reading[size], _ = run_refused(library, [program, "x" * size], b"", 0)
-        assert answer == USAGE_ANSWER, answer
+        result, reading[size], _ = run_failing(library, [program, "x" * size], b"", 0)
+        assert result == FRAME_USAGE, result
     rows = [(command, name) for command in COMMANDS for name in INPUTS]
 
-    def swept(row):
+    def sweep_of(row):
         command, name = row
-        given = bytes_of(INPUTS[name])
-        wants = [USAGE_ANSWER] * reading[len(command)]
-        sweep = Sweep(library, f"{command} of {name}", [program, command], given)
-        return sweep.each_in_turn(run([program, command], given), wants, [WANT])
+        data = bytes_of(INPUTS[name])
+        early = [FRAME_USAGE] * reading[len(command)]
+        sweep = Sweep(library, f"{command} of {name}", [program, command], data)
+        return sweep.each_in_turn(run([program, command], data), early, [OUT_OF_MEMORY])
 
-    return side_by_side(swept, rows)
+    return in_parallel(sweep_of, rows)
 
 
 def of_links(library):
-    """A sweep of netlink_links on each of its datagrams, and on no bytes, for which it asks nothing but to read its
-    arguments."""
+    """Returns the sweeps of netlink_links: each of its datagrams and an empty input, for which it allocates only to
+    read its arguments."""
     program = built("netlink_links", "netlink_links")
-    _, reading, _ = run_refused(library, [program], b"", 0)
+    _, reading, _ = run_failing(library, [program], b"", 0)
 
-    def swept(name):
+    def sweep_of(name):
         file, end = DATAGRAMS[name]
-        given = captured(file)[:end]
-        sweep = Sweep(library, f"netlink_links of {name}", [program], given)
-        return sweep.each_in_turn(run([program], given), [LINKS_USAGE_ANSWER] * reading, [WANT])
+        data = captured(file)[:end]
+        sweep = Sweep(library, f"netlink_links of {name}", [program], data)
+        return sweep.each_in_turn(run([program], data), [LINKS_USAGE] * reading, [OUT_OF_MEMORY])
 
-    return side_by_side(swept, DATAGRAMS)
+    return in_parallel(sweep_of, DATAGRAMS)
 
 
 def captured(name):
@@ -185,7 +187,7 @@ def bytes_of(digits):
 
 
 def tests_of_crates():
-    """The program of each crate's tests, and the names of those tests."""
+    """Yields each crate that has tests, the program of its tests, and their names."""
     for crate in sorted(os.listdir(os.path.join(TOP, "crates"))):
         program = os.path.join(TOP, "crates", crate, "out", f"{crate}_tests")
         if os.path.isfile(program):
@@ -194,20 +196,20 @@ def tests_of_crates():
 
 
 def of_tests(library):
-    """A sweep of each test of a call that asks for memory, and a run of each of one that asks for none."""
+    """Returns the sweeps of the tests of code that allocates, and those of the tests of code that must not."""
     built("netlink_frame_tests")
     built("netlink_example_tests", "netlink_example")
     rows = [(crate, program, name) for crate, program, names in tests_of_crates() for name in names]
-    refused = [it for it in rows if REFUSED in it[2] or (it[0], it[2]) == ANSWERED]
-    not_asked = [it for it in rows if NOT_ASKED in it[2]]
+    allocating = [it for it in rows if ALLOCATES in it[2] or (it[0], it[2]) == ANSWERED]
+    others = [it for it in rows if DOES_NOT_ALLOCATE in it[2]]
 
     def sweep_of(row):
         crate, program, name = row
         return Sweep(library, f"{crate}, {name}", [program, name])
 
     return (
-        side_by_side(lambda row: sweep_of(row).each_in_turn(PASSES, [], WANTS), refused),
-        side_by_side(lambda row: sweep_of(row).none_behind_the_mark(), not_asked),
+        in_parallel(lambda row: sweep_of(row).each_in_turn(PASSES, [], TEST_OUT_OF_MEMORY), allocating),
+        in_parallel(lambda row: sweep_of(row).none_after_marker(), others),
     )
 
 
@@ -215,22 +217,22 @@ def main():
     with tempfile.TemporaryDirectory() as folder:
         library = compiled(folder)
         commands = of_frame(library) + of_links(library)
-        refused, not_asked = of_tests(library)
+        allocating, others = of_tests(library)
 
     def count(sweeps):
         return sum(it.runs for it in sweeps)
 
-    print(f"each request refused in turn: {len(commands)} runs of a program in {count(commands)} runs")
-    print(f"each request refused in turn: {len(refused)} tests in {count(refused)} runs")
-    print(f"every request refused: {len(not_asked)} tests, none of which made one")
-    sweeps = [*commands, *refused, *not_asked]
-    faults = [fault for sweep in sweeps for fault in sweep.faults]
-    passed = count(sweeps) - len(faults)
-    if not (commands and refused and not_asked and ANSWERED[1] in {it.words[1] for it in refused}):
-        faults.append("tests that are to be run here were not found")
+    print(f"each allocation failing in turn: {len(commands)} commands with their inputs, in {count(commands)} runs")
+    print(f"each allocation failing in turn: {len(allocating)} tests, in {count(allocating)} runs")
+    print(f"every allocation failing: {len(others)} tests of code that must not allocate")
+    sweeps = [*commands, *allocating, *others]
+    failures = [failure for sweep in sweeps for failure in sweep.failures]
+    passed = count(sweeps) - len(failures)
+    if not (commands and allocating and others and ANSWERED[1] in {it.words[1] for it in allocating}):
+        failures.append("the tests that this script must run were not found")
     for program in {sweep.words[0] for sweep in sweeps}:
-        faults += other_ways_of(program)
-    tally("memory", faults, passed)
+        failures += other_allocators_of(program)
+    tally("memory", failures, passed)
 
 
 main()

@@ -1,11 +1,11 @@
-/* Preloaded into a program, refuses requests for memory by their number.
+/* Preloaded into a program, makes its allocations fail by their number.
 
-   The requests are the calls of malloc, calloc and realloc, counted from 1 at the start of the process.
-   REFUSE=N refuses the Nth alone. A request of exactly MARK bytes, with REFUSE=mark, is refused, and so is
-   every one behind it. At its end the process writes to the descriptor REPORT how many requests it made in
-   all, and how many of them were refused. It takes no header, so that a bare compiler serves. */
+   The allocations are the calls of malloc, calloc and realloc, counted from 1 at the start of the process. With
+   FAIL=N, only the Nth fails. With FAIL=marker, an allocation of exactly MARKER bytes fails, and so do all after it.
+   When the process ends, it writes to the descriptor REPORT how many allocations it tried and how many of them failed.
+   This file includes no headers, so that it compiles without any. */
 
-#define MARK 7654321ul
+#define MARKER 7654321ul
 
 typedef unsigned long size;
 
@@ -17,36 +17,36 @@ long strtol(const char *text, char **end, int base);
 int dprintf(int descriptor, const char *format, ...);
 int *__errno_location(void);
 
-static size requests, refusals, refused;
-static int is_ready, has_marks, is_marked;
+static size allocations, failures, failing;
+static int is_ready, has_marker, is_after_marker;
 
-/* Whether this request, of so many bytes, is to be refused. */
-static int refuses(size bytes)
+/* Returns whether this allocation of the given number of bytes must fail. */
+static int fails(size bytes)
 {
     if (!is_ready) {
-        const char *word = getenv("REFUSE");
+        const char *word = getenv("FAIL");
         is_ready = 1;
-        has_marks = word && *word == 'm';
-        refused = word && !has_marks ? (size)strtol(word, 0, 10) : 0;
+        has_marker = word && *word == 'm';
+        failing = word && !has_marker ? (size)strtol(word, 0, 10) : 0;
     }
-    requests++;
-    is_marked |= has_marks && bytes == MARK;
-    if (!is_marked && requests != refused)
+    allocations++;
+    is_after_marker |= has_marker && bytes == MARKER;
+    if (!is_after_marker && allocations != failing)
         return 0;
-    refusals++;
+    failures++;
     *__errno_location() = 12; /* ENOMEM */
     return 1;
 }
 
-void *malloc(size bytes) { return refuses(bytes) ? 0 : __libc_malloc(bytes); }
+void *malloc(size bytes) { return fails(bytes) ? 0 : __libc_malloc(bytes); }
 
-void *calloc(size count, size bytes) { return refuses(count * bytes) ? 0 : __libc_calloc(count, bytes); }
+void *calloc(size count, size bytes) { return fails(count * bytes) ? 0 : __libc_calloc(count, bytes); }
 
-void *realloc(void *block, size bytes) { return refuses(bytes) ? 0 : __libc_realloc(block, bytes); }
+void *realloc(void *block, size bytes) { return fails(bytes) ? 0 : __libc_realloc(block, bytes); }
 
 __attribute__((destructor)) static void report(void)
 {
     const char *descriptor = getenv("REPORT");
     if (descriptor)
-        dprintf((int)strtol(descriptor, 0, 10), "%lu %lu\n", requests, refusals);
+        dprintf((int)strtol(descriptor, 0, 10), "%lu %lu\n", allocations, failures);
 }

@@ -1,0 +1,161 @@
+#!/usr/bin/env python3
+"""Checks README.md and docs/*.md: the code that they quote, the commands that they show, and their links.
+
+All code is in fences, and each fence names its language:
+
+rattle, antt, c, rust  The block must occur word for word, apart from its indentation, in the file that the nearest link
+                       above it names. A link to a Markdown file or to a folder does not count. c/test compiles the
+                       first `c` and the first `rust` block of README.md, so this script skips those two.
+console                Each line `$ COMMAND` is followed by exactly the lines that the command prints: its standard
+                       output and, if it fails, its standard error. bash runs the command at the top of the repository.
+                       `./netlink_NAME` in it runs the built program and ignores `--quick` and `--verbose`.
+text                   The block is not checked.
+
+Any other language, a fence that is not closed, and indented code are failures. A link must lead to a file or folder of
+the repository, and an anchor to a heading of that Markdown file. ./check runs this script on a copy of the repository
+that has no folders `must-fail`, so documents cannot link to these.
+"""
+
+import os
+import re
+import shlex
+from functools import cache
+from itertools import zip_longest
+from textwrap import dedent
+from urllib.parse import unquote
+
+from built import TOP, run, tally
+
+# The documents that are not checked yet.
+EXEMPT = {"docs/PROTOCOLS.md"}
+
+QUOTED = {"rattle", "antt", "c", "rust"}
+
+# The languages of which c/test compiles the first block, by document.
+COMPILED = {"README.md": {"c", "rust"}}
+
+FENCE = re.compile(r" *(`{3,}|~{3,})([^`]*)")
+LIST_ITEM = re.compile(r" *(?:[-*+]|\d+[.)]) +(?=\S)")
+HEADING = re.compile(r" {0,3}#{1,6} +(.+?)(?: +#+)? *")
+CODE_SPAN = re.compile(r"(?<!`)(`+)(?!`).+?(?<!`)\1(?!`)")
+LINK = re.compile(r"\]\((?!//|[a-z]+:)([^)\s]*)")
+PROGRAM = re.compile(r"(?<![\w./])\./(netlink_\w+)(?: --(?:quick|verbose)\b)?(?![\w./-])")
+
+
+def text_of(path):
+    with open(os.path.join(TOP, path), encoding="utf-8") as file:
+        return file.read()
+
+
+def parts_of(text):
+    """Yields the parts of a document, each with its line number and its kind: a line of `prose`, a `block` with its
+    language and its lines, or `wrong` with the reason."""
+    numbered = enumerate(text.split("\n"), 1)
+    # The column at which the text of the list item begins, and whether no paragraph continues on this line.
+    column, is_new = 0, True
+    for number, line in numbered:
+        indent = len(line) - len(line.lstrip())
+        if not line.strip():
+            is_new = True
+        elif is_new and (indent >= column + 4 or "\t" in line[:indent]):
+            yield number, "wrong", "indented code is not in a fence"
+            is_new = False
+        elif fence := FENCE.fullmatch(line):
+            end, block = re.compile(rf" *{fence[1]}{fence[1][0]}* *"), []
+            for _, inner in numbered:
+                if end.fullmatch(inner):
+                    yield number, "block", (fence[2], block)
+                    break
+                block.append(re.sub(f"^ {{0,{indent}}}", "", inner))
+            else:
+                yield number, "wrong", "the fence is not closed"
+            is_new = True
+        else:
+            yield number, "prose", line
+            is_heading, item = bool(HEADING.fullmatch(line)), LIST_ITEM.match(line)
+            if item or is_new or is_heading:
+                column = item.end() if item else min(column, indent)
+            is_new = is_heading
+
+
+@cache
+def anchors_of(path):
+    """Returns the anchors that GitHub gives to the headings of a Markdown file."""
+    text = text_of(path) if path.endswith(".md") else ""
+    headings = [it[1] for _, kind, line in parts_of(text) if kind == "prose" and (it := HEADING.fullmatch(line))]
+    names = [re.sub(r"\]\([^)]*\)|[^\w\- ]", "", it.lower()).replace(" ", "-") for it in headings]
+    return {f"{it}-{names[:at].count(it)}" if it in names[:at] else it for at, it in enumerate(names)}
+
+
+def links_of(document, line):
+    """Yields the path of each link in a line that does not lead out of the repository, and what is wrong or None."""
+    for link in LINK.findall(CODE_SPAN.sub(lambda span: " " * len(span[0]), line)):
+        path, _, anchor = unquote(link).partition("#")
+        path = os.path.normpath(os.path.join(os.path.dirname(document), path)) if path else document
+        if path.startswith(("/", "..")) or not os.path.exists(os.path.join(TOP, path)):
+            yield path, f"the repository has no {path}, to which a link leads"
+        else:
+            is_wrong = anchor and anchor not in anchors_of(path)
+            yield path, f"{path} has no heading for the anchor #{anchor}" if is_wrong else None
+
+
+def wrong_quote(block, source):
+    """Returns what is wrong with a block of code from a file, or None."""
+    if source is None:
+        return "no link above this block names the file that it is from"
+    wanted, lines = dedent("\n".join(block)), text_of(source).split("\n")
+    found = (dedent("\n".join(lines[at : at + len(block)])) for at in range(len(lines)))
+    return None if wanted.strip() and wanted in found else f"this block does not occur in {source}"
+
+
+def wrong_print(command, wanted):
+    """Returns how what a command prints differs from these lines, or None."""
+    programs = {name: os.path.join(TOP, "crates", name, "out", name) for name in PROGRAM.findall(command)}
+    if missing := [name for name, path in programs.items() if not os.path.isfile(path)]:
+        return f"`{command}` cannot run, because {missing[0]} is not built: ./check builds it"
+    words = ["bash", "-c", PROGRAM.sub(lambda it: shlex.quote(programs[it[1]]), command)]
+    status, output, error = run(words, cwd=TOP)
+    text = (output + (b"" if status == 0 else error)).decode(errors="replace")
+    pairs = zip_longest(text.removesuffix("\n").split("\n") if text else [], wanted)
+    differing = [["nothing" if it is None else f"`{it}`" for it in pair] for pair in pairs if pair[0] != pair[1]]
+    return "`{}` prints {} where the document has {}".format(command, *differing[0]) if differing else None
+
+
+def wrong_commands(block):
+    """Yields for each command of a block its place in the block, and what is wrong or None."""
+    starts = [at for at, line in enumerate(block) if line.startswith("$ ")]
+    if starts[:1] != [0]:
+        yield 0, "a console block must begin with a line `$ COMMAND`"
+    for at, end in zip(starts, [*starts[1:], len(block)]):
+        yield at + 1, wrong_print(block[at][2:], block[at + 1 : end])
+
+
+def checks_of(document):
+    """Yields for each check of a document its line number, and what is wrong or None."""
+    source, skipped = None, {*COMPILED.get(document, ())}
+    for number, kind, part in parts_of(text_of(document)):
+        if kind == "prose":
+            for path, wrong in links_of(document, part):
+                yield number, wrong
+                if not wrong and os.path.isfile(os.path.join(TOP, path)) and not path.endswith(".md"):
+                    source = path
+        elif kind == "wrong":
+            yield number, part
+        elif part[0] in skipped:
+            skipped.remove(part[0])
+        elif part[0] in QUOTED:
+            yield number, wrong_quote(part[1], source)
+        elif part[0] == "console":
+            yield from ((number + at, wrong) for at, wrong in wrong_commands(part[1]))
+        elif part[0] != "text":
+            yield number, f"the fence must name rattle, antt, c, rust, console or text, and has `{part[0]}`"
+
+
+def main():
+    documents = {"README.md", *(f"docs/{it}" for it in os.listdir(os.path.join(TOP, "docs")) if it.endswith(".md"))}
+    checks = [(it, *check) for it in sorted(documents - EXEMPT) for check in checks_of(it)]
+    failures = [f"{document}, line {number}: {wrong}" for document, number, wrong in checks if wrong]
+    tally("documents", failures, len(checks) - len(failures))
+
+
+main()
