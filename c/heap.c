@@ -1,38 +1,38 @@
-/* The heap of the library: what its four calls that allocate ask for, over malloc.
+/* The allocator for the four functions of the library that allocate, over malloc.
  *
- * A block of no bytes is one of its alignment's size, so that it has an address of its own. Where
- * there is no memory the pointer is to a byte that is never read, and nothing is owned there. */
+ * A block of 0 bytes gets the size of its alignment, so that its address is unique. If malloc fails,
+ * the result points to a byte that is never read and must not be freed. */
 #include <stdbool.h>
 #include <stddef.h>
 #include <stdlib.h>
 
-struct tried {
+struct allocation {
     bool ok;
     unsigned char *block;
 };
 
-struct tried rattle_alloc(size_t size, size_t align);
-struct tried rattle_realloc(unsigned char *block, size_t kept, size_t size, size_t align);
+struct allocation rattle_alloc(size_t size, size_t align);
+struct allocation rattle_realloc(unsigned char *block, size_t kept, size_t size, size_t align);
 void rattle_dealloc(unsigned char *block);
 
 static unsigned char none;
 
-static struct tried tried(void *block)
+static struct allocation allocation_of(void *block)
 {
     if (block == NULL)
-        return (struct tried){ false, &none };
-    return (struct tried){ true, block };
+        return (struct allocation){ false, &none };
+    return (struct allocation){ true, block };
 }
 
-struct tried rattle_alloc(size_t size, size_t align)
+struct allocation rattle_alloc(size_t size, size_t align)
 {
-    return tried(malloc(size == 0 ? align : size));
+    return allocation_of(malloc(size == 0 ? align : size));
 }
 
-struct tried rattle_realloc(unsigned char *block, size_t kept, size_t size, size_t align)
+struct allocation rattle_realloc(unsigned char *block, size_t kept, size_t size, size_t align)
 {
     (void)kept;
-    return tried(realloc(block, size == 0 ? align : size));
+    return allocation_of(realloc(block, size == 0 ? align : size));
 }
 
 void rattle_dealloc(unsigned char *block)

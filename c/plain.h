@@ -1,5 +1,5 @@
-/* What heap.c, the tests and the examples use of C's own headers, for x86-64 Linux: it stands for each of
- * them where the compiler is the toolchain's clang, which has none. */
+/* What heap.c, the tests and the examples use from C's standard headers, for x86-64 Linux. It replaces each
+ * of these headers if the compiler is the toolchain's clang, which has none. */
 #ifndef PLAIN_H
 #define PLAIN_H
 

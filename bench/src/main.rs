@@ -1,7 +1,7 @@
-//! Measures one case in one library, so many times.
+//! Runs one case in one library, a given number of times.
 //!
-//! `bench CASE LIBRARY SIZE TIMES` does it and prints what it came to, so that the three can be compared;
-//! `bench` alone prints the cases: a line each of name, size, and the libraries that have it.
+//! `bench CASE LIBRARY SIZE TIMES` prints the sum of the results, so that those of the libraries can be compared, and
+//! the time. Without arguments, `bench` prints one line per case: its name, its size, and the libraries that have it.
 //! `run` counts the instructions.
 
 mod libmnl;
@@ -16,7 +16,7 @@ const SIZES: [usize; 4] = [4, 64, 1024, 32768];
 /// The numbers of attributes, or of frames in a datagram.
 const COUNTS: [usize; 3] = [10, 1000, 10000];
 
-/// A frame of type 18 with a payload of this size.
+/// Returns a frame of type 18 with a payload of this size.
 fn frame(size: usize) -> Vec<u8> {
     let mut bytes = vec![0; 16];
     bytes[..4].copy_from_slice(&((16 + size) as u32).to_ne_bytes());
@@ -25,7 +25,7 @@ fn frame(size: usize) -> Vec<u8> {
     bytes
 }
 
-/// A block of so many attributes of 4 bytes.
+/// Returns a block of `count` attributes with 4-byte values.
 fn block(count: usize) -> Vec<u8> {
     let mut bytes = Vec::new();
     for i in 0..count {
@@ -36,12 +36,12 @@ fn block(count: usize) -> Vec<u8> {
     bytes
 }
 
-/// A datagram of so many frames of 20 bytes.
+/// Returns a datagram of `count` frames of 20 bytes.
 fn datagram(count: usize) -> Vec<u8> {
     (0..count).flat_map(|_| frame(4)).collect()
 }
 
-/// What a case works on: the bytes, and a buffer for what it writes.
+/// Returns the input of a case.
 fn input(case: &str, size: usize) -> Vec<u8> {
     match case {
         "read" | "view" | "round_trip" => frame(size),

@@ -1,11 +1,12 @@
-/* The walk of libmnl's rtnl-addr-dump over a dump in files: interface, address and prefix of each address. */
+/* Prints interface, address and prefix length of each address in a dump, read from files, like libmnl's
+ * rtnl-addr-dump. */
 #include "netlink_packet.h"
 
 #include <stdio.h>
 
 enum { NLMSG_ERROR = 2, NLMSG_DONE = 3, RTM_NEWADDR = 20, IFADDRMSG = 8, IFA_ADDRESS = 1 };
 
-/* One message: what libmnl's callback does with mnl_attr_for_each. */
+/* Prints one message, like libmnl's callback with mnl_attr_for_each. */
 static int print_address(const uint8_t *payload, size_t len)
 {
     if (len < IFADDRMSG)
@@ -26,7 +27,8 @@ static int print_address(const uint8_t *payload, size_t len)
     return answer == NLP_END ? 0 : -1;
 }
 
-/* The frames of a datagram: what mnl_cb_run does. 1 where there is more to come, 0 behind the last, or -1. */
+/* Walks the frames of a datagram, like mnl_cb_run. Returns 1 if more datagrams follow, 0 after the last
+ * message, or -1. */
 static int run(const uint8_t *bytes, size_t len)
 {
     size_t at = 0;

@@ -1,4 +1,4 @@
-/* Prints index, name, MTU and kind of each link of a dump, which it reads from the files that it is given. */
+/* Prints index, name, MTU and kind of each link in a dump. The arguments are the files to read. */
 #include "netlink_packet.h"
 
 #include <inttypes.h>
@@ -16,7 +16,7 @@ struct link {
     size_t kind_len;
 };
 
-/* A text of a value, without the zero that ends it. */
+/* The size of a string value, without its final zero. */
 static size_t text_len(const uint8_t *value, size_t size)
 {
     return size != 0 && value[size - 1] == 0 ? size - 1 : size;

@@ -6,7 +6,7 @@
 
 enum { NEW_LINK = 16, IFINFOMSG = 16, IFLA_IFNAME = 3, IFLA_MTU = 4, NLM_F_REQUEST = 1, NLM_F_ACK = 4 };
 
-/* The size of the request, or 0 where it does not fit. */
+/* Returns the size of the request, or 0 if it does not fit. */
 static size_t set_mtu(uint8_t *buffer, size_t capacity, const char *name, uint32_t mtu)
 {
     const struct nlp_header header = {

@@ -1,4 +1,4 @@
-/* Each call on good, cut and hostile bytes, and on a null pointer with a length of 0. */
+/* Tests each function on valid, truncated and malformed bytes, and on a null pointer with a length of 0. */
 #include "netlink_packet.h"
 
 #include <stdio.h>
@@ -19,7 +19,7 @@ static void expect(const char *what, bool holds)
 /* A frame of type 18 with one attribute (1, aa): its payload is 8 bytes, and 4 bytes follow it. */
 static const uint8_t frame[28] = { 24, 0, 0, 0, 18, 0, 1, 3, 7, 0, 0, 0, 9, 0, 0, 0, 5, 0, 1, 0, 0xaa, 0, 0, 0, 1, 2, 3, 4 };
 
-/* Two attributes, (1, aa) and (2 with the flag of nests, 01020304), and a third that is cut. */
+/* Two attributes, (1, aa) and (2 with the nested flag, 01020304), and a third that is truncated. */
 static const uint8_t block[22] = { 5, 0, 1, 0, 0xaa, 0, 0, 0, 8, 0, 2, 0x80, 1, 2, 3, 4, 9, 0, 3, 0, 1, 2 };
 
 static bool is_fault(const struct nlp_fault *f, uint32_t cause, uint32_t inside, size_t size, size_t wanted)
@@ -49,7 +49,7 @@ static void reads(void)
 
 static void bodies(void)
 {
-    /* EINVAL, a request of 20 bytes whose header is of type 18, and an attribute (1, "no"). */
+    /* EINVAL, a request of 20 bytes with type 18, and an attribute (1, "no"). */
     static const uint8_t error[36] = { 0xea, 0xff, 0xff, 0xff, 20, 0, 0, 0, 18, 0, 5, 0, 1, 0, 0, 0, 0, 0, 0, 0, 1, 2, 3, 4,
         7, 0, 1, 0, 'n', 'o', 0, 0, 4, 0, 2, 0 };
     struct nlp_fault fault;
@@ -128,7 +128,7 @@ static void puts_attributes(void)
 
 static void puts_frames(void)
 {
-    /* The frame and its attribute, but with one nest (7) round it. */
+    /* The frame, with its attribute inside a nest (7). */
     static const uint8_t wanted[32] = { 32, 0, 0, 0, 18, 0, 1, 3, 7, 0, 0, 0, 9, 0, 0, 0, 0xbb, 0, 0, 0, 12, 0, 7, 0x80, 5, 0, 1, 0, 0xaa, 0, 0, 0 };
     const struct nlp_header header = { 99, 18, 0x301, 7, 9 };
     uint8_t buffer[32];

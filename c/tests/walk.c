@@ -1,4 +1,4 @@
-/* Walks blocks, one a line of hexadecimal digits, and prints a line an attribute and then the fault's text, or ok. */
+/* Reads blocks in hexadecimal, one per line. Prints one line per attribute, and then the error text or ok. */
 #include "netlink_packet.h"
 
 #include <stdio.h>

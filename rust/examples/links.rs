@@ -1,4 +1,4 @@
-//! Prints index, name, MTU and kind of each link of a dump, which it reads from the files that it is given.
+//! Prints index, name, MTU and kind of each link in a dump. The arguments are the files to read.
 
 use netlink_packet::{header, payload, Attributes, Fault, Frames};
 use std::error::Error;

@@ -1,4 +1,4 @@
-//! Why bytes are refused, and why something is not written.
+//! The errors of reading and of writing.
 
 use crate::ffi;
 use std::error::Error;
@@ -8,30 +8,30 @@ pub(crate) const OK: u32 = 0;
 pub(crate) const NO_ROOM: u32 = 8;
 pub(crate) const TOO_LONG: u32 = 33;
 
-/// Why bytes are refused. Sizes and lengths are in bytes.
+/// Why bytes are rejected. Sizes and lengths are in bytes.
 #[derive(Clone, Copy, Debug, PartialEq, Eq)]
 pub enum Fault {
-    /// Fewer than 4 bytes are left of a block.
+    /// Fewer than 4 bytes of a block are left.
     AttributeShort { size: usize },
-    /// An attribute's length field is above what is left.
+    /// An attribute's length field is more than the number of bytes left.
     AttributeCut { size: usize, length: usize },
-    /// An attribute's length field is below 4.
+    /// An attribute's length field is less than 4.
     AttributeLength { length: usize },
     /// There are fewer than 16 bytes.
     FrameShort { size: usize, inside: bool },
-    /// A frame's length field is above what there is.
+    /// A frame's length field is more than the number of bytes.
     FrameCut { size: usize, length: usize, inside: bool },
-    /// A frame's length field is below 16.
+    /// A frame's length field is less than 16.
     FrameLength { length: usize, inside: bool },
-    /// The body of a done message is below 4 bytes.
+    /// The body of a done message has fewer than 4 bytes.
     DoneShort { size: usize, inside: bool },
-    /// The body of an error message is below 4 bytes.
+    /// The body of an error message has fewer than 4 bytes.
     ErrorShort { size: usize, inside: bool },
     /// A message type is 0, or 5 to 15.
     Refused,
-    /// A message does not fit a length of 32 bits.
+    /// A message's length does not fit in 32 bits.
     TooLong,
-    /// A request for memory was refused.
+    /// An allocation failed.
     OutOfMemory,
 }
 
@@ -73,7 +73,7 @@ impl Fault {
     }
 }
 
-/// The library's text of the cause.
+/// The library's text of the error.
 impl fmt::Display for Fault {
     fn fmt(&self, f: &mut fmt::Formatter<'_>) -> fmt::Result {
         let mut text = [0u8; 256];
@@ -90,14 +90,14 @@ impl fmt::Display for Fault {
 
 impl Error for Fault {}
 
-/// Why something is not written; nothing was changed.
+/// Why nothing was written. Nothing was changed.
 #[derive(Clone, Copy, Debug, PartialEq, Eq)]
 pub enum Refusal {
     /// The buffer has no room for it.
     NoRoom,
-    /// It is more than a length field can say.
+    /// It is longer than a length field can count.
     TooLong,
-    /// There is no such place or attribute.
+    /// There is no such location or attribute.
     NoPlace,
 }
 

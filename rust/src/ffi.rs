@@ -1,4 +1,4 @@
-//! The calls of the library, as c/include/netlink_packet.h declares them.
+//! The functions that c/include/netlink_packet.h declares.
 
 #[repr(C)]
 #[derive(Clone, Copy, Default)]

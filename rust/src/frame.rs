@@ -6,7 +6,7 @@ use crate::ffi;
 /// The five fields of a header.
 #[derive(Clone, Copy, Debug, Default, PartialEq, Eq)]
 pub struct Header {
-    /// The size of the message in bytes, this header included. It is not looked at in writing.
+    /// The size of the message in bytes, including this header. Writing ignores it.
     pub length: u32,
     pub message_type: u16,
     pub flags: u16,
@@ -17,9 +17,9 @@ pub struct Header {
 /// The body of an error message.
 #[derive(Clone, Copy, Debug, PartialEq, Eq)]
 pub struct ErrorBody<'a> {
-    /// 0 for an acknowledgement, else the negated number of an error.
+    /// 0 for an acknowledgement, else a negative errno.
     pub code: i32,
-    /// The header of the message that is answered, and what follows of it.
+    /// The header of the request, and what is present of its payload.
     pub request: &'a [u8],
     /// The attributes of the extended acknowledgement.
     pub attributes: &'a [u8],
@@ -28,9 +28,9 @@ pub struct ErrorBody<'a> {
 /// The body of a done message.
 #[derive(Clone, Copy, Debug, PartialEq, Eq)]
 pub struct DoneBody<'a> {
-    /// 0, or the negated number of an error.
+    /// 0, or a negative errno.
     pub code: i32,
-    /// What stands behind the code.
+    /// The bytes after the code.
     pub rest: &'a [u8],
 }
 
@@ -38,7 +38,7 @@ pub(crate) fn part(bytes: &[u8], part: ffi::Part) -> &[u8] {
     &bytes[part.offset..part.offset + part.size]
 }
 
-/// The header that the bytes begin with.
+/// Returns the header that the bytes begin with.
 pub fn header(bytes: &[u8]) -> Result<Header, Fault> {
     let mut fields = ffi::Header::default();
     let mut fault = ffi::Fault::default();
@@ -56,7 +56,7 @@ pub fn header(bytes: &[u8]) -> Result<Header, Fault> {
     })
 }
 
-/// The payload of the frame that the bytes hold whole.
+/// Returns the payload of the complete frame that the bytes begin with.
 pub fn payload(bytes: &[u8]) -> Result<&[u8], Fault> {
     let mut place = ffi::Part::default();
     let mut fault = ffi::Fault::default();
@@ -68,7 +68,7 @@ pub fn payload(bytes: &[u8]) -> Result<&[u8], Fault> {
     Ok(part(bytes, place))
 }
 
-/// The body of an error message whose header has these flags.
+/// Returns the body of an error message whose header has these flags.
 pub fn error_body(payload: &[u8], flags: u16) -> Result<ErrorBody<'_>, Fault> {
     let mut body = ffi::ErrorBody::default();
     let mut fault = ffi::Fault::default();
@@ -84,7 +84,7 @@ pub fn error_body(payload: &[u8], flags: u16) -> Result<ErrorBody<'_>, Fault> {
     })
 }
 
-/// The body of a done message.
+/// Returns the body of a done message.
 pub fn done_body(payload: &[u8]) -> Result<DoneBody<'_>, Fault> {
     let mut code = 0;
     let mut rest = ffi::Part::default();

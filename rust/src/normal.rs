@@ -1,9 +1,9 @@
-//! Normal forms, and a value written in place.
+//! Canonical forms, and values overwritten in place.
 
 use crate::fault::{Fault, Refusal, NO_ROOM, OK};
 use crate::ffi;
 
-/// Writes a value over that of the attribute with this index, where it has the same size.
+/// Overwrites the value of the attribute at `index` if it has the same size.
 pub fn write_value(block: &mut [u8], index: usize, value: &[u8]) -> Result<(), Refusal> {
     // SAFETY: both slices are live.
     Refusal::of(unsafe {
@@ -11,13 +11,13 @@ pub fn write_value(block: &mut [u8], index: usize, value: &[u8]) -> Result<(), R
     })
 }
 
-/// Whether the bytes are a canonical block.
+/// Returns whether the bytes are a canonical block.
 pub fn attributes_are_canonical(bytes: &[u8]) -> bool {
     // SAFETY: the slice is live.
     unsafe { ffi::nlp_attrs_is_canonical(bytes.as_ptr(), bytes.len()) }
 }
 
-/// Whether the bytes are a canonical frame of any type from 16 on with any bytes, or of types 1 to 4.
+/// Returns whether the bytes are a canonical frame. If the type is 16 or greater, the payload may be any bytes.
 pub fn frame_is_canonical(bytes: &[u8]) -> Result<bool, Fault> {
     let mut canonical = 0;
     let mut fault = ffi::Fault::default();
@@ -30,7 +30,7 @@ pub fn frame_is_canonical(bytes: &[u8]) -> Result<bool, Fault> {
 
 type Call = unsafe extern "C" fn(*const u8, usize, *mut u8, usize, *mut usize, *mut ffi::Fault) -> u32;
 
-/// The text that a call writes, in a vector of its size: as many bytes as were given are mostly enough.
+/// Returns what the function writes. The first buffer has a few bytes more than the input, which is usually enough.
 fn written(call: Call, bytes: &[u8]) -> Result<Vec<u8>, Fault> {
     let mut text = vec![0; bytes.len() + 4];
     let mut size = 0;
@@ -50,12 +50,13 @@ fn written(call: Call, bytes: &[u8]) -> Result<Vec<u8>, Fault> {
     }
 }
 
-/// The canonical block of the bytes.
+/// Returns the canonical block of the bytes.
 pub fn normalize_attributes(bytes: &[u8]) -> Result<Vec<u8>, Fault> {
     written(ffi::nlp_attrs_normalize, bytes)
 }
 
-/// The canonical frame of the message whose frame the bytes begin with, of any type from 16 on with any bytes.
+/// Returns the canonical frame of the message at the start of the bytes. If the type is 16 or greater, the payload
+/// may be any bytes.
 pub fn normalize_frame(bytes: &[u8]) -> Result<Vec<u8>, Fault> {
     written(ffi::nlp_frame_normalize, bytes)
 }

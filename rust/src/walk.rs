@@ -18,33 +18,33 @@ pub struct Attribute<'a> {
 }
 
 impl<'a> Attribute<'a> {
-    /// The kind without its flag bits.
+    /// Returns the kind without its flag bits.
     pub fn number(&self) -> u16 {
         self.kind & KIND_MASK
     }
 
-    /// Whether the kind has the bit of nested attributes.
+    /// Returns whether the kind has the nested bit.
     pub fn is_nested(&self) -> bool {
         self.kind & NESTED != 0
     }
 
-    /// The attributes inside.
+    /// Iterates over the attributes in the value.
     pub fn inside(&self) -> Attributes<'a> {
         Attributes::new(self.value)
     }
 
-    /// The text of the value, without the zero that ends it.
+    /// Returns the string in the value, without its final zero.
     pub fn text(&self) -> &'a [u8] {
         self.value.strip_suffix(&[0]).unwrap_or(self.value)
     }
 
-    /// The number of a value of 4 bytes.
+    /// Returns the integer in the value, or `None` if the value does not have 4 bytes.
     pub fn u32(&self) -> Option<u32> {
         Some(u32::from_ne_bytes(self.value.try_into().ok()?))
     }
 }
 
-/// The attributes of a block in order. A fault is the last item.
+/// The attributes of a block in order. An error is the last item.
 #[derive(Clone, Debug)]
 pub struct Attributes<'a> {
     bytes: &'a [u8],
@@ -52,7 +52,7 @@ pub struct Attributes<'a> {
 }
 
 impl<'a> Attributes<'a> {
-    /// A walk of these bytes.
+    /// Starts at the first attribute.
     pub fn new(bytes: &'a [u8]) -> Self {
         Attributes { bytes, cursor: 0 }
     }
@@ -79,7 +79,7 @@ impl<'a> Iterator for Attributes<'a> {
     }
 }
 
-/// The frames of a datagram in order, each without its padding. A fault is the last item.
+/// The frames of a datagram in order, each without its padding. An error is the last item.
 #[derive(Clone, Debug)]
 pub struct Frames<'a> {
     bytes: &'a [u8],
@@ -87,7 +87,7 @@ pub struct Frames<'a> {
 }
 
 impl<'a> Frames<'a> {
-    /// A walk of this datagram.
+    /// Starts at the first frame.
     pub fn new(bytes: &'a [u8]) -> Self {
         Frames { bytes, cursor: 0 }
     }

@@ -1,15 +1,15 @@
-//! Frames and attributes, written into a buffer.
+//! Writes frames and attributes into a buffer.
 
 use crate::fault::Refusal;
 use crate::ffi;
 use crate::frame::Header;
 
-/// Where a frame or a nest was begun.
+/// The offset at which a frame or a nest was begun.
 #[derive(Debug)]
 #[must_use = "a frame or a nest is ended by its start"]
 pub struct Start(usize);
 
-/// Writes into a buffer, from its front on. What does not fit changes nothing.
+/// Writes into a buffer, starting at offset 0. What does not fit changes nothing.
 #[derive(Debug)]
 pub struct Writer<'a> {
     buffer: &'a mut [u8],
@@ -17,17 +17,17 @@ pub struct Writer<'a> {
 }
 
 impl<'a> Writer<'a> {
-    /// A writer at the front of the buffer.
+    /// Returns a writer at the start of the buffer.
     pub fn new(buffer: &'a mut [u8]) -> Self {
         Writer { buffer, cursor: 0 }
     }
 
-    /// What was written.
+    /// Returns what was written.
     pub fn written(&self) -> &[u8] {
         &self.buffer[..self.cursor]
     }
 
-    /// Begins a frame: its header, and what the sub-protocol has in front of its attributes.
+    /// Begins a frame: writes its header and `fixed`, the sub-protocol's struct before the attributes.
     pub fn begin_frame(&mut self, header: &Header, fixed: &[u8]) -> Result<Start, Refusal> {
         let start = Start(self.cursor);
         let fields = ffi::Header {
@@ -51,7 +51,7 @@ impl<'a> Writer<'a> {
         Ok(start)
     }
 
-    /// Ends a frame: what was written since is its own.
+    /// Ends a frame, which consists of everything since `begin_frame`.
     pub fn end_frame(&mut self, start: Start) -> Result<(), Refusal> {
         // SAFETY: the slice is live.
         Refusal::of(unsafe { ffi::nlp_frame_end(self.buffer.as_mut_ptr(), self.buffer.len(), self.cursor, start.0) })
@@ -67,13 +67,13 @@ impl<'a> Writer<'a> {
         Ok(start)
     }
 
-    /// Ends a nest: what was written since is its value.
+    /// Ends a nest, whose value is everything since `begin_nest`.
     pub fn end_nest(&mut self, start: Start) -> Result<(), Refusal> {
         // SAFETY: the slice is live.
         Refusal::of(unsafe { ffi::nlp_nest_end(self.buffer.as_mut_ptr(), self.buffer.len(), self.cursor, start.0) })
     }
 
-    /// An attribute of these bytes, its kind as it is.
+    /// Writes an attribute with these bytes, its kind unchanged.
     pub fn attribute(&mut self, kind: u16, value: &[u8]) -> Result<(), Refusal> {
         // SAFETY: both slices are live, and so is the cursor.
         Refusal::of(unsafe {
@@ -88,7 +88,7 @@ impl<'a> Writer<'a> {
         })
     }
 
-    /// An attribute of a text, with one zero behind it.
+    /// Writes an attribute whose value is the string and one zero.
     pub fn text(&mut self, kind: u16, text: &str) -> Result<(), Refusal> {
         // SAFETY: both slices are live, and so is the cursor.
         Refusal::of(unsafe {
@@ -103,7 +103,7 @@ impl<'a> Writer<'a> {
         })
     }
 
-    /// An attribute of a number of 1 byte.
+    /// Writes an attribute whose value is a `u8`.
     pub fn u8(&mut self, kind: u16, value: u8) -> Result<(), Refusal> {
         // SAFETY: the slice is live, and so is the cursor.
         Refusal::of(unsafe {
@@ -111,7 +111,7 @@ impl<'a> Writer<'a> {
         })
     }
 
-    /// An attribute of a number of 2 bytes.
+    /// Writes an attribute whose value is a `u16`.
     pub fn u16(&mut self, kind: u16, value: u16) -> Result<(), Refusal> {
         // SAFETY: the slice is live, and so is the cursor.
         Refusal::of(unsafe {
@@ -119,7 +119,7 @@ impl<'a> Writer<'a> {
         })
     }
 
-    /// An attribute of a number of 4 bytes.
+    /// Writes an attribute whose value is a `u32`.
     pub fn u32(&mut self, kind: u16, value: u32) -> Result<(), Refusal> {
         // SAFETY: the slice is live, and so is the cursor.
         Refusal::of(unsafe {
@@ -127,7 +127,7 @@ impl<'a> Writer<'a> {
         })
     }
 
-    /// An attribute of a number of 8 bytes.
+    /// Writes an attribute whose value is a `u64`.
     pub fn u64(&mut self, kind: u16, value: u64) -> Result<(), Refusal> {
         // SAFETY: the slice is live, and so is the cursor.
         Refusal::of(unsafe {

@@ -1,14 +1,14 @@
-//! Each call on its happy path and on damage. The rows are worked by hand from linux/netlink.h.
+//! Tests each function on valid and malformed bytes, which are written by hand from linux/netlink.h.
 
 use netlink_packet::{
     attributes_are_canonical, done_body, error_body, frame_is_canonical, header, normalize_attributes,
     normalize_frame, payload, write_value, Attribute, Attributes, Fault, Frames, Header, Refusal, Writer,
 };
 
-/// Two attributes, (1, aa) and (2 with the flag of nests, 01020304).
+/// Two attributes, (1, aa) and (2 with the nested flag, 01020304).
 const TWO: [u8; 16] = [5, 0, 1, 0, 0xaa, 0, 0, 0, 8, 0, 2, 0x80, 1, 2, 3, 4];
 
-/// A frame of type 18 with one attribute (1, aa), and 4 bytes behind it.
+/// A frame of type 18 with one attribute (1, aa), and 4 bytes after it.
 const FRAME: [u8; 28] =
     [24, 0, 0, 0, 18, 0, 1, 3, 7, 0, 0, 0, 9, 0, 0, 0, 5, 0, 1, 0, 0xaa, 0, 0, 0, 1, 2, 3, 4];
 

@@ -1,4 +1,4 @@
--- What stands in a buffer where a nest or a frame is begun or ended.
+-- The contents of a buffer in which a nest or a frame is begun or ended.
 use Rattle.std.proofs.Common.{◌≡◌, ℕ, ◌+◌, ◌-◌, ◌<◌, ◌≤◌, ◌^◌, List, [], ◌++◌, length, take, drop, refl, ap, sym, ◌∙◌, inl, arith, append_assoc, append-nil, length-append, length-drop}
 use Rattle.std.proofs.lemmas.List.{drop_at, drop_all, drop-drop, length-replicate, length-take-le, take-append-drop, take-take}
 use Rattle.std.specs.Prelude.{replicate, slice_range}
@@ -25,7 +25,7 @@ frame_pieces h old_front front value zeros size written =
 
 pub ruleset frame_sizes = (length-header_bytes, frame_pieces)
 
--- what stands behind a place where a number was put
+-- what follows an offset at which a number was put
 behind_put : (buffer text : List ℕ) (start : ℕ) → start ≤ length buffer → drop start (put_at buffer start text)
     ≡ text ++ drop (length text) (drop start buffer)
 behind_put buffer text start inside =

@@ -1,4 +1,4 @@
--- What stands in a buffer behind what was put.
+-- The contents of a buffer into which an attribute was put.
 use Rattle.std.proofs.Common.{◌≡◌, ℕ, ◌+◌, ◌-◌, ◌<◌, ◌≤◌, ◌^◌, List, [], ◌∷◌, ◌++◌, length, take, drop, ap, sym, ◌∙◌, inl, arith, append_assoc, append-nil, length-append, length-drop}
 use Rattle.std.proofs.lemmas.List.{drop_at, drop_all, drop-append-le, drop-drop, drop-take, length-replicate, length-take, length-take-le, take_at}
 use Rattle.std.specs.Prelude.{replicate, slice_range}
@@ -9,7 +9,7 @@ use Rattle.netlink_packet_core.specs.Block.{canonical_block}
 use Rattle.netlink_packet_core.specs.Storage.{put_at}
 use Rattle.netlink_packet_core.specs.Walk.{Starts}
 
--- a text is written over a part of a buffer
+-- bytes are written over a part of a buffer
 pub put_part : (at n : ℕ) (buffer text new : List ℕ) → n ≡ length text → new ≡ text ++ drop (length text) (take n (drop at buffer))
     → put_mid at n buffer new ≡ put_at buffer at text
 put_part at n buffer text new sizes written =
@@ -25,7 +25,7 @@ canonical_block-snoc [] a = append-nil (padded a)
 canonical_block-snoc (first ∷ all) a = ap (λ (x : List ℕ). padded first ++ x) (canonical_block-snoc all a)
     ∙ sym (append_assoc (padded first) (canonical_block all) (padded a))
 
--- what was put stands behind what a block was
+-- what was put follows the former block
 grown : (a : Attribute) (buffer : List ℕ) (at start : ℕ) (all : List Attribute) → at + padded_size a ≤ length buffer → start ≤ at
     → slice_range buffer start at ≡ canonical_block all
     → slice_range (put_at buffer at (padded a)) start (at + padded_size a) ≡ canonical_block (all ++ a ∷ [])
@@ -52,7 +52,7 @@ grows_block a buffer new at next start all room written moved order held =
     ap (λ (x : List ℕ). slice_range x start next) written ∙ ap (slice_range (put_at buffer at (padded a)) start) moved
     ∙ grown a buffer at start all room order held
 
--- and the walk gives it, where the attribute fits its fields
+-- and the walk yields it, if the attribute fits its fields
 pub put_reads_back : (a : Attribute) (buffer new : List ℕ) (at next : ℕ) → a.kind < 2 ^ 16 → length a.value ≤ value_max
     → at + padded_size a ≤ length buffer → new ≡ put_at buffer at (padded a) → next ≡ at + padded_size a
     → Starts (drop at new) a (drop next new)

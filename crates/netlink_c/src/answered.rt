@@ -15,30 +15,30 @@ use netlink_packet_core::{
     ErrorBuffer, NETLINK_HEADER_LEN, NLM_F_ACK_TLVS, NLM_F_CAPPED, NetlinkBuffer, nlmsg_align,
 };
 
-/// The size in bytes of the code in front of the request.
+/// The size in bytes of the code, which precedes the request.
 const CODE_SIZE: usize = 4;
 
-/// Where what follows the header of the request starts, in bytes from the code on.
+/// The offset past the header of the request, in bytes from the start of the code.
 const BEHIND_HEADER: usize = CODE_SIZE + NETLINK_HEADER_LEN;
 
 /// The body of an error message (`struct nlp_error`).
 #[derive(Clone, Copy, Debug, PartialEq, Eq)]
 #[repr(C)]
 pub struct ErrorBody {
-    /// 0 for an acknowledgement, else the negated number of an error.
+    /// 0 for an acknowledgement, else a negative errno.
     pub code: i32,
-    /// The header of the message that is answered, and what follows of it.
+    /// The header of the request, and what is present of its payload.
     pub request: Part,
     /// The attributes of the extended acknowledgement.
     pub attributes: Part,
 }
 
-/// The body of a message of type `NLMSG_ERROR` whose header has these flags: its code, where the
-/// request lies that it answers, and where the attributes lie that follow.
+/// Reads the body of a message of type `NLMSG_ERROR` whose header has these flags: its code, and
+/// where the request and the attributes that follow it are.
 ///
-/// `NLM_F_ACK_TLVS` says that there are attributes, and `NLM_F_CAPPED` that of the request there is
-/// the header alone. Answers 0, or `ErrorShort` where there are fewer than 4 bytes. Wraps
-/// `ErrorBuffer`.
+/// `NLM_F_ACK_TLVS` means that there are attributes, and `NLM_F_CAPPED` that only the header of the
+/// request is present. Returns 0, or the number of `ErrorShort` if there are fewer than 4 bytes.
+/// Wraps `ErrorBuffer`. Does not allocate.
 #[unsafe(no_mangle)]
 pub extern "C" fn nlp_error_body(
     payload: &[u8],
@@ -80,7 +80,7 @@ pub extern "C" fn nlp_error_body(
     }
 }
 
-/// Where the request ends, in bytes from the code on.
+/// Returns the offset past the request, in bytes from the start of the code.
 fn request_end(payload: &[u8], flags: u16) -> usize
     requires code { 4 ≤ length payload.now }
     ensures end { IsRequestEnd flags payload.now result }

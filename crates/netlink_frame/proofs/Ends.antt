@@ -1,4 +1,4 @@
--- No walk ends with want of memory.
+-- No walk ends with `OutOfMemory`.
 use Rattle.std.proofs.Common.{ℕ, List, [], ◌∷◌, Option, None, Some, IfSome, subst}
 use Rattle.std.specs.Prelude.{◌≢◌, false}
 use Rattle.netlink_packet_core.specs.Attribute.{Attribute}

@@ -19,20 +19,20 @@ word_of Nlas = codes "nlas"
 word_of Canon = codes "canon"
 word_of Frames = codes "frames"
 
--- the arguments are the program's name and the word of the command; arguments that cannot be had
--- ask for none
+-- the arguments are the program's name and the word of the command; arguments that could not be
+-- read name none
 abbrev pub Asks : Option (List (String Global)) → Command → Type 0
 Asks None command = ⊥
 Asks (Some arguments) command =
     (name : String Global) × (word : String Global) × (arguments ≡ name ∷ (word ∷ []))
     × (string_bytes word ≡ word_of command)
 
--- what is said where they ask for none
+-- the text of the usage
 abbrev pub usage_text : List ℕ
 usage_text = codes "usage: netlink_frame normalize|show|nlas|canon|frames"
 
--- how a command over the whole input ended; want of memory, and a failed read or write, decide
--- nothing here
+-- how a command over the whole input ended; states nothing about `OutOfMemory`, or about a failed
+-- read or write
 abbrev pub Ends : Command → List ℕ → Option (List ℕ) → Option (List ℕ) → Ending Fault Usage
     → Type 0
 Ends command input old new end.Done = Wrote command input old new None

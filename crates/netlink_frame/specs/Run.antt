@@ -1,4 +1,4 @@
--- What a command writes for an input, the fault that it ends with, and what a run did.
+-- What a command writes for an input, the error that it ends with, and what a run did.
 use Rattle.std.specs.Prelude.{◌≡◌, ◌≢◌, ℕ, Bool, true, false, ⊤, List, [], Option, None, Some, Result, Ok, Err, codes}
 use Rattle.std.specs.Io.KnownBytes.{Appends}
 use Rattle.netlink_packet_core.specs.Attribute.{Attribute}
@@ -22,7 +22,7 @@ use Rattle.netlink_frame.specs.declared.command.Command.TheVariants.{Normalize, 
 use Rattle.netlink_frame.specs.declared.run.Fault.{Fault}
 use Rattle.netlink_frame.specs.declared.run.Fault.TheVariants.{Read, Write, Decode}
 
--- the bytes that a command writes for an input, and the fault that it ends with
+-- the bytes that a command writes for an input, and the error that it ends with
 unfoldable pub Makes : Command → List ℕ → List ℕ → Option DecodeError → Type 0
 Makes Normalize input output None =
     (m : NetlinkMessage PingPongMessage) × Frame ping_pong_decoding input m
@@ -44,13 +44,14 @@ Makes Canon input output (Some e) =
 Makes Frames input output fault =
     (all : List (List ℕ)) × FrameWalk input all fault × (output ≡ frame_lines all)
 
--- two faults are one, but for the words that follow the fixed beginning of a free text
+-- neither is an error, or both are the same, apart from the words that follow the fixed beginning
+-- of a `Message`
 abbrev pub SameFault : Option DecodeError → Option DecodeError → Type 0
 SameFault None None = Unit {0}
 SameFault (Some e) (Some f) = SameRefusal e f
 SameFault _ _ = ⊥
 
--- the writer took the output of the command and nothing else, and this is the fault
+-- the command has this error, and the writer took its output and nothing else
 abbrev pub Wrote : Command → List ℕ → Option (List ℕ) → Option (List ℕ) → Option DecodeError
     → Type 0
 Wrote command input old new fault =
@@ -62,8 +63,8 @@ outcome false fault = Err Write
 outcome true None = Ok tt
 outcome true (Some e) = Err (Decode e)
 
--- what a run over the whole input did; want of memory, and a failed read or write, decide nothing
--- here
+-- what a run over the whole input did; states nothing about runs that end with `OutOfMemory`, or
+-- with a failed read or write
 abbrev pub Answers : {A : Type 0} → Command → List ℕ → Option (List ℕ) → Option (List ℕ)
     → Result A Fault → Type 0
 Answers command input old new (Ok done) = Wrote command input old new None
@@ -71,25 +72,25 @@ Answers command input old new (Err (Decode e)) =
     e ≢ OutOfMemory → Wrote command input old new (Some e)
 Answers command input old new (Err fault) = Unit {0}
 
--- two faults of runs that nobody can tell apart
+-- two errors of runs that nothing distinguishes
 abbrev pub IsSameFault : Fault → Fault → Type 0
 IsSameFault Read Read = Unit {0}
 IsSameFault Write Write = Unit {0}
 IsSameFault (Decode a) (Decode b) = SameCause a b
 IsSameFault _ _ = ⊥
 
--- the fault of a run over an input that was not had
+-- the error of a run whose input could not be read
 abbrev pub read_fault : ReadFault → Fault
 read_fault read.Read = Read
 read_fault read.OutOfMemory = Decode OutOfMemory
 
--- a fault before anything was written
+-- an error that occurs before anything is written
 abbrev pub IsEarly : Fault → Type 0
 IsEarly Read = Unit {0}
 IsEarly Write = ⊥
 IsEarly (Decode e) = e ≡ OutOfMemory
 
--- the text of a fault
+-- the text of an error
 abbrev pub fault_text : Fault → List ℕ
 fault_text Read = codes "read failed"
 fault_text Write = codes "write failed"

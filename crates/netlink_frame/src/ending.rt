@@ -16,7 +16,7 @@ use std::env::Args;
 use std::fmt;
 use std::io::{Read, Write};
 
-/// What is said where the arguments are no command.
+/// The usage, which is printed if the arguments name no command.
 #[derive(Debug, Drop)]
 pub struct Usage;
 
@@ -28,8 +28,9 @@ impl fmt::Display for Usage {
     }
 }
 
-/// The command of the only argument behind the program's name. Arguments that cannot be had as a
-/// whole, be they no text or want of memory, are no command.
+/// Returns the command that the arguments name: the program's name is followed by one word, which
+/// is that of the command. Returns `None` for all other arguments, and if they could not be read
+/// because one is not UTF-8 or an allocation failed.
 pub fn asked(args: Option<Args>) -> Option<Command>
     ensures asks { (command : Command)
         → (result ≡ Some command) ↔ Asks (option_map into_iter_items args) command }
@@ -43,7 +44,8 @@ pub fn asked(args: Option<Args>) -> Option<Command>
     }
 }
 
-/// Runs the command over the reader and the writer; without a command neither is touched.
+/// Runs the command over the reader and the writer, and returns how the program ends. Without a
+/// command, returns `Usage` and uses neither.
 pub fn ended<R: Read, W: Write>(
     alloc: Global,
     command: Option<Command>,

@@ -1,4 +1,4 @@
-//! What the program's definitions decide, for those who read its contracts.
+//! Laws of the definitions in the program's contracts.
 
 ghost use Rattle.std.specs.Prelude.{◌≡◌, ◌↔◌, ℕ, List, Option, IsTrue};
 ghost use Rattle.netlink_packet_core.specs.DecodeError.{DecodeError};
@@ -11,8 +11,8 @@ use crate::run::Fault;
 use netlink_packet_core::laws::{causes_equal, frame_unique, refusal_unique, walk_unique};
 use netlink_tree::laws::frames_unique;
 
-/// A command writes one output for an input and ends with one fault, a refusing protocol's own
-/// words aside.
+/// For an input, a command has at most one output and one error, apart from the protocol's own
+/// words in the error.
 pub fn makes_once()
     ensures once { (command : Command) (input first second : List ℕ) (e f : Option DecodeError)
         → Makes command input first e → Makes command input second f
@@ -24,7 +24,7 @@ pub fn makes_once()
     frames_unique();
 }
 
-/// Two faults of runs are equal exactly if they are the same variant, and hold equal causes.
+/// Two errors of runs are equal if and only if they are the same variant and hold equal errors.
 pub fn faults_equal()
     ensures equal { (a b : Fault) → IsTrue (⟦<Fault as PartialEq>⟧.eq a b) ↔ IsSameFault a b }
 {

@@ -22,14 +22,14 @@ use std::alloc::Global;
 use std::fmt;
 use std::io::{Read, Write};
 
-/// Why a run did not end well.
+/// Why a run failed.
 #[derive(Debug, Drop, PartialEq, Eq)]
 pub enum Fault {
     /// The reader failed, or did not end within its bound of calls.
     Read,
-    /// The writer failed; how much it took is not said.
+    /// The writer failed. It may have taken any part of the output.
     Write,
-    /// The input was refused, or a request for memory was.
+    /// The input was rejected, or an allocation failed.
     Decode(DecodeError),
 }
 

@@ -16,10 +16,11 @@ const ZEROS_MESSAGE: u16 = 18;
 /// The message type of a count of zeros, which is read and never written.
 const COUNT_MESSAGE: u16 = 19;
 
-/// Zeros by their count; its text is that many zero bytes. No call asks for memory.
+/// A number of zeros. Its encoding is that many zero bytes.
 ///
-/// It is read from type 18 with a payload of zeros, which are counted, and from type 19 with a
-/// payload of 8 bytes, which are the count, the lowest byte first. All else is an `InvalidType`.
+/// Type 18 with a payload of zeros decodes to the number of these zeros. Type 19 with a payload of
+/// 8 bytes decodes to the little-endian integer in them. Everything else is an `InvalidType`.
+/// Decoding does not allocate.
 #[derive(Clone, Copy, Debug, PartialEq, Eq)]
 pub struct Zeros(pub u64);
 
@@ -74,7 +75,7 @@ impl NetlinkDeserializable for Zeros {
             (λ v. zeros_decoding.reading header.now payload.now
             ≡ Some (zeros_decoding.stands_for v)) }
         ensures refuses { OnErr result (zeros_decoding.reading header.now payload.now ≡ None) }
-        // There is one error, which is not want of memory.
+        // There is one error, which does not mean out of memory.
         ensures fault { IfErr result (λ e. e ≡ DeserializeError.InvalidType) }
     {
         match header.message_type {
@@ -106,7 +107,7 @@ impl NetlinkProtocol for Zeros {
     ghost reading_is_lawful = { reading_is_lawful };
 }
 
-/// Whether every byte is zero.
+/// Returns whether every byte is zero.
 fn are_zeros(bytes: &[u8]) -> bool
     ensures { result ≡ are_zeros bytes.now }
 {

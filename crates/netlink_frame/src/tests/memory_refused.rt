@@ -1,7 +1,7 @@
-//! Calls that ask for memory.
+//! Functions that allocate.
 //!
-//! `tests/memory` runs each test once for each of its requests, with that one refused. Then it
-//! passes as ever, or it ends with want of memory, which it hands on by `?`.
+//! `tests/memory` runs each test once per allocation, with that allocation failing. The test must
+//! pass, or propagate `OutOfMemory` with `?`.
 
 use crate::frames::frames_text;
 use crate::nlas::nlas_text;
@@ -37,7 +37,7 @@ fn too_long() -> Result<u8, DecodeError> {
     Err(DecodeError::TooLong)
 }
 
-/// Whether the cause has this text. Want of memory is handed on.
+/// Returns whether the error has this text. Propagates `OutOfMemory`.
 fn says(alloc: Global, cause: DecodeError, text: &str) -> Result<bool, DecodeError> {
     if cause.is_out_of_memory() {
         return Err(cause);
@@ -45,7 +45,7 @@ fn says(alloc: Global, cause: DecodeError, text: &str) -> Result<bool, DecodeErr
     Ok(cause.to_string(alloc)?.as_str() == text)
 }
 
-/// Whether the answer is a cause with this text. Want of memory is handed on.
+/// Returns whether the result is an error with this text. Propagates `OutOfMemory`.
 fn refused_with<T: Drop>(
     alloc: Global,
     answer: Result<T, DecodeError>,
@@ -148,7 +148,7 @@ fn a_block_is_normalised(rt: HostRuntime) -> Result<(), Fail> {
     Ok(())
 }
 
-/// A refused append leaves the block as it was, be it empty or not.
+/// If `append_nla` fails, the block is unchanged, whether it is empty or not.
 #[test]
 fn attributes_are_appended(rt: HostRuntime) -> Result<(), Fail> {
     let alloc = rt.alloc();
@@ -180,7 +180,7 @@ fn messages_are_read(rt: HostRuntime) -> Result<(), Fail> {
     Ok(())
 }
 
-/// A protocol's refusal is told in its own words, which ask for memory.
+/// If the protocol rejects a payload, the error contains its text, which is allocated.
 #[test]
 fn a_refused_message(rt: HostRuntime) -> Result<(), Fail> {
     let alloc = rt.alloc();
@@ -227,7 +227,7 @@ fn lines_are_written(rt: HostRuntime) -> Result<(), Fail> {
     Ok(())
 }
 
-/// A refused append leaves the datagram as it was, be it empty or not.
+/// If `append_frame` fails, the datagram is unchanged, whether it is empty or not.
 #[test]
 fn frames_are_appended(rt: HostRuntime) -> Result<(), Fail> {
     let alloc = rt.alloc();
@@ -246,10 +246,10 @@ fn frames_are_appended(rt: HostRuntime) -> Result<(), Fail> {
     Ok(())
 }
 
-/// One nest with one leaf, as it is read; the leaf lacks its padding.
+/// The input: one nest with one leaf, which lacks its padding.
 const READ: [u8; 9] = [9, 0, 1, 0x80, 5, 0, 2, 0, 0xaa];
 
-/// The same as it is written.
+/// The encoding of the same nest.
 const WRITTEN: [u8; 12] = [12, 0, 1, 0x80, 5, 0, 2, 0, 0xaa, 0, 0, 0];
 
 #[test]

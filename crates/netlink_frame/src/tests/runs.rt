@@ -50,7 +50,8 @@ impl Write for Closed {
     }
 }
 
-/// An output that is refused is a write fault; a refusal has no output, and is told as it is.
+/// If the writer fails, the error is `Write`. A rejected input has no output, so its own error is
+/// returned.
 #[test]
 fn a_closed_writer(rt: HostRuntime) {
     let mut ping: &[u8] = &PING;
@@ -117,7 +118,7 @@ fn texts_of_the_protocols_errors(rt: HostRuntime) -> Result<(), Fail> {
     Ok(())
 }
 
-/// A copy is equal, and what it was taken of is still there.
+/// A copy is equal to its original, which can still be used.
 #[test]
 fn copies_are_equal(rt: HostRuntime) {
     let command = Command::Canon;

@@ -6,7 +6,7 @@ use Rattle.netlink_frame.specs.declared.command.Command.{Command}
 use Rattle.netlink_frame.specs.declared.command.Command.TheVariants.{Normalize, Show, Nlas, Canon, Frames}
 use Rattle.netlink_frame.proofs.ending.asked.Goals as goal
 
--- the text is the word of the command that was found, and of no other
+-- `text` is the word of the command that was found, and of no other
 abbrev NamesIt : Option Command → List ℕ → Type 0
 NamesIt found text = (command : Command) → (found ≡ Some command) ↔ (text ≡ word_of command)
 
@@ -24,12 +24,12 @@ nothing_left : (rest : List (String Global)) → length rest ≡ 0 → rest ≡ 
 nothing_left [] none = refl
 nothing_left (x ∷ rest) none = absurd (omega arith)
 
--- of two arguments the second is the word
+-- the second of two arguments is the word
 second_word : (name word : String Global) (command : Command) → Asks (Some (name ∷ (word ∷ []))) command
     → string_bytes word ≡ word_of command
 second_word name word command (first, second, same, names) = let is : word ≡ second = cc in ap string_bytes is ∙ names
 
--- a name and a word alone ask for the command of the word
+-- a name and a word, with nothing after them, name the command of that word
 two_ask : (given : Option (List (String Global))) (items after rest : List (String Global)) (name word : String Global)
     (found : Option Command)
     → given ≡ Some items → items ≡ name ∷ after → after ≡ word ∷ rest → length rest ≡ 0 → NamesIt found (string_bytes word)

@@ -45,7 +45,7 @@ const BARE_DONE: [u8; 20] = [
 
 const EMPTY_OVERRUN: [u8; 16] = [0x10, 0, 0, 0, 4, 0, 0, 0, 0, 0, 0, 0, 0, 0, 0, 0];
 
-/// A noop, codes with no bytes behind them and an empty overrun are read without memory.
+/// Decoding a noop, a code that no bytes follow, or an empty overrun does not allocate.
 #[test]
 fn messages_with_nothing_to_copy(rt: HostRuntime) -> Result<(), Fail> {
     let alloc = rt.alloc();
@@ -104,7 +104,8 @@ fn refusals_without_words(rt: HostRuntime) {
     assert!(rt; refuses(long.into_frame(alloc), 15));
 }
 
-/// A body behind its code is not copied, and what the protocol refuses is not told.
+/// `is_canonical_frame` copies no body, and builds no error text if the protocol rejects the
+/// payload.
 #[test]
 fn verdicts(rt: HostRuntime) {
     let alloc = rt.alloc();

@@ -99,7 +99,8 @@ fn storages(rt: HostRuntime) -> Result<(), Fail> {
     Ok(())
 }
 
-/// A code with no bytes behind it is read and copied without memory; one with some is written so.
+/// Decoding and copying a code that no bytes follow does not allocate, and neither does encoding a
+/// body.
 #[test]
 fn bodies(rt: HostRuntime) -> Result<(), Fail> {
     let alloc = rt.alloc();
