@@ -1,13 +1,13 @@
 -- An input has one output and one refusal.
-use Rattle.std.proofs.Common.{◌≡◌, ◌++◌, List, [], ◌∷◌, ℕ, ℤ, ap, refl, sym, ◌∙◌, subst, inl, arith, Option, Some, None, drop, length}
+use Rattle.std.proofs.Common.{◌≡◌, ◌++◌, List, [], ◌∷◌, ℕ, ℤ, ap, refl, sym, ◌∙◌, subst, arith, Option, Some, None, length, length-drop}
 use Rattle.std.specs.Prelude.{◌≢◌, true, codes}
 use Rattle.netlink_packet_core.specs.Block.{canonical_block}
-use Rattle.netlink_packet_core.specs.DecodeError.{DecodeError}
-use Rattle.netlink_packet_core.specs.DecodeError.TheVariants.{FrameShort, OutOfMemory}
 use Rattle.netlink_packet_core.specs.Frame.{Body, Frame, SamePayload}
+use Rattle.netlink_packet_core.specs.FrameStartLaws.{no_frame_starts}
+use Rattle.netlink_packet_core.specs.FrameWalkLaws.{starts_frame_once}
 use Rattle.netlink_packet_core.specs.Payload.{InnerInRange}
-use Rattle.netlink_packet_core.specs.Refusal.{IsRefusal}
 use Rattle.netlink_packet_core.specs.Uniqueness.{Uniqueness}
+use Rattle.netlink_packet_core.specs.Walks.{WalksAs}
 use Rattle.netlink_packet_core.specs.declared.header.NetlinkHeader.{NetlinkHeader}
 use Rattle.netlink_packet_core.specs.declared.message.NetlinkMessage.{NetlinkMessage}
 use Rattle.netlink_packet_core.specs.declared.payload.NetlinkPayload.{NetlinkPayload}
@@ -25,16 +25,10 @@ use Rattle.netlink_route.specs.declared.message.RouteMessage.TheVariants as rout
 use Rattle.netlink_links.specs.Address.{address_line}
 use Rattle.netlink_links.specs.Lines.{code_words, error_words, lines, message_line, payload_line}
 use Rattle.netlink_links.specs.Link.{link_line}
-use Rattle.netlink_links.specs.Messages.{IsRefusedAt, Makes, Messages, SameRefused, aligned}
+use Rattle.netlink_links.specs.Messages.{IsRefusedAt, Makes, SameRefused, StartsMessage}
 use Rattle.netlink_links.specs.declared.messages.Refused.{Refused}
 use Rattle.netlink_links.proofs.AddressSaid.{address_once}
 use Rattle.netlink_links.proofs.LinkSaid.{link_once}
-
-abbrev pub IsFrame : List ℕ → NetlinkMessage RouteMessage → Type 0
-IsFrame = Frame route_decoding
-
-abbrev pub IsRefused : List ℕ → DecodeError → Type 0
-IsRefused = IsRefusal route_decoding wants_memory
 
 -- the protocol has the uniqueness that the laws of `netlink_packet_core` state
 abbrev pub IsUnique : Type 0
@@ -73,73 +67,47 @@ payload_once x y first second same = absurd same
 body_in_range : (h : NetlinkHeader) (payload : List ℕ) (x : NetlinkPayload RouteMessage) → Body route_decoding h payload x
     → InnerInRange route_decoding x
 body_in_range h payload (InnerMessage v) body = body.1
-body_in_range h payload (Done m) body = tt
-body_in_range h payload (Error m) body = tt
-body_in_range h payload Noop body = tt
-body_in_range h payload (Overrun bytes) body = tt
+body_in_range h payload _ body = tt
 
-line_once : IsUnique → (bytes : List ℕ) (m n : NetlinkMessage RouteMessage) → IsFrame bytes m → IsFrame bytes n
-    → (m.header ≡ n.header) × (message_line m ≡ message_line n)
+line_once : IsUnique → (bytes : List ℕ) (m n : NetlinkMessage RouteMessage) → Frame route_decoding bytes m → Frame route_decoding bytes n
+    → message_line m ≡ message_line n
 line_once unique bytes m n first second =
-    let same = unique.same bytes m n first second in (
-      same.0,
-      payload_once m.payload n.payload (body_in_range m.header first.0 m.payload first.2)
-          (body_in_range n.header second.0 n.payload second.2) same.1,
-    )
+    payload_once m.payload n.payload (body_in_range m.header first.0 m.payload first.2)
+    (body_in_range n.header second.0 n.payload second.2) (unique.same bytes m n first second).1
 
 -- ---- an input is messages in one way
 
--- bytes that are refused for a known cause
-abbrev IsEnd : List ℕ → Type 0
-IsEnd left = (e : DecodeError) × IsRefused left e × (e ≢ OutOfMemory)
+refused_once : IsUnique → (input bytes : List ℕ) (r s : Refused) → bytes ≢ [] → IsRefusedAt input bytes r → IsRefusedAt input bytes s
+    → SameRefused (Some r) (Some s)
+refused_once unique input [] r s some first second = absurd (some refl)
+refused_once unique input (b ∷ bytes) r s some first second = (
+  omega (arith, ap length first.place ∙ length-drop r.at input, ap length second.place ∙ length-drop s.at input),
+  unique.refusal (b ∷ bytes) r.cause s.cause first.refusal second.refusal first.known second.known,
+)
 
--- as no bytes are
-nothing_ends : IsEnd []
-nothing_ends = (FrameShort 0 true, inl (omega arith, refl, refl), λ same. absurd (cc))
+abbrev MessageWalk : List ℕ → List ℕ → List (NetlinkMessage RouteMessage) → Option Refused → Type 0
+MessageWalk input = WalksAs StartsMessage (IsRefusedAt input)
 
-no_frame : IsUnique → (bytes left : List ℕ) (m : NetlinkMessage RouteMessage) → bytes ≡ left → IsEnd left → IsFrame bytes m → ⊥
-no_frame unique bytes left m is (e, refused, known) frame =
-    known (unique.frame bytes m e frame (subst (λ (b : List ℕ). IsRefused b e) (sym is) refused))
-
-messages_once : IsUnique → (input : List ℕ) (all more : List (NetlinkMessage RouteMessage)) (left rest : List ℕ)
-    → Messages input all left → Messages input more rest → IsEnd left → IsEnd rest → (lines all ≡ lines more) × (left ≡ rest)
-messages_once unique input [] [] left rest is other end stop = (refl, sym is ∙ other)
-messages_once unique input [] (n ∷ more) left rest is (frame, passed) end stop =
-    absurd (no_frame unique input left n is end frame)
-messages_once unique input (m ∷ all) [] left rest (frame, passed) is end stop =
-    absurd (no_frame unique input rest m is stop frame)
-messages_once unique input (m ∷ all) (n ∷ more) left rest (first, passed) (second, later) end stop =
-    let one = line_once unique input m n first second in
-    let behind : Messages (drop (aligned m.header.length) input) more rest =
-    subst (λ (h : NetlinkHeader). Messages (drop (aligned h.length) input) more rest) (sym one.0) later in
-    let same = messages_once unique (drop (aligned m.header.length) input) all more left rest passed behind end stop in
-    (ap (λ (x : List ℕ). x ++ lines all) one.1 ∙ ap (λ (x : List ℕ). message_line n ++ x) same.0, same.1)
-
-refused_once : IsUnique → (input left rest : List ℕ) (r s : Refused) → left ≡ rest → IsRefusedAt input left r
-    → IsRefusedAt input rest s → SameRefused (Some r) (Some s)
-refused_once unique input left rest r s same first second =
-    let size = ap (λ (b : List ℕ). length b) same in (
-      omega (arith, first.place, second.place, size),
-      unique.refusal rest r.cause s.cause (subst (λ (b : List ℕ). IsRefused b r.cause) same first.refusal) second.refusal first.known
-          second.known,
-    )
-
-abbrev ended : (input left : List ℕ) (r : Refused) → IsRefusedAt input left r → IsEnd left
-ended input left r at = (r.cause, at.refusal, at.known)
+messages_once : IsUnique → (input bytes : List ℕ) (all more : List (NetlinkMessage RouteMessage)) (e f : Option Refused)
+    → MessageWalk input bytes all e → MessageWalk input bytes more f → (lines all ≡ lines more) × SameRefused e f
+messages_once unique input bytes [] [] None None p q = (refl, tt)
+messages_once unique input bytes [] [] None (Some s) p q = absurd (q.0 p)
+messages_once unique input bytes [] [] (Some r) None p q = absurd (p.0 q)
+messages_once unique input bytes [] [] (Some r) (Some s) p q = (refl, refused_once unique input bytes r s p.0 p.1 q.1)
+messages_once unique input bytes [] (n ∷ more) None f p q = absurd (no_frame_starts bytes q.1.0 q.0 p q.1.1)
+messages_once unique input bytes [] (n ∷ more) (Some r) f p q = absurd (p.1.known (unique.frame bytes n r.cause q.1.2 p.1.refusal))
+messages_once unique input bytes (m ∷ all) [] e None p q = absurd (no_frame_starts bytes p.1.0 p.0 q p.1.1)
+messages_once unique input bytes (m ∷ all) [] e (Some s) p q = absurd (q.1.known (unique.frame bytes m s.cause p.1.2 q.1.refusal))
+messages_once unique input bytes (m ∷ all) (n ∷ more) e f (rest, (frame, starts, is), p) (other, (piece, begins, also), q) =
+    let one = starts_frame_once bytes frame piece rest other starts begins in
+    let line = line_once unique bytes m n is also in
+    let later = messages_once unique input rest all more e f p (subst (λ (b : List ℕ). MessageWalk input b more f) (sym one.1) q) in
+    (ap (λ (x : List ℕ). x ++ lines all) line ∙ ap (λ (x : List ℕ). message_line n ++ x) later.0, later.1)
 
 -- one output and one refusal
 pub once : IsUnique → (input first second : List ℕ) (e f : Option Refused) → Makes input first e → Makes input second f
     → (first ≡ second) × SameRefused e f
 unfolding Makes
-once unique input first second None None (all, passed, is) (more, later, other) =
-    let same = messages_once unique input all more [] [] passed later nothing_ends nothing_ends in
-    (is ∙ same.0 ∙ sym other, tt)
-once unique input first second None (Some s) (all, passed, is) (more, rest, later, other, at) =
-    let same = messages_once unique input all more [] rest passed later nothing_ends (ended input rest s at) in
-    absurd (at.some (sym same.1))
-once unique input first second (Some r) None (all, left, passed, is, at) (more, later, other) =
-    let same = messages_once unique input all more left [] passed later (ended input left r at) nothing_ends in
-    absurd (at.some same.1)
-once unique input first second (Some r) (Some s) (all, left, passed, is, at) (more, rest, later, other, here) =
-    let same = messages_once unique input all more left rest passed later (ended input left r at) (ended input rest s here) in
-    (is ∙ same.0 ∙ sym other, refused_once unique input left rest r s same.1 at here)
+once unique input first second e f (all, walk, is) (more, other, also) =
+    let same = messages_once unique input input all more e f walk other in
+    (is ∙ same.0 ∙ sym also, same.1)

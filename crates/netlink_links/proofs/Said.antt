@@ -1,9 +1,10 @@
 -- What is said of the first attribute of a kind is decided by the attributes that a list stands for.
 use Rattle.std.specs.Prelude.{ℕ, ◌≡◌, ◌==◌, Bool, true, false, List, [], ◌∷◌, Option, Some, None, refl, if◌then◌else◌}
-use Rattle.std.proofs.Common.{ap, sym, ◌∙◌}
+use Rattle.std.proofs.Common.{ap, subst, sym, ◌∙◌}
 use Rattle.std.proofs.lemmas.Bool.{eqb-true}
 use Rattle.netlink_packet_core.specs.Attribute.{Attribute}
 use Rattle.netlink_packet_core.specs.Nla.{attributes_of}
+use Rattle.netlink_route.specs.Value.{Shape, is_none}
 use Rattle.netlink_links.specs.Find.{first_of}
 
 -- the value of the first attribute of a kind
@@ -42,3 +43,7 @@ pub said_once : {T : Type 0} (kind_of : T → ℕ) (value_of : T → List ℕ) (
 said_once kind_of value_of words of kind each x y same =
     first_said kind_of value_of words of kind each x ∙ ap (λ (all : List Attribute). said of (words None) (value_at kind all)) same
     ∙ sym (first_said kind_of value_of words of kind each y)
+
+-- an attribute with no variant of its own is of none of the kinds that have one
+pub no_row : (row : ℕ → Option Shape) (own kind : ℕ) → is_none (row own) ≡ true → own ≡ kind → is_none (row kind) ≡ false → ⊥
+no_row row own kind none same some = absurd (let other : is_none (row kind) ≡ true = subst (λ (k : ℕ). is_none (row k) ≡ true) same none in cc)

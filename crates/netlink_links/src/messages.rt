@@ -1,6 +1,7 @@
 //! The messages of an input, one behind another.
 
-ghost use Rattle.std.specs.Prelude.{◌≡◌, ◌≢◌, ◌≤◌, [], IfErr, IfOk, IsErr, IsOkAnd, drop, length, string_bytes};
+ghost use Rattle.std.specs.Prelude.{◌≡◌, ◌≢◌, ◌+◌, ◌-◌, ◌≤◌, IfErr, IfOk, IsErr, IsOkAnd, string_bytes};
+ghost use Rattle.netlink_packet_core.specs.Attribute.{padding};
 ghost use Rattle.netlink_packet_core.specs.Frame.{Frame};
 ghost use Rattle.netlink_packet_core.specs.Refusal.{IsRefusal};
 ghost use Rattle.netlink_packet_core.specs.declared.message.NetlinkMessage.{NetlinkMessage};
@@ -8,11 +9,13 @@ ghost use Rattle.netlink_route.specs.Error.{wants_memory};
 ghost use Rattle.netlink_route.specs.Message.{route_decoding};
 ghost use Rattle.netlink_route.specs.declared.message.RouteMessage.{RouteMessage};
 ghost use Rattle.netlink_links.specs.Lines.{message_line};
-ghost use Rattle.netlink_links.specs.Messages.{Makes, aligned};
+ghost use Rattle.netlink_links.specs.Messages.{Makes};
 
 use crate::line::message_text;
+use netlink_packet_core::laws::refusal_unique;
 use netlink_packet_core::{DecodeError, NetlinkMessage, nlmsg_align};
 use netlink_route::RouteMessage;
+use netlink_tree::Frames;
 use std::alloc::{AllocError, Global};
 
 /// A refusal, and where it stands.
@@ -31,24 +34,28 @@ pub(crate) struct Answer {
     pub(crate) fault: Option<Refused>,
 }
 
-/// The lines of an input's messages, and the refusal that they end with; want of memory is none.
+/// Returns the lines of the messages in the frames of an input, and the error that ends them, or
+/// `AllocError` if an allocation fails.
 pub(crate) fn answer_to(alloc: Global, input: &[u8]) -> Result<Answer, AllocError>
     ensures { IfOk result
         (λ answer. Makes input.now (string_bytes answer.output) answer.fault) }
 {
+    refusal_unique::<RouteMessage>();
     let mut output = String::new(alloc);
-    let mut rest = input;
-    while !rest.is_empty() {
-        match first_line(alloc, rest) {
-            Ok((line, size)) => {
-                output.push_str(line.as_str())?;
-                rest = behind(rest, size);
-            }
+    let mut at = 0;
+    for item in Frames::new(input) {
+        // `deserialize` ignores what follows the frame
+        match first_line(alloc, &input[at..]) {
+            Ok(line) => output.push_str(line.as_str())?,
             Err(cause) => {
-                let fault = Some(rejection(input.len() - rest.len(), cause)?);
+                let fault = Some(rejection(at, cause)?);
                 return Ok(Answer { output, fault });
             }
         }
+        let Ok(frame) = item else {
+            unreachable!();
+        };
+        at = behind(at, frame.len());
     }
     Ok(Answer {
         output,
@@ -71,27 +78,23 @@ fn rejection(at: usize, cause: DecodeError) -> Result<Refused, AllocError>
     Ok(Refused { at, cause })
 }
 
-/// What stands behind so many bytes.
-fn behind(bytes: &[u8], size: usize) -> &[u8]
-    ensures rest { result.now ≡ drop size bytes.now }
-    ensures shorter { length result.now ≤ length bytes.now }
+/// Returns the offset after the frame of this size at an offset, and after its padding. Requires
+/// that the frame ends 4 bytes or more before `usize::MAX`.
+fn behind(at: usize, size: usize) -> usize
+    requires room { at + size ≤ usize.MAX - 4 }
+    ensures { result ≡ at + (size + padding size) }
 {
-    if size < bytes.len() {
-        &bytes[size..]
-    } else {
-        &[]
-    }
+    at + nlmsg_align(size)
 }
 
-/// The line of the message that the bytes begin with, and the size of its frame with its padding.
-fn first_line(alloc: Global, bytes: &[u8]) -> Result<(String, usize), DecodeError>
+/// Returns the line of the message that the bytes begin with.
+fn first_line(alloc: Global, bytes: &[u8]) -> Result<String, DecodeError>
     ensures reads { IfOk result
-        (λ first. (m : NetlinkMessage RouteMessage) × Frame route_decoding bytes.now m
-        × (string_bytes first.0 ≡ message_line m) × (first.1 ≡ aligned m.header.length)) }
+        (λ line. (m : NetlinkMessage RouteMessage) × Frame route_decoding bytes.now m
+        × (string_bytes line ≡ message_line m)) }
     ensures refuses { IfErr result
         (λ e. e ≢ DecodeError.OutOfMemory → IsRefusal route_decoding wants_memory bytes.now e) }
 {
     let message = NetlinkMessage::<RouteMessage>::deserialize(alloc, bytes)?;
-    let line = message_text(alloc, &message)?;
-    Ok((line, nlmsg_align(message.header.length as usize)))
+    Ok(message_text(alloc, &message)?)
 }

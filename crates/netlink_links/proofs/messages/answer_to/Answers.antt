@@ -1,35 +1,42 @@
-use Rattle.std.proofs.Common.{ℕ, List, [], ◌∷◌, ◌++◌, ◌∙◌, ap, drop, subst, sym, arith}
-use Rattle.std.proofs.lemmas.Grind.{common_steps}
-use Rattle.netlink_links.specs.Messages.{Messages}
-use Rattle.netlink_links.proofs.Passing.{lines_push, makes_all, makes_front, messages_push, none_left, some_left}
+use Rattle.std.proofs.Common.{[], ◌∷◌, ◌++◌, ◌∙◌, inl, sym}
+use Rattle.std.proofs.lemmas.List.{take_rest}
+use Rattle.netlink_packet_core.specs.Walks.{passed_ends, passed_faults, passed_push}
+use Rattle.netlink_links.specs.Messages.{IsRefusedAt, Makes, StartsMessage}
+use Rattle.netlink_links.proofs.Passing.{inside, lines_push, rest_at, some_left}
 use Rattle.netlink_links.proofs.messages.answer_to.Goals as goal
 
-pub loop-rest-preserved : goal.loop-rest-preserved
-loop-rest-preserved c =
-    let done = c.loop-rest.invariant.0 in
-    let m = c.in-Ok.ensures.reads.0 in
-    let text = c.in-Ok.ensures.reads.2 in
-    let size = c.in-Ok.ensures.reads.3 in
-    let so_far = c.loop-rest.invariant.2 in
+pub unreachable-requires : goal.unreachable-requires
+unreachable-requires c =
+    let reads = rw (take_rest c.args.input.now c.loop-item.at ∙ sym c.loop-item.invariant.3) at c.in-Ok.ensures.reads in
+    let error = inside _ _ (rw c.in_default.is at c.in-Some.ensures.steps).1 in
+    error.2 (c.refusal_unique.ensures.frame _ reads.0 error.0 reads.1 (inl error.1))
+
+pub loop-item-preserved : goal.loop-item-preserved
+loop-item-preserved c =
+    let (done, passed, so_far, at) = c.loop-item.invariant in
+    let (m, is, text) = rw (take_rest c.args.input.now c.loop-item.at ∙ sym at) at c.in-Ok.ensures.reads in
+    let step = rw c.in-Ok-item.is at c.in-Some.ensures.steps in
     let push = lines_push done m in (
       done ++ (m ∷ []),
-      subst (λ (l : List ℕ). Messages c.args.input.now (done ++ (m ∷ [])) l)
-          (ap (λ (n : ℕ). drop n c.loop-rest.rest.now) (sym size) ∙ sym c.behind-rest.ensures.rest)
-          (messages_push c.args.input.now done c.loop-rest.rest.now m c.loop-rest.invariant.1 c.in-Ok.ensures.reads.1),
+      passed_push StartsMessage _ done _ m _ passed (_, step.1, is),
       cc (push, so_far, text, c.as_str.ensures.value, c.in_ok-push_str-in-Ok.ensures.bytes),
-      omega (arith, c.loop-rest.invariant.3, c.behind-rest.ensures.shorter),
+      rest_at _ _ _ _ _ _ step.1 at c.behind-at.ensures,
     )
 
 pub returns-in-Err : goal.returns-in-Err
+unfolding Makes
 returns-in-Err c =
-    let is = c.in_ok-rejection-in-Err.ensures.known in
-    makes_front c.args.input.now c.loop-rest.rest.now _ c.loop-rest.invariant.0 _ _ c.in-Err.cause c.loop-rest.invariant.1
-    c.loop-rest.invariant.2
-    (some_left c.loop-rest.rest.now (grind (arith, common_steps, c.is_empty.ensures, c.loop-rest-test.true)))
-    (c.in-Err.ensures.refuses is.2) is.2 (omega (arith, c.loop-rest.invariant.3)) is.0 is.1
+    let (done, passed, so_far, at) = c.loop-item.invariant in
+    let (place, cause, known) = c.in_ok-rejection-in-Err.ensures.known in
+    let refusal = rw (take_rest c.args.input.now c.loop-item.at ∙ sym at) at c.in-Err.ensures.refuses known in (
+      done,
+      passed_faults StartsMessage (IsRefusedAt c.args.input.now) _ _ _ _ passed (some_left c.in-Some.item _ _ c.in-Some.ensures.steps)
+          (record { place = rw place at; refusal = rw cause refusal; known = rw cause known }),
+      so_far,
+    )
 
 pub returns : goal.returns
+unfolding Makes
 returns c =
-    makes_all c.args.input.now c.loop-rest.rest.now _ c.loop-rest.invariant.0 c.loop-rest.invariant.1
-    (none_left c.loop-rest.rest.now (grind (arith, common_steps, c.is_empty.ensures, c.loop-rest-test.false)))
-    c.loop-rest.invariant.2
+    let (done, passed, so_far, at) = c.loop-item.invariant in
+    (done, passed_ends StartsMessage (IsRefusedAt c.args.input.now) _ _ _ passed c.in-None.ensures.steps.0, so_far)
