@@ -53,3 +53,31 @@ def words_over_rlibs(crate, verb, top=TOP):
     if [crate, "staticlib"] in [words for words, _ in heads()]:
         words += ["--crate-type", "staticlib"]
     return [*words, "--antt-project", f"{own}/rattle/logic/antt-project.json", "--logic-built", f"{own}/logic_built"]
+
+
+def is_left_by_ci(crate):
+    """Returns whether `rt ci` left the rlib, so that it has no stamp, and the rlib is newer than all its sources."""
+    rlib = rlib_of(crate)
+    if not os.path.isdir(rlib) or os.path.exists(os.path.join(os.path.dirname(rlib), "stamp")):
+        return False
+    files = [os.path.join(TOP, "crates.txt")]
+    for part in ("src", "specs", "proofs"):
+        for at, _, names in os.walk(os.path.join(folder_of(crate), part)):
+            files += [os.path.join(at, name) for name in names]
+    return max(map(os.path.getmtime, files)) < os.path.getmtime(rlib)
+
+
+def is_built(crate, archive):
+    """Proves and builds a static library, and shows the output. Returns whether it succeeds and prints that all is
+    proved. Builds with the libraries of `rt ci`, without kept work, if it left all of them; otherwise by `rt lib`."""
+    words = ["rt", "lib"]
+    if all(map(is_left_by_ci, below(crate, dependencies()))):
+        words = [*words_over_rlibs(crate, "build"), "--jobs", "2"]
+        words += ["--toolchain", f"{kit()}/toolchain", "--backend", "llvm", "-o", archive]
+    how = {"stdin": subprocess.DEVNULL, "stdout": subprocess.PIPE, "stderr": subprocess.STDOUT, "text": True}
+    verdict = False
+    with subprocess.Popen(words, cwd=folder_of(crate), **how) as run:
+        for line in run.stdout:
+            print(line, end="", flush=True)
+            verdict = verdict or line.startswith("logic=proved ")
+    return run.returncode == 0 and verdict

@@ -1,0 +1,60 @@
+//! Messages of generic netlink, and Ethernet protocols.
+
+use netlink_example::GenericMessage;
+use netlink_packet_core::{
+    EthernetProtocol, NetlinkMessage, is_canonical_frame, normalize, u16_at,
+};
+use std::alloc::Global;
+
+/// Decodes a message and drops it. Returns its length field, or the number of the error.
+#[unsafe(no_mangle)]
+pub extern "C" fn message_read(alloc: Global, frame: &[u8]) -> usize {
+    match NetlinkMessage::<GenericMessage>::deserialize(alloc, frame) {
+        Ok(message) => message.header.length as usize,
+        Err(error) => error.number() as usize,
+    }
+}
+
+/// Decodes a message, finalizes it and serializes it into `buffer`. Returns its size.
+#[unsafe(no_mangle)]
+pub extern "C" fn message_rewrite(alloc: Global, frame: &[u8], buffer: &mut [u8]) -> usize {
+    match NetlinkMessage::<GenericMessage>::deserialize(alloc, frame) {
+        Ok(mut message) => {
+            if !message.fits() {
+                return 0;
+            }
+            message.finalize();
+            let size = message.header.length as usize;
+            if size > buffer.len() {
+                return 0;
+            }
+            message.serialize(buffer);
+            size
+        }
+        Err(_) => 0,
+    }
+}
+
+/// Returns the size of the canonical frame.
+#[unsafe(no_mangle)]
+pub extern "C" fn message_normalize(alloc: Global, frame: &[u8]) -> usize {
+    normalize::<GenericMessage>(alloc, frame).map_or(0, |bytes| bytes.len())
+}
+
+/// Returns 1 if the frame is canonical.
+#[unsafe(no_mangle)]
+pub extern "C" fn message_is_canonical(alloc: Global, frame: &[u8]) -> usize {
+    match is_canonical_frame::<GenericMessage>(alloc, frame) {
+        Ok(true) => 1,
+        _ => 0,
+    }
+}
+
+/// Converts the number in the first two bytes to an Ethernet protocol and back.
+#[unsafe(no_mangle)]
+pub extern "C" fn ethernet_value(_alloc: Global, bytes: &[u8]) -> usize {
+    if bytes.len() < 2 {
+        return 0;
+    }
+    EthernetProtocol::from(u16_at(bytes, 0)).value() as usize
+}
