@@ -24,9 +24,9 @@ short_padding bytes size short zeros =
     omega arith
 
 -- the encoding of an attribute is followed by its gap and the rest
-behind_text : (bytes : List ℕ) (a : Attribute) (rest : List ℕ) (starts : Starts bytes a rest)
+after_text : (bytes : List ℕ) (a : Attribute) (rest : List ℕ) (starts : Starts bytes a rest)
     → drop (length_field bytes) bytes ≡ starts.gap ++ rest
-behind_text bytes a rest starts =
+after_text bytes a rest starts =
     let field = starts-length_field bytes a rest starts in
     let text = length-attribute_bytes a in
     ap (drop (length_field bytes)) starts.whole ∙ drop_at (attribute_bytes a) (starts.gap ++ rest) (length_field bytes) (omega arith)
@@ -41,7 +41,7 @@ zero_gap : (bytes : List ℕ) (a : Attribute) (rest : List ℕ) (starts : Starts
 zero_gap bytes a rest starts zeros =
     let missing : ℕ = padding (length a.value) in
     let taken : take missing (starts.gap ++ rest) ≡ replicate missing 0 =
-    ap (take missing) (sym (behind_text bytes a rest starts))
+    ap (take missing) (sym (after_text bytes a rest starts))
     ∙ subst (λ (k : ℕ). take k (drop (length_field bytes) bytes) ≡ replicate k 0) (same_padding bytes a rest starts) zeros in
     elim starts.gap_size [
       | inl full ↦ sym (take_at starts.gap rest missing full) ∙ taken
@@ -77,7 +77,7 @@ block_rest bytes a rest (b ∷ more) starts (then, fits, whole, block) =
     let rests : then ≡ rest =
     starts-rest bytes b then begins ∙ ap (λ (c : Attribute). drop (padded_size c) bytes) same ∙ sym (starts-rest bytes a rest starts) in
     let padded : take missing (drop (length_field bytes) bytes) ≡ zeros =
-    ap (take missing) (behind_text bytes b then begins) ∙ take_at zeros then missing (length-replicate missing 0) in (
+    ap (take missing) (after_text bytes b then begins) ∙ take_at zeros then missing (length-replicate missing 0) in (
       (more, subst (λ (r : List ℕ). IsBlockOf r more) rests block),
       subst
           (λ (k : ℕ). take k (drop (length_field bytes) bytes) ≡ replicate k 0) (sym (same_padding bytes b then begins)) padded,

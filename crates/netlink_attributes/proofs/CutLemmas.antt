@@ -19,8 +19,8 @@ use Rattle.netlink_attributes.specs.WalkLaws.{walk_once}
 -- ---- lists
 
 -- the first `size` bytes of a front and what follows it, if they include the front
-take_behind : (front rest : List ℕ) (k size : ℕ) → size ≡ length front + k → take size (front ++ rest) ≡ front ++ take k rest
-take_behind front rest k size is = ap (λ (n : ℕ). take n (front ++ rest)) is ∙ take-append-add front rest k
+take_after : (front rest : List ℕ) (k size : ℕ) → size ≡ length front + k → take size (front ++ rest) ≡ front ++ take k rest
+take_after front rest k size is = ap (λ (n : ℕ). take n (front ++ rest)) is ∙ take-append-add front rest k
 
 -- ---- an attribute that ends at or before the cut
 
@@ -43,11 +43,11 @@ gap_cut a gap rest k size =
             inr (elim size [ inl full ↦ omega arith | inr short ↦ omega (arith, short.0) ], none),
           )
       | inr past ↦ elim size [
-        | inl full ↦ (gap, take_behind gap rest (k - missing) k (omega arith), inl full)
+        | inl full ↦ (gap, take_after gap rest (k - missing) k (omega arith), inl full)
         | inr short ↦
             let none : (n : ℕ) → take {A = ℕ} n rest ≡ [] = λ n. ap (take n) short.1 ∙ take-nil n in (
               gap,
-              take_behind gap rest (k - length gap) k (omega arith)
+              take_after gap rest (k - length gap) k (omega arith)
                   ∙ ap (λ (x : List ℕ). gap ++ x) (none (k - length gap) ∙ sym (none (k - missing))),
               inr (short.0, none (k - missing)),
             )
@@ -63,7 +63,7 @@ starts_cut bytes a rest k starts inside =
     let gap = gap_cut a starts.gap rest (k - size) starts.gap_size in
     let left : k - size - padding (length a.value) ≡ k - padded_size a = omega arith in
     let whole : take k bytes ≡ attribute_bytes a ++ (gap.0 ++ take (k - size - padding (length a.value)) rest) =
-    ap (take k) starts.whole ∙ take_behind (attribute_bytes a) (starts.gap ++ rest) (k - size) k (omega arith)
+    ap (take k) starts.whole ∙ take_after (attribute_bytes a) (starts.gap ++ rest) (k - size) k (omega arith)
     ∙ ap (λ (x : List ℕ). attribute_bytes a ++ x) gap.1 in
     subst (λ (n : ℕ). Starts (take k bytes) a (take n rest)) left
     (record { fits = starts.fits; gap = gap.0; whole = whole; gap_size = gap.2 })
@@ -122,20 +122,20 @@ end_or None at = at
 end_or (Some place) at = place.1
 
 -- each attribute starts at or after the offset
-place_behind : (at : ℕ) (all : List Attribute) (index start end : ℕ) → slice_get (ends_from at all) index ≡ Some (start, end) → at ≤ start
+place_after : (at : ℕ) (all : List Attribute) (index start end : ℕ) → slice_get (ends_from at all) index ≡ Some (start, end) → at ≤ start
 unfolding start_or
-place_behind at [] index start end is = cc
-place_behind at (a ∷ more) zero start end is = let starts : at ≡ start = ap (λ (o : Option (ℕ × ℕ)). start_or o at) is in omega arith
-place_behind at (a ∷ more) (suc index) start end is = let later = place_behind (at + padded_size a) more index start end is in omega arith
+place_after at [] index start end is = cc
+place_after at (a ∷ more) zero start end is = let starts : at ≡ start = ap (λ (o : Option (ℕ × ℕ)). start_or o at) is in omega arith
+place_after at (a ∷ more) (suc index) start end is = let later = place_after (at + padded_size a) more index start end is in omega arith
 
-fault_behind : (at : ℕ) (all : List Attribute) → at ≤ fault_start_from at all
-fault_behind at [] = omega arith
-fault_behind at (a ∷ more) = let later = fault_behind (at + padded_size a) more in omega arith
+fault_after : (at : ℕ) (all : List Attribute) → at ≤ fault_start_from at all
+fault_after at [] = omega arith
+fault_after at (a ∷ more) = let later = fault_after (at + padded_size a) more in omega arith
 
 none_cut : (at : ℕ) (all : List Attribute) (fault : Option DecodeError) (cut start : ℕ) → cut ≤ at → IsCutFrom at all fault cut start → ⊥
-none_cut at all fault cut start low (inl (index, end, is, before, inside)) = let behind = place_behind at all index start end is in
+none_cut at all fault cut start low (inl (index, end, is, before, inside)) = let behind = place_after at all index start end is in
     omega arith
-none_cut at all fault cut start low (inr (some, is, before)) = let behind = fault_behind at all in omega arith
+none_cut at all fault cut start low (inr (some, is, before)) = let behind = fault_after at all in omega arith
 
 -- no attribute that starts at or after the cut is kept
 none_kept : (at cut : ℕ) (all : List Attribute) → cut ≤ at → kept_from at cut all ≡ []
@@ -157,14 +157,14 @@ cut_first at a more fault cut start (inl (zero, end, is, before, inside)) =
 cut_first at a more fault cut start (inl (suc index, end, is, before, inside)) = inr (inl (index, end, is, before, inside))
 cut_first at a more fault cut start (inr is) = inr (inr is)
 
-cut_behind : (at : ℕ) (a : Attribute) (more : List Attribute) (fault : Option DecodeError) (cut start : ℕ)
+cut_after : (at : ℕ) (a : Attribute) (more : List Attribute) (fault : Option DecodeError) (cut start : ℕ)
     → IsCutFrom (at + padded_size a) more fault cut start → IsCutFrom at (a ∷ more) fault cut start
-cut_behind at a more fault cut start (inl (index, end, is, before, inside)) = inl (suc index, end, is, before, inside)
-cut_behind at a more fault cut start (inr is) = inr is
+cut_after at a more fault cut start (inl (index, end, is, before, inside)) = inl (suc index, end, is, before, inside)
+cut_after at a more fault cut start (inr is) = inr is
 
 low_cut : (at : ℕ) (all : List Attribute) (fault : Option DecodeError) (cut start : ℕ) → IsCutFrom at all fault cut start → at ≤ start
-low_cut at all fault cut start (inl (index, end, is, before, inside)) = place_behind at all index start end is
-low_cut at all fault cut start (inr (some, is, before)) = let behind = fault_behind at all in omega arith
+low_cut at all fault cut start (inl (index, end, is, before, inside)) = place_after at all index start end is
+low_cut at all fault cut start (inr (some, is, before)) = let behind = fault_after at all in omega arith
 
 only_fault : (at : ℕ) (fault : DecodeError) (cut start : ℕ) → IsCutFrom at [] (Some fault) cut start → start ≡ at
 only_fault at fault cut start (inl (index, end, is, before, inside)) = cc
@@ -220,10 +220,10 @@ not_kept at cut a more inside =
     ∙ none_kept (at + padded_size a) cut more (omega arith)
 
 -- the first attribute ends at or before the cut, and what is left of the rest is known
-behind_left : (at : ℕ) (bytes rest : List ℕ) (a : Attribute) (more : List Attribute) (fault end : Option DecodeError) (cut : ℕ)
+after_left : (at : ℕ) (bytes rest : List ℕ) (a : Attribute) (more : List Attribute) (fault end : Option DecodeError) (cut : ℕ)
     → Starts bytes a rest → at + (4 + length a.value) ≤ cut
     → IsLeft (at + padded_size a) rest more fault cut end → IsLeft at bytes (a ∷ more) fault cut end
-behind_left at bytes rest a more fault end cut starts ends (walk, faulty, sound) =
+after_left at bytes rest a more fault end cut starts ends (walk, faulty, sound) =
     let later : cut - at - padded_size a ≡ cut - (at + padded_size a) = omega arith in
     let begins = starts_cut bytes a rest (cut - at) starts (omega arith) in
     let same : rest ≡ drop (padded_size a) bytes = starts-rest bytes a rest starts in (
@@ -239,7 +239,7 @@ behind_left at bytes rest a more fault end cut starts ends (walk, faulty, sound)
             (ap (drop (start - (at + padded_size a))) same ∙ drop-drop (start - (at + padded_size a)) (padded_size a) bytes
             ∙ ap (λ (k : ℕ). drop k bytes) offset)
       ],
-      λ never. sound (λ start behind. never start (cut_behind at a more fault cut start behind)),
+      λ never. sound (λ start behind. never start (cut_after at a more fault cut start behind)),
     )
 
 pub walk_left : (at : ℕ) (bytes : List ℕ) (all : List Attribute) (fault : Option DecodeError) (cut : ℕ) → Walk bytes all fault → at ≤ cut
@@ -274,14 +274,14 @@ walk_left at bytes (a ∷ more) fault cut (rest, starts, walk) low inside =
       | inr ends ↦ elim (cases_lt cut (at + padded_size a)) [
         | inl gap ↦ (
           None,
-          behind_left at bytes rest a more fault None cut starts ends
+          after_left at bytes rest a more fault None cut starts ends
               (nothing_left (at + padded_size a) rest more fault cut (omega arith)),
         )
         | inr behind ↦
             let left : cut ≤ at + padded_size a + length rest =
             elim starts.gap_size [ inl full ↦ omega arith | inr short ↦ omega (arith, short.0, ap length short.1) ] in
             let later = walk_left (at + padded_size a) rest more fault cut walk behind left in
-            (later.0, behind_left at bytes rest a more fault later.0 cut starts ends later.1)
+            (later.0, after_left at bytes rest a more fault later.0 cut starts ends later.1)
       ]
     ]
 

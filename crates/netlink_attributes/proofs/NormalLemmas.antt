@@ -26,54 +26,54 @@ pub no_canonical_fault : (bytes : List ℕ) (all : List Attribute) (fault : Deco
 no_canonical_fault bytes all fault walk canonical = let none = (canonical_walked bytes all (Some fault) canonical walk).0 in cc
 
 -- the result is the encoding of a walk, or `OutOfMemory`, or the error that ends a walk
-abbrev pub IsAnswer : List ℕ → Result (Vec ℕ Global) DecodeError → Type 0
-IsAnswer bytes result = MatchResult result
+abbrev pub IsNormalized : List ℕ → Result (Vec ℕ Global) DecodeError → Type 0
+IsNormalized bytes result = MatchResult result
     (λ v. (all : List Attribute) × Walk bytes all None × (v.items ≡ canonical_block all))
     (λ e. (e ≡ OutOfMemory) ⊎ ((all : List Attribute) × Walk bytes all (Some e)))
 
-pub answer_ok : (bytes : List ℕ) (result : Result (Vec ℕ Global) DecodeError) → IsAnswer bytes result
+pub normalized_ok : (bytes : List ℕ) (result : Result (Vec ℕ Global) DecodeError) → IsNormalized bytes result
     → IfOk result (λ v. (all : List Attribute) × Walk bytes all None × (v.items ≡ canonical_block all))
-answer_ok bytes (Ok v) answer = answer
-answer_ok bytes (Err e) answer = tt
+normalized_ok bytes (Ok v) answer = answer
+normalized_ok bytes (Err e) answer = tt
 
-pub answer_err : (bytes : List ℕ) (result : Result (Vec ℕ Global) DecodeError) → IsAnswer bytes result
+pub normalized_err : (bytes : List ℕ) (result : Result (Vec ℕ Global) DecodeError) → IsNormalized bytes result
     → IfErr result (λ e. (e ≡ OutOfMemory) ⊎ ((all : List Attribute) × Walk bytes all (Some e)))
-answer_err bytes (Ok v) answer = tt
-answer_err bytes (Err e) answer = answer
+normalized_err bytes (Ok v) answer = tt
+normalized_err bytes (Err e) answer = answer
 
-pub answer_writes : (bytes : List ℕ) (result : Result (Vec ℕ Global) DecodeError) → IsAnswer bytes result → (all : List Attribute)
+pub normalized_writes : (bytes : List ℕ) (result : Result (Vec ℕ Global) DecodeError) → IsNormalized bytes result → (all : List Attribute)
     → Walk bytes all None
     → MatchResult result (λ v. v.items ≡ canonical_block all) (λ e. e ≡ OutOfMemory)
-answer_writes bytes (Ok v) (x, walk, items) all other = items ∙ ap canonical_block (walk_once bytes x all None None walk other).0
-answer_writes bytes (Err e) (inl memory) all other = memory
-answer_writes bytes (Err e) (inr (x, walk)) all other = absurd (no_fault bytes all x e other walk)
+normalized_writes bytes (Ok v) (x, walk, items) all other = items ∙ ap canonical_block (walk_once bytes x all None None walk other).0
+normalized_writes bytes (Err e) (inl memory) all other = memory
+normalized_writes bytes (Err e) (inr (x, walk)) all other = absurd (no_fault bytes all x e other walk)
 
 -- a copy of a canonical block is such a result
-pub answer_copied : (bytes : List ℕ) (result : Result (Vec ℕ Global) DecodeError) → IsCanonicalBlock bytes
-    → IfOk result (λ v. v.items ≡ bytes) → IfErr result (λ e. e ≡ OutOfMemory) → IsAnswer bytes result
-answer_copied bytes (Ok v) canonical same memory = let walk = canonical_walk bytes canonical in (walk.0, walk.1, same ∙ sym walk.2)
-answer_copied bytes (Err e) canonical same memory = inl memory
+pub normalized_copied : (bytes : List ℕ) (result : Result (Vec ℕ Global) DecodeError) → IsCanonicalBlock bytes
+    → IfOk result (λ v. v.items ≡ bytes) → IfErr result (λ e. e ≡ OutOfMemory) → IsNormalized bytes result
+normalized_copied bytes (Ok v) canonical same memory = let walk = canonical_walk bytes canonical in (walk.0, walk.1, same ∙ sym walk.2)
+normalized_copied bytes (Err e) canonical same memory = inl memory
 
 -- the empty list is a canonical block
 pub empty_canonical : (bytes : List ℕ) → bytes ≡ [] → IsCanonicalBlock bytes
 empty_canonical bytes none = ([], none)
 
 -- for a canonical block, the result is the block itself
-pub answer_fixed : (bytes : List ℕ) (result : Result (Vec ℕ Global) DecodeError) → IsAnswer bytes result → IsCanonicalBlock bytes
+pub normalized_fixed : (bytes : List ℕ) (result : Result (Vec ℕ Global) DecodeError) → IsNormalized bytes result → IsCanonicalBlock bytes
     → MatchResult result (λ v. v.items ≡ bytes) (λ e. e ≡ OutOfMemory)
-answer_fixed bytes (Ok v) (x, walk, items) canonical = items ∙ (canonical_walked bytes x None canonical walk).1
-answer_fixed bytes (Err e) (inl memory) canonical = memory
-answer_fixed bytes (Err e) (inr (x, walk)) canonical = absurd (no_canonical_fault bytes x e walk canonical)
+normalized_fixed bytes (Ok v) (x, walk, items) canonical = items ∙ (canonical_walked bytes x None canonical walk).1
+normalized_fixed bytes (Err e) (inl memory) canonical = memory
+normalized_fixed bytes (Err e) (inr (x, walk)) canonical = absurd (no_canonical_fault bytes x e walk canonical)
 
-pub answer_canonical : (bytes : List ℕ) (result : Result (Vec ℕ Global) DecodeError) → IsAnswer bytes result
+pub normalized_canonical : (bytes : List ℕ) (result : Result (Vec ℕ Global) DecodeError) → IsNormalized bytes result
     → IfOk result (λ v. IsCanonicalBlock v.items)
-answer_canonical bytes (Ok v) (x, walk, items) = rw items (walked_canonical bytes x walk)
-answer_canonical bytes (Err e) answer = tt
+normalized_canonical bytes (Ok v) (x, walk, items) = rw items (walked_canonical bytes x walk)
+normalized_canonical bytes (Err e) answer = tt
 
-pub answer_unchanged : (bytes : List ℕ) (result : Result (Vec ℕ Global) DecodeError) → IsAnswer bytes result
+pub normalized_unchanged : (bytes : List ℕ) (result : Result (Vec ℕ Global) DecodeError) → IsNormalized bytes result
     → IfOk result (λ v. (v.items ≡ bytes) ↔ IsCanonicalBlock bytes)
-answer_unchanged bytes (Ok v) (x, walk, items) = rw items (written_fixed bytes x walk)
-answer_unchanged bytes (Err e) answer = tt
+normalized_unchanged bytes (Ok v) (x, walk, items) = rw items (written_fixed bytes x walk)
+normalized_unchanged bytes (Err e) answer = tt
 
 -- the encoding of the attribute that bytes start with
 pub starts-text : (bytes : List ℕ) (a : Attribute) (rest : List ℕ) → Starts bytes a rest

@@ -15,8 +15,8 @@ use Rattle.netlink_attributes.specs.Walk.{Starts, Walk}
 use Rattle.netlink_attributes.specs.StartLaws.{nothing_starts}
 
 -- bytes written after a front
-put_behind : (front rest text : List ℕ) (at n : ℕ) → at ≡ length front + n → put_at (front ++ rest) at text ≡ front ++ put_at rest n text
-put_behind front rest text at n far =
+put_after : (front rest text : List ℕ) (at n : ℕ) → at ≡ length front + n → put_at (front ++ rest) at text ≡ front ++ put_at rest n text
+put_after front rest text at n far =
     let end : at + length text ≡ length front + (n + length text) = omega arith in
     ap (λ (k : ℕ). take k (front ++ rest) ++ (text ++ drop (at + length text) (front ++ rest))) far
     ∙ ap (λ (x : List ℕ). x ++ (text ++ drop (at + length text) (front ++ rest))) (take-append-add front rest n)
@@ -50,7 +50,7 @@ first_replaced bytes a rest value starts same =
       fits = record { kind = starts.fits.kind; value = omega (arith, fits, same) };
       gap = starts.gap;
       whole = ap (λ (x : List ℕ). put_at x 4 value) (starts.whole ∙ attribute_bytes-append a behind)
-          ∙ put_behind (header (length a.value) a.kind) (a.value ++ behind) value 4 0 (omega (arith, length-header (length a.value) a.kind))
+          ∙ put_after (header (length a.value) a.kind) (a.value ++ behind) value 4 0 (omega (arith, length-header (length a.value) a.kind))
           ∙ ap (λ (x : List ℕ). header (length a.value) a.kind ++ x) (put_front a.value behind value same)
           ∙ ap (λ (n : ℕ). header n a.kind ++ (value ++ behind)) (sym same)
           ∙ sym (attribute_bytes-append (record { kind = a.kind; value = value }) behind);
@@ -94,7 +94,7 @@ replaced_from at bytes (a ∷ more) fault (suc index) value place (rest, starts,
           whole =
               ap (λ (x : List ℕ). put_at x (length front + later.0 + 4) value)
               (starts.whole ∙ sym (append_assoc (attribute_bytes a) starts.gap rest))
-              ∙ put_behind front rest value (length front + later.0 + 4) (later.0 + 4) (omega arith)
+              ∙ put_after front rest value (length front + later.0 + 4) (later.0 + 4) (omega arith)
               ∙ append_assoc (attribute_bytes a) starts.gap (put_at rest (later.0 + 4) value);
           gap_size = inl full;
         },

@@ -56,10 +56,10 @@ length-cons kind_of value_of nlas i nla inside is =
     (canonical_block (attributes_of kind_of value_of (drop (i + 1) nlas)))
 
 -- an encoding is written after the front of a buffer, and the rest is unchanged
-pub put_behind : (at n : ℕ) (front first buffer text new : List ℕ) → at ≡ length front → buffer ≡ front ++ drop at first → n ≡ length text
+pub put_after : (at n : ℕ) (front first buffer text new : List ℕ) → at ≡ length front → buffer ≡ front ++ drop at first → n ≡ length text
     → new ≡ text ++ drop (length text) (take (length buffer - at) (drop at buffer))
     → put_mid at (length buffer - at) buffer new ≡ (front ++ text) ++ drop (at + n) first
-put_behind at n front first buffer text new start is size written =
+put_after at n front first buffer text new start is size written =
     let before : take at buffer ≡ front = ap (take at) is ∙ take_at front (drop at first) at (sym start) in
     let behind : drop at buffer ≡ drop at first = ap (drop at) is ∙ drop_at front (drop at first) at (sym start) in
     let part : new ≡ text ++ drop (at + n) first =
@@ -86,7 +86,7 @@ put_last old whole text new at n size start counted long grown written =
     let total : length whole ≡ length old + length zeros = ap length parts ∙ length-append old zeros in
     let behind : drop at whole ≡ zeros = ap (drop at) parts ∙ drop_at old zeros at (sym front) in
     let is : whole ≡ old ++ drop at whole = parts ∙ ap (λ (x : List ℕ). old ++ x) (sym behind) in
-    put_behind at n old whole whole text new front is long written
+    put_after at n old whole whole text new front is long written
     ∙ ap (λ (x : List ℕ). (old ++ text) ++ x) (drop_all (at + n) whole (omega (arith, total, room, start, counted)))
     ∙ append-nil (old ++ text)
 

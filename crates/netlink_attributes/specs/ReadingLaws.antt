@@ -38,9 +38,9 @@ starts-whole bytes a rest starts =
     (and_from _ _ (le-leb _ _ most) (and_from _ _ (lt-ltb _ _ length_fits) (lt-ltb _ _ kind_fits))))
 
 -- the rest follows the attribute that the bytes begin with
-behind-attribute_of : (bytes : List ℕ) (a : Attribute) (rest : List ℕ) → Starts bytes a rest
+after-attribute_of : (bytes : List ℕ) (a : Attribute) (rest : List ℕ) → Starts bytes a rest
     → drop (padded_size (attribute_of bytes)) bytes ≡ rest
-behind-attribute_of bytes a rest starts =
+after-attribute_of bytes a rest starts =
     ap (λ (x : Attribute). drop (padded_size x) bytes) (starts-attribute_of bytes a rest starts)
     ∙ sym (starts-rest bytes a rest starts)
 
@@ -68,7 +68,7 @@ walk-within (suc most) (b ∷ bytes) (a ∷ more) enough (rest, starts, walk) =
     let whole = starts-whole (b ∷ bytes) a rest starts in
     let same = starts-attribute_of (b ∷ bytes) a rest starts in
     let size = starts-length (b ∷ bytes) a rest starts in
-    let behind = behind-attribute_of (b ∷ bytes) a rest starts in
+    let behind = after-attribute_of (b ∷ bytes) a rest starts in
     let later = walk-within most rest more (omega arith) walk in
     let rests : attributes_within most (drop (padded_size (attribute_of (b ∷ bytes))) (b ∷ bytes))
     ≡ Some more =
@@ -91,7 +91,7 @@ fault-within (suc most) (b ∷ bytes) [] fault enough walk =
 fault-within (suc most) (b ∷ bytes) (a ∷ more) fault enough (rest, starts, walk) =
     let whole = starts-whole (b ∷ bytes) a rest starts in
     let size = starts-length (b ∷ bytes) a rest starts in
-    let behind = behind-attribute_of (b ∷ bytes) a rest starts in
+    let behind = after-attribute_of (b ∷ bytes) a rest starts in
     let later = fault-within most rest more fault (omega arith) walk in
     let rests : attributes_within most (drop (padded_size (attribute_of (b ∷ bytes))) (b ∷ bytes))
     ≡ None =

@@ -46,7 +46,7 @@ impl<'a> Iterator for NlasIterator<&'a [u8]> {
         }
         match checked_length(bytes) {
             Ok(size) => {
-                self.rest = behind(bytes, size as usize);
+                self.rest = after(bytes, size as usize);
                 Some(Ok(NlaBuffer::new(bytes)))
             }
             Err(fault) => {
@@ -60,7 +60,7 @@ impl<'a> Iterator for NlasIterator<&'a [u8]> {
 /// Returns what follows the attribute that the bytes start with, and its padding. Requires that the
 /// bytes hold a complete attribute, and that `size` is its length field and less than 2^16.
 #[inline(always)]
-fn behind(bytes: &[u8], size: usize) -> &[u8]
+fn after(bytes: &[u8], size: usize) -> &[u8]
     requires whole { HoldsAttribute bytes.now }
     requires size { size ≡ length_field bytes.now }
     requires fits { size < 2 ^ 16 }

@@ -124,7 +124,7 @@ pub fn walk_join(block: &[u8], bytes: &[u8])
         × Walk (block.now ++ bytes.now) (all ++ more) fault }
 
     // the same for a walk of the block that the caller already has
-    ensures behind { (all more : List Attribute) (end fault : Option DecodeError)
+    ensures after { (all more : List Attribute) (end fault : Option DecodeError)
         → IsCanonicalBlock block.now → Walk block.now all end → Walk bytes.now more fault
         → Walk (block.now ++ bytes.now) (all ++ more) fault }
 {}

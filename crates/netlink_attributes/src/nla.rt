@@ -88,10 +88,10 @@ pub fn emit_nla<T: Nla>(nla: &T, buffer: &mut [u8])
 {
     let value_len = nla.value_len();
     let size = value_len + NLA_HEADER_SIZE;
-    let (header, behind) = buffer.split_at_mut(NLA_HEADER_SIZE);
+    let (header, after_header) = buffer.split_at_mut(NLA_HEADER_SIZE);
     header.copy_from_slice(&attribute_header(size as u16, nla.kind()));
-    let (value, behind_value) = behind.split_at_mut(value_len);
+    let (value, after_value) = after_header.split_at_mut(value_len);
     nla.emit_value(value);
-    let (padding, _) = behind_value.split_at_mut(nla_align(size) - size);
+    let (padding, _) = after_value.split_at_mut(nla_align(size) - size);
     padding.fill(0);
 }

@@ -46,7 +46,7 @@ pub fn nla_place(block: &[u8], index: usize) -> Option<(usize, usize)>
 /// Returns true if and only if there is such an attribute and its value has the same size as
 /// `value`. Otherwise the block is unchanged. Does not allocate.
 pub fn write_nla_value(block: &mut [u8], index: usize, value: &[u8]) -> bool
-    ensures answer { (all : List Attribute) (fault : Option DecodeError) → Walk block.old all fault
+    ensures succeeds { (all : List Attribute) (fault : Option DecodeError) → Walk block.old all fault
         → IsTrue result ↔ HasValueOf all index (length value.now) }
     ensures written { IsTrue result → IsWritten block.old index value.now block.new }
     ensures unchanged { result ≡ false → block.new ≡ block.old }

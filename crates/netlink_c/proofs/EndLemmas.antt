@@ -26,9 +26,9 @@ frame_pieces h old_front front value zeros size written =
 pub ruleset frame_sizes = (length-header_bytes, frame_pieces)
 
 -- what follows an offset at which a number was put
-behind_put : (buffer text : List ℕ) (start : ℕ) → start ≤ length buffer → drop start (put_at buffer start text)
+after_put : (buffer text : List ℕ) (start : ℕ) → start ≤ length buffer → drop start (put_at buffer start text)
     ≡ text ++ drop (length text) (drop start buffer)
-behind_put buffer text start inside =
+after_put buffer text start inside =
     drop_at (take start buffer) (text ++ drop (start + length text) buffer) start (length-take-le start buffer inside)
     ∙ ap (λ (x : List ℕ). text ++ x) (sym (drop-drop (length text) start buffer))
 
@@ -65,7 +65,7 @@ nest_reads_back buffer new start cursor stretch small written =
     let enough = stretch.enough in
     let two = length-bytes_le (cursor - start) 2 in
     let rest = drop 2 (drop start buffer) in
-    let here : drop start new ≡ bytes_le n 2 ++ rest = ap (drop start) written ∙ behind_put buffer (bytes_le n 2) start (omega arith)
+    let here : drop start new ≡ bytes_le n 2 ++ rest = ap (drop start) written ∙ after_put buffer (bytes_le n 2) start (omega arith)
     ∙ ap (λ (k : ℕ). bytes_le n 2 ++ drop k (drop start buffer)) two in
     let said : length_field (drop start new) ≡ n = ap length_field here ∙ length_field-put n rest small in
     let size : length new ≡ length buffer = ap length written ∙ length-put buffer (bytes_le n 2) start (omega arith) in
@@ -93,7 +93,7 @@ end_reads_back buffer new start cursor stretch small written =
     let whole = stretch.whole in
     let four = length-bytes_le (cursor - start) 4 in
     let rest = drop 4 (drop start buffer) in
-    let here : drop start new ≡ bytes_le n 4 ++ rest = ap (drop start) written ∙ behind_put buffer (bytes_le n 4) start (omega arith)
+    let here : drop start new ≡ bytes_le n 4 ++ rest = ap (drop start) written ∙ after_put buffer (bytes_le n 4) start (omega arith)
     ∙ ap (λ (k : ℕ). bytes_le n 4 ++ drop k (drop start buffer)) four in
     let said : field 0 4 (drop start new) ≡ n = ap (field 0 4) here ∙ field-put n rest small in
     let size : length new ≡ length buffer = ap length written ∙ length-put buffer (bytes_le n 4) start (omega arith) in

@@ -32,7 +32,7 @@ attribute_at bytes at kind size next rest inside holds starts kinds sizes behind
     let header = holds.header in
     let least = holds.least in
     let most = holds.most in
-    let left_behind = length-drop 4 (drop at bytes) in
+    let left_after = length-drop 4 (drop at bytes) in
     let value : slice_range (drop at bytes) 4 (length_field (drop at bytes))
     ≡ part_from (at + 4) size bytes = part-drop bytes at 4 size (length_field (drop at bytes)) (omega arith) in
     let long : length (take (length_field (drop at bytes) - 4) (drop 4 (drop at bytes)))

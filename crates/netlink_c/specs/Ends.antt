@@ -14,7 +14,7 @@ pub record IsStretch (room start cursor least : ℕ) : Type 0 where
 
 -- what ending a frame or a nest returns, if its length field counts the bytes from the start up to
 -- the cursor and must be less than a bound
-pub record AnswersEnd (least bound room start cursor answer : ℕ) : Type 0 where
+pub record IsEndResult (least bound room start cursor answer : ℕ) : Type 0 where
   pub no_place : (IsStretch room start cursor least → ⊥) → answer ≡ 34
   pub too_long : IsStretch room start cursor least → bound ≤ cursor - start → answer ≡ 33
   pub done : IsStretch room start cursor least → cursor - start < bound → answer ≡ 0
@@ -32,7 +32,7 @@ abbrev pub begun_size : ℕ → ℕ
 begun_size size = 16 + size + padding size
 
 -- what beginning a frame returns: `TOO_LONG`, `NO_ROOM` or 0
-pub record AnswersPutFrame (size room at answer : ℕ) : Type 0 where
+pub record IsPutFrameResult (size room at answer : ℕ) : Type 0 where
   pub too_long : 2 ^ 32 ≤ 16 + size → answer ≡ 33
   pub no_room : 16 + size < 2 ^ 32 → room < at + begun_size size → answer ≡ 8
   pub done : 16 + size < 2 ^ 32 → at + begun_size size ≤ room → answer ≡ 0

@@ -1,4 +1,4 @@
-pub mod Answered
+pub mod ErrorBody
 pub mod Any
 pub mod Bodies
 pub mod Ends

@@ -6,7 +6,7 @@ use Rattle.netlink_packet_core.specs.Storage.{put_at}
 use Rattle.netlink_packet_core.specs.Walk.{Starts}
 
 -- what putting an attribute returns: `TOO_LONG`, `NO_ROOM` or 0
-pub record AnswersPut (a : Attribute) (buffer : List ℕ) (at answer : ℕ) : Type 0 where
+pub record IsPutResult (a : Attribute) (buffer : List ℕ) (at answer : ℕ) : Type 0 where
   pub too_long : value_max < length a.value → answer ≡ 33
   pub no_room : length a.value ≤ value_max → length buffer < at + padded_size a → answer ≡ 8
   pub done : length a.value ≤ value_max → at + padded_size a ≤ length buffer → answer ≡ 0
@@ -28,7 +28,7 @@ GrowsBlock a buffer at new next =
 -- there and is read back, and otherwise nothing has changed
 pub record Puts (a : Attribute) (buffer : List ℕ) (at : ℕ) (new : List ℕ) (next answer : ℕ)
     : Type 0 where
-  pub answers : AnswersPut a buffer at answer
+  pub answers : IsPutResult a buffer at answer
   pub written : answer ≡ 0 → PutsAttribute a buffer at new next
   pub block : answer ≡ 0 → GrowsBlock a buffer at new next
   pub reads_back : answer ≡ 0 → Starts (drop at new) a (drop next new)

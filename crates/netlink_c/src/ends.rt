@@ -9,10 +9,10 @@ ghost use Rattle.netlink_packet_core.specs.Numbers.{bytes_le};
 ghost use Rattle.netlink_packet_core.specs.Storage.{put_at};
 ghost use Rattle.netlink_packet_core.specs.Views.{attribute_of, raw_kind, HoldsAttribute};
 ghost use Rattle.netlink_tree.specs.FrameWalk.{StartsFrame};
-ghost use Rattle.netlink_c.specs.Ends.{AnswersEnd, AnswersPutFrame, IsStretch, PutsFrame};
+ghost use Rattle.netlink_c.specs.Ends.{IsEndResult, IsPutFrameResult, IsStretch, PutsFrame};
 ghost use Rattle.netlink_c.specs.Ends.{begun_size, frame_bytes};
 
-use crate::answers::{NO_PLACE, NO_ROOM, OK, TOO_LONG};
+use crate::results::{NO_PLACE, NO_ROOM, OK, TOO_LONG};
 use netlink_packet_core::{
     Emitable, NETLINK_HEADER_LEN, NLA_HEADER_SIZE, NetlinkHeader, nlmsg_align, put_u16, put_u32,
 };
@@ -24,7 +24,7 @@ use netlink_packet_core::{
 /// `NLA_VALUE_MAX` bytes. Writes the length field, and nothing else. Does not allocate.
 #[unsafe(no_mangle)]
 pub extern "C" fn nlp_nest_end(buffer: &mut [u8], cursor: usize, start: usize) -> u32
-    ensures answers { AnswersEnd 4 (2 ^ 16) (length buffer.old) start cursor result }
+    ensures outcome { IsEndResult 4 (2 ^ 16) (length buffer.old) start cursor result }
     ensures written { result ≡ 0 → buffer.new
         ≡ put_at buffer.old start (bytes_le (cursor - start) 2) }
     ensures reads_back { result ≡ 0 → HoldsAttribute (drop start buffer.new)
@@ -58,7 +58,7 @@ pub extern "C" fn nlp_frame_put(
     header: &NetlinkHeader,
     fixed: &[u8],
 ) -> u32
-    ensures answers { AnswersPutFrame (length fixed.now) (length buffer.old) cursor.old result }
+    ensures outcome { IsPutFrameResult (length fixed.now) (length buffer.old) cursor.old result }
     ensures written { result ≡ 0
         → PutsFrame header.now fixed.now buffer.old cursor.old buffer.new cursor.new }
     ensures reads_back { result ≡ 0
@@ -89,7 +89,7 @@ pub extern "C" fn nlp_frame_put(
 /// 32 bits. Writes the length field, and nothing else. Does not allocate.
 #[unsafe(no_mangle)]
 pub extern "C" fn nlp_frame_end(buffer: &mut [u8], cursor: usize, start: usize) -> u32
-    ensures answers { AnswersEnd 16 (2 ^ 32) (length buffer.old) start cursor result }
+    ensures outcome { IsEndResult 16 (2 ^ 32) (length buffer.old) start cursor result }
     ensures written { result ≡ 0 → buffer.new
         ≡ put_at buffer.old start (bytes_le (cursor - start) 4) }
     ensures reads_back { result ≡ 0

@@ -10,8 +10,8 @@ ghost use Rattle.netlink_c.specs.Bodies.{IsShortDone, IsShortError, IsShortHeade
 ghost use Rattle.netlink_c.specs.Fault.{Refuses};
 ghost use Rattle.netlink_c.specs.Parts.{part_of};
 
-use crate::answers::OK;
 use crate::fault::{FaultNumbers, refused};
+use crate::results::OK;
 use netlink_packet_core::{
     DecodeError, DoneBuffer, NETLINK_HEADER_LEN, NetlinkBuffer, NetlinkHeader,
 };

@@ -17,9 +17,9 @@ ghost use Rattle.netlink_c.specs.Out.{CopiesOut, FrameCopiedOut};
 ghost use Rattle.netlink_c.specs.declared.any.AnyMessage.{AnyMessage};
 ghost use Rattle.netlink_packet_core.specs.Causes.{cause_number};
 
-use crate::answers::{NO_ROOM, OK};
 use crate::any::AnyMessage;
 use crate::fault::{FaultNumbers, refused};
+use crate::results::{NO_ROOM, OK};
 use netlink_packet_core::{is_canonical_frame, is_canonical_nlas, normalize, normalize_nlas};
 use std::alloc::Global;
 
@@ -109,7 +109,7 @@ pub extern "C" fn nlp_frame_normalize(
     size: &mut usize,
     fault: &mut FaultNumbers,
 ) -> u32
-    ensures answers { FrameCopiedOut bytes.now buffer.old buffer.new size.new result
+    ensures outcome { FrameCopiedOut bytes.now buffer.old buffer.new size.new result
         ⊎ (Refuses (IsNormalizeFault any_encoding any_decoding wants_memory bytes.now) result
         fault.new × (buffer.new ≡ buffer.old) × (size.new ≡ size.old)) }
     ensures unfaulted { result ≡ 0 → fault.new ≡ fault.old }
@@ -133,7 +133,7 @@ pub extern "C" fn nlp_frame_normalize(
 /// not fit.
 pub(crate) fn copy_out(bytes: &[u8], buffer: &mut [u8], size: &mut usize) -> u32
     ensures copies { CopiesOut bytes.now buffer.old buffer.new size.new result }
-    ensures answers { (result ≡ 0) ⊎ (result ≡ 8) }
+    ensures outcome { (result ≡ 0) ⊎ (result ≡ 8) }
 {
     *size = bytes.len();
     if bytes.len() > buffer.len() {

@@ -5,9 +5,9 @@ ghost use Rattle.netlink_packet_core.specs.Attribute.{Attribute};
 ghost use Rattle.netlink_packet_core.specs.DecodeError.{DecodeError};
 ghost use Rattle.netlink_packet_core.specs.Places.{HasValueOf, IsWritten};
 ghost use Rattle.netlink_packet_core.specs.Walk.{Walk};
-ghost use Rattle.netlink_c.specs.declared.answers.TheConstants.{NO_PLACE};
+ghost use Rattle.netlink_c.specs.declared.results.TheConstants.{NO_PLACE};
 
-use crate::answers::{NO_PLACE, OK};
+use crate::results::{NO_PLACE, OK};
 use netlink_packet_core::write_nla_value;
 
 /// Overwrites the value of the attribute at `index`, which counts from 0, even if the block is

@@ -7,9 +7,9 @@ ghost use Rattle.netlink_packet_core.specs.Numbers.{bytes_le};
 ghost use Rattle.netlink_packet_core.specs.Storage.{put_at};
 ghost use Rattle.netlink_packet_core.specs.Views.{nested};
 ghost use Rattle.netlink_packet_core.specs.Walk.{Starts};
-ghost use Rattle.netlink_c.specs.Put.{AnswersPut, GrowsBlock, Puts, PutsAttribute};
+ghost use Rattle.netlink_c.specs.Put.{IsPutResult, GrowsBlock, Puts, PutsAttribute};
 
-use crate::answers::{NO_ROOM, OK, TOO_LONG};
+use crate::results::{NO_ROOM, OK, TOO_LONG};
 use netlink_packet_core::{
     NLA_F_NESTED, NLA_F_NET_BYTEORDER, Nla, emit_nla, emit_u16, emit_u32, emit_u64, nla_buffer_len,
     nla_fits,
@@ -127,7 +127,7 @@ pub extern "C" fn nlp_nest_begin(buffer: &mut [u8], cursor: &mut usize, kind: u1
 /// Puts an attribute at the cursor if there is room.
 #[tactic(auto, using(crate::proofs::PutLemmas::put_reads_back))]
 fn put<T: Nla>(buffer: &mut [u8], cursor: &mut usize, nla: &T) -> u32
-    ensures answers { AnswersPut (attribute_with (T.kind_of nla.now) (T.value_of nla.now))
+    ensures outcome { IsPutResult (attribute_with (T.kind_of nla.now) (T.value_of nla.now))
         buffer.old cursor.old result }
     ensures written { result ≡ 0
         → PutsAttribute (attribute_with (T.kind_of nla.now) (T.value_of nla.now)) buffer.old

@@ -3,12 +3,12 @@
 ghost use Rattle.std.specs.Prelude.{◌≡◌, ◌≢◌, None, Some};
 ghost use Rattle.netlink_packet_core.specs.DecodeError.{DecodeError};
 ghost use Rattle.netlink_c.specs.Fault.{numbers_of};
-ghost use Rattle.netlink_c.specs.declared.answers.TheConstants.{NO_MEMORY, NO_PLACE};
+ghost use Rattle.netlink_c.specs.declared.results.TheConstants.{NO_MEMORY, NO_PLACE};
 ghost use Rattle.netlink_c.specs.Texts.{HasNumbersAlone, IsTextOut, cause_from};
 
-use crate::answers::{NO_MEMORY, NO_PLACE};
 use crate::fault::FaultNumbers;
 use crate::normal::copy_out;
+use crate::results::{NO_MEMORY, NO_PLACE};
 use netlink_packet_core::DecodeError;
 use std::alloc::Global;
 

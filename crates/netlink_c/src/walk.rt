@@ -7,9 +7,9 @@ ghost use Rattle.netlink_packet_core.specs.Walk.{IsFault};
 ghost use Rattle.netlink_c.specs.Fault.{Refuses};
 ghost use Rattle.netlink_c.specs.Steps.{StartsAttributeAt, StartsFrameAt};
 
-use crate::answers::{END, OK};
 use crate::fault::{FaultNumbers, refused};
 use crate::frame::Part;
+use crate::results::{END, OK};
 use netlink_packet_core::{NLA_HEADER_SIZE, NlasIterator, nla_align};
 use netlink_tree::Frames;
 
@@ -58,7 +58,7 @@ pub extern "C" fn nlp_frames_next(
         Some(Ok(frame)) => {
             let size = frame.len();
             *item = Part { offset: at, size };
-            *cursor = behind(bytes, at, size);
+            *cursor = after(bytes, at, size);
             OK
         }
         Some(Err(cause)) => {
@@ -106,7 +106,7 @@ pub extern "C" fn nlp_attrs_next(
                 offset: at + NLA_HEADER_SIZE,
                 size,
             };
-            *cursor = behind(bytes, at, size + NLA_HEADER_SIZE);
+            *cursor = after(bytes, at, size + NLA_HEADER_SIZE);
             OK
         }
         Some(Err(cause)) => {
@@ -119,7 +119,7 @@ pub extern "C" fn nlp_attrs_next(
 /// Returns the offset past the `size` bytes at `at` and their padding, or the end of the bytes if
 /// that comes first. Requires `at + size <= bytes.len()`, and that `size` is not 0.
 #[inline(always)]
-fn behind(bytes: &[u8], at: usize, size: usize) -> usize
+fn after(bytes: &[u8], at: usize, size: usize) -> usize
     requires inside { (at + size ≤ length bytes.now) × (0 < size) }
     ensures rest { drop result bytes.now ≡ drop (size + padding size) (drop at bytes.now) }
     ensures forward { (at < result) × (result ≤ length bytes.now) }

@@ -65,12 +65,12 @@ outcome true (Some e) = Err (Decode e)
 
 -- what a run over the whole input did; states nothing about runs that end with `OutOfMemory`, or
 -- with a failed read or write
-abbrev pub Answers : {A : Type 0} → Command → List ℕ → Option (List ℕ) → Option (List ℕ)
+abbrev pub RunsAs : {A : Type 0} → Command → List ℕ → Option (List ℕ) → Option (List ℕ)
     → Result A Fault → Type 0
-Answers command input old new (Ok done) = Wrote command input old new None
-Answers command input old new (Err (Decode e)) =
+RunsAs command input old new (Ok done) = Wrote command input old new None
+RunsAs command input old new (Err (Decode e)) =
     e ≢ OutOfMemory → Wrote command input old new (Some e)
-Answers command input old new (Err fault) = Unit {0}
+RunsAs command input old new (Err fault) = Unit {0}
 
 -- two errors of runs that nothing distinguishes
 abbrev pub IsSameFault : Fault → Fault → Type 0

@@ -9,7 +9,7 @@ ghost use Rattle.netlink_packet_core.specs.declared.message.NetlinkMessage.{Netl
 ghost use Rattle.netlink_frame.specs.Lines.{message_lines};
 ghost use Rattle.netlink_frame.specs.PingPong.{ping_pong_decoding, wants_memory};
 ghost use Rattle.netlink_frame.specs.declared.ping_pong.PingPongMessage.{PingPongMessage};
-ghost use Rattle.netlink_frame.specs.Run.{Answers, IsEarly, Makes, fault_text, outcome, read_fault};
+ghost use Rattle.netlink_frame.specs.Run.{RunsAs, IsEarly, Makes, fault_text, outcome, read_fault};
 
 use crate::command::Command;
 use crate::frames::{frames_fault, frames_text};
@@ -67,7 +67,7 @@ impl From<DecodeError> for Fault {
 }
 
 /// What a command makes of an input: what it writes, and the error that it then ends with.
-struct Answer {
+struct CommandOutput {
     output: Vec<u8>,
     fault: Option<DecodeError>,
 }
@@ -88,11 +88,11 @@ pub fn run<R: Read, W: Write>(
 ) -> Result<(), Fault>
     ensures nothing { IfErr result
         (λ fault. IsEarly fault → Keeps (W.contents writer.old) (W.contents writer.new)) }
-    ensures answers { IfSome (R.remaining reader.old) (λ input.
-        Answers command input (W.contents writer.old) (W.contents writer.new) result) }
+    ensures runs { IfSome (R.remaining reader.old) (λ input.
+        RunsAs command input (W.contents writer.old) (W.contents writer.new) result) }
 {
     let input = read_all(alloc, reader)?;
-    let Answer { output, fault } = answer_to(alloc, command, input)?;
+    let CommandOutput { output, fault } = execute(alloc, command, input)?;
     let is_written = writer.write_all(output.as_slice()).is_ok();
     outcome(is_written, fault)
 }
@@ -114,10 +114,10 @@ fn outcome(is_written: bool, fault: Option<DecodeError>) -> Result<(), Fault>
 /// Returns what the command writes for the input, and the error that it ends with. The only error
 /// is `OutOfMemory`.
 #[tactic(auto, unfolding(crate::specs::Run::Makes), using(crate::proofs::Ends::walks_end))]
-fn answer_to(alloc: Global, command: Command, input: Vec<u8>) -> Result<Answer, DecodeError>
+fn execute(alloc: Global, command: Command, input: Vec<u8>) -> Result<CommandOutput, DecodeError>
     ensures makes { IfOk result
-        (λ answer. Makes command input.items answer.output.items answer.fault) }
-    ensures fault { IfOk result (λ answer. IfSome answer.fault (λ e. e ≢ DecodeError.OutOfMemory)) }
+        (λ returned. Makes command input.items returned.output.items returned.fault) }
+    ensures fault { IfOk result (λ returned. IfSome returned.fault (λ e. e ≢ DecodeError.OutOfMemory)) }
     ensures memory { IfErr result (λ e. e ≡ DecodeError.OutOfMemory) }
 {
     match command {
@@ -146,41 +146,41 @@ fn shown(alloc: Global, input: Vec<u8>) -> Result<Vec<u8>, DecodeError>
     }
 }
 
-/// Returns the answer of a command that writes everything or nothing. `OutOfMemory` is no error of
+/// Returns the output of a command that writes everything or nothing. `OutOfMemory` is no error of
 /// the input.
-fn whole(alloc: Global, made: Result<Vec<u8>, DecodeError>) -> Result<Answer, DecodeError>
+fn whole(alloc: Global, made: Result<Vec<u8>, DecodeError>) -> Result<CommandOutput, DecodeError>
     ensures output { IfOk made (λ output. IsOkAnd result
-        (λ answer. (answer.output ≡ output) × (answer.fault ≡ None))) }
+        (λ returned. (returned.output ≡ output) × (returned.fault ≡ None))) }
     ensures fault { IfErr made (λ e. IfOk result
-        (λ answer. (answer.output.items ≡ []) × (answer.fault ≡ Some e)
+        (λ returned. (returned.output.items ≡ []) × (returned.fault ≡ Some e)
         × (e ≢ DecodeError.OutOfMemory))) }
     ensures memory { IfErr result
         (λ e. (e ≡ DecodeError.OutOfMemory) × (made ≡ Err DecodeError.OutOfMemory)) }
 {
     match made {
-        Ok(output) => Ok(Answer {
+        Ok(output) => Ok(CommandOutput {
             output,
             fault: None,
         }),
         Err(DecodeError::OutOfMemory) => Err(DecodeError::OutOfMemory),
-        Err(cause) => Ok(Answer {
+        Err(cause) => Ok(CommandOutput {
             output: Vec::new(alloc),
             fault: Some(cause),
         }),
     }
 }
 
-/// Returns the answer of a command that writes lines up to an error.
+/// Returns the output of a command that writes lines up to an error.
 fn lines(
     made: Result<String, DecodeError>,
     fault: Option<DecodeError>,
-) -> Result<Answer, DecodeError>
+) -> Result<CommandOutput, DecodeError>
     ensures ok { IfOk made (λ text. IsOkAnd result
-        (λ answer. (answer.output.items ≡ string_bytes text) × (answer.fault ≡ fault))) }
+        (λ returned. (returned.output.items ≡ string_bytes text) × (returned.fault ≡ fault))) }
     ensures err { IfErr made (λ e. result ≡ Err e) }
 {
     let text = made?;
-    Ok(Answer {
+    Ok(CommandOutput {
         output: text.into_bytes(),
         fault,
     })

@@ -22,11 +22,11 @@ outcome true (Some refused) = Err (fault.Refused refused)
 
 -- what a run over the whole input did; want of memory, and a failed read or write, decide nothing
 -- here
-abbrev pub Answers : {A : Type 0} → List ℕ → Option (List ℕ) → Option (List ℕ) → Result A Fault
+abbrev pub RunsAs : {A : Type 0} → List ℕ → Option (List ℕ) → Option (List ℕ) → Result A Fault
     → Type 0
-Answers input old new (Ok done) = Wrote input old new None
-Answers input old new (Err (fault.Refused refused)) = Wrote input old new (Some refused)
-Answers input old new (Err other) = Unit {0}
+RunsAs input old new (Ok done) = Wrote input old new None
+RunsAs input old new (Err (fault.Refused refused)) = Wrote input old new (Some refused)
+RunsAs input old new (Err other) = Unit {0}
 
 -- the fault of a run over an input that was not had
 abbrev pub read_fault : ReadFault → Fault

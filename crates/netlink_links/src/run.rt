@@ -2,7 +2,7 @@
 
 ghost use Rattle.std.specs.Prelude.{◌≡◌, Some, IfErr, IfSome};
 ghost use Rattle.std.specs.Io.KnownBytes.{Keeps};
-ghost use Rattle.netlink_links.specs.Run.{Answers, IsEarly, fault_text, outcome, read_fault};
+ghost use Rattle.netlink_links.specs.Run.{RunsAs, IsEarly, fault_text, outcome, read_fault};
 
 use crate::messages::{Answer, Refused, answer_to};
 use netlink_program::{ReadFault, read_all};
@@ -66,8 +66,8 @@ impl From<AllocError> for Fault {
 pub fn run<R: Read, W: Write>(alloc: Global, reader: &mut R, writer: &mut W) -> Result<(), Fault>
     ensures nothing { IfErr result
         (λ fault. IsEarly fault → Keeps (W.contents writer.old) (W.contents writer.new)) }
-    ensures answers { IfSome (R.remaining reader.old) (λ input.
-        Answers input (W.contents writer.old) (W.contents writer.new) result) }
+    ensures runs { IfSome (R.remaining reader.old) (λ input.
+        RunsAs input (W.contents writer.old) (W.contents writer.new) result) }
 {
     let input = read_all(alloc, reader)?;
     let Answer { output, fault } = answer_to(alloc, input.as_slice())?;

@@ -10,7 +10,7 @@ use Rattle.netlink_packet_core.specs.Protocol.{Encoding, Decoding, IsOwnType}
 use Rattle.netlink_packet_core.specs.Frame.{Begins, Body, Frame}
 use Rattle.netlink_packet_core.specs.Canonical.{finalized, canonical_frame, IsCanonicalFrame}
 use Rattle.netlink_packet_core.specs.Refusal.{IsFrameFault}
-use Rattle.netlink_packet_core.proofs.Headers.{same_header, header-begins, length-begins, behind-begins, size-begins}
+use Rattle.netlink_packet_core.proofs.Headers.{same_header, header-begins, length-begins, after-begins, size-begins}
 use Rattle.netlink_packet_core.proofs.Written.{Laws, IsCanonicalBody}
 use Rattle.netlink_packet_core.specs.declared.header.NetlinkHeader.{NetlinkHeader}
 use Rattle.netlink_packet_core.specs.declared.message.NetlinkMessage.{NetlinkMessage}
@@ -33,7 +33,7 @@ canonical_parts decoding bytes h payload canonical begins =
     let alone : payload ++ begins.rest ≡ payload = ap (λ (r : List ℕ). payload ++ r) none ∙ append-nil payload in
     let head : header_of bytes ≡ h = header-begins bytes h payload begins in
     let kind : field 4 2 bytes ≡ h.message_type = ap (λ (j : NetlinkHeader). j.message_type) head in
-    let rest : drop 16 bytes ≡ payload = behind-begins bytes h payload begins ∙ alone in
+    let rest : drop 16 bytes ≡ payload = after-begins bytes h payload begins ∙ alone in
     record {
       whole = begins.whole ∙ ap (λ (q : List ℕ). header_bytes h ++ q) alone;
       body = record {

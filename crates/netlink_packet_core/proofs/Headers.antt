@@ -85,13 +85,13 @@ header-begins bytes h payload b = ap header_of b.whole ∙ header_of-header_byte
 pub length-begins : (bytes : List ℕ) (h : NetlinkHeader) (payload : List ℕ) → Begins bytes h payload → field 0 4 bytes ≡ 16 + length payload
 length-begins bytes h payload b = ap (λ (g : NetlinkHeader). g.length) (header-begins bytes h payload b) ∙ b.size
 
-pub behind-begins : (bytes : List ℕ) (h : NetlinkHeader) (payload : List ℕ) (b : Begins bytes h payload) → drop 16 bytes ≡ payload ++ b.rest
-behind-begins bytes h payload b = ap (drop 16) b.whole ∙ drop-header_bytes h (payload ++ b.rest)
+pub after-begins : (bytes : List ℕ) (h : NetlinkHeader) (payload : List ℕ) (b : Begins bytes h payload) → drop 16 bytes ≡ payload ++ b.rest
+after-begins bytes h payload b = ap (drop 16) b.whole ∙ drop-header_bytes h (payload ++ b.rest)
 
 pub payload-begins : (bytes : List ℕ) (h : NetlinkHeader) (payload : List ℕ) → Begins bytes h payload → payload_of bytes ≡ payload
 payload-begins bytes h payload b =
     let size : field 0 4 bytes - 16 ≡ length payload = omega (arith, length-begins bytes h payload b) in
-    ap (λ (n : ℕ). take n (drop 16 bytes)) size ∙ ap (take (length payload)) (behind-begins bytes h payload b)
+    ap (λ (n : ℕ). take n (drop 16 bytes)) size ∙ ap (take (length payload)) (after-begins bytes h payload b)
     ∙ take_at payload b.rest _ refl
 
 pub size-begins : (bytes : List ℕ) (h : NetlinkHeader) (payload : List ℕ) (b : Begins bytes h payload)

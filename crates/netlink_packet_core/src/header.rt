@@ -30,7 +30,7 @@ impl NetlinkHeader {
     ghost use Rattle.netlink_packet_core.specs.Header.{header_bytes, HeaderInRange};
 
     /// Establishes that each field is within its width, for the proof of a caller.
-    pub(crate) fn known(&self)
+    pub(crate) fn in_widths(&self)
         ensures { HeaderInRange self.now }
     {
         let _length = self.length;
@@ -54,12 +54,12 @@ impl NetlinkHeader {
     }
 
     /// Returns the encoding of the five fields.
-    pub(crate) fn text(&self) -> [u8; NETLINK_HEADER_LEN]
+    pub(crate) fn bytes(&self) -> [u8; NETLINK_HEADER_LEN]
         ensures { result ≡ header_bytes self.now }
     {
-        let mut text = [0; NETLINK_HEADER_LEN];
-        self.write(&mut text);
-        text
+        let mut bytes = [0; NETLINK_HEADER_LEN];
+        self.write(&mut bytes);
+        bytes
     }
 }
 

@@ -36,7 +36,7 @@ use netlink_bytes::{DecodeError, Storage};
 pub use netlink_ethernet::laws::protocols_equal;
 
 /// Establishes that the inner value of a payload is in range, for the proof of a caller.
-fn known<I: NetlinkProtocol>(payload: &NetlinkPayload<I>)
+fn inner_in_widths<I: NetlinkProtocol>(payload: &NetlinkPayload<I>)
     ensures { InnerInRange I.decoding payload.now }
 {
     if let NetlinkPayload::InnerMessage(message) = payload {
@@ -137,8 +137,8 @@ pub fn reads_back<I: NetlinkProtocol>(m: &NetlinkMessage<I>, n: &NetlinkMessage<
         ↔ IsTrue (⟦<NetlinkMessage<I> as PartialEq>⟧.eq
         (finalized I.encoding m.now) (finalized I.encoding n.now)) }
 {
-    known(&m.payload);
-    known(&n.payload);
+    inner_in_widths(&m.payload);
+    inner_in_widths(&n.payload);
     messages_equal::<I>();
 }
 

@@ -132,8 +132,8 @@ impl<I: NetlinkSerializable> NetlinkMessage<I> {
     pub fn fits(&self) -> bool
         ensures fits { IsTrue result ↔ Fits I.encoding self.now }
     {
-        self.header.known();
-        self.payload.known();
+        self.header.in_widths();
+        self.payload.in_widths();
         self.payload.buffer_len() <= PAYLOAD_MAX
     }
 
@@ -205,15 +205,15 @@ impl<I: NetlinkSerializable + Drop> NetlinkMessage<I> {
         ensures refuses { IfErr result (λ e. ((e ≡ DecodeError.TooLong) × IsTooLong I.encoding self)
             ⊎ ((e ≡ DecodeError.OutOfMemory) × Fits I.encoding self)) }
     {
-        self.header.known();
-        self.payload.known();
+        self.header.in_widths();
+        self.payload.in_widths();
         let size = self.payload.buffer_len();
         if size > PAYLOAD_MAX {
             return Err(DecodeError::TooLong);
         }
         self.finalize_for(size);
         let mut frame = Vec::with_capacity(alloc, NETLINK_HEADER_LEN + size)?;
-        frame.extend_from_slice(&self.header.text())?;
+        frame.extend_from_slice(&self.header.bytes())?;
         self.payload.append(&mut frame)?;
         Ok(frame)
     }

@@ -61,7 +61,7 @@ impl<I: NetlinkSerializable> NetlinkPayload<I> {
     }
 
     /// Establishes that the code of a payload is within its width, for the proof of a caller.
-    pub(crate) fn known(&self)
+    pub(crate) fn in_widths(&self)
         ensures { PayloadInRange self.now }
     {
         match self {

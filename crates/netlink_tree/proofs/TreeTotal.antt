@@ -26,13 +26,13 @@ front_bytes [] more each i = omega arith
 front_bytes (x ∷ v) more each zero = each 0
 front_bytes (x ∷ v) more each (suc i) = front_bytes v more (λ j. each (suc j)) i
 
-behind_header : (a : Attribute) (more : List ℕ) → drop 4 (attribute_bytes a ++ more) ≡ a.value ++ more
+after_header : (a : Attribute) (more : List ℕ) → drop 4 (attribute_bytes a ++ more) ≡ a.value ++ more
 unfolding bytes_le
-behind_header a more = refl
+after_header a more = refl
 
 value_bytes : (bytes : List ℕ) (a : Attribute) (rest : List ℕ) → Starts bytes a rest → IsBytes bytes → IsBytes a.value
 value_bytes bytes a rest starts each = front_bytes a.value (starts.gap ++ rest) (λ i.
-    let behind : drop 4 bytes ≡ a.value ++ (starts.gap ++ rest) = ap (drop 4) starts.whole ∙ behind_header a (starts.gap ++ rest) in
+    let behind : drop 4 bytes ≡ a.value ++ (starts.gap ++ rest) = ap (drop 4) starts.whole ∙ after_header a (starts.gap ++ rest) in
     rw (← behind, get_or-drop) (each (4 + i)))
 
 -- an attribute is read as a tree, or has an error inside

@@ -30,13 +30,13 @@ text_aligned : (ts : Forest) → length (tree_bytes ts) % 4 ≡ 0
 text_aligned no_trees = refl
 text_aligned (grow t ts) = let first = length-canonical_block (written t) (attributes_of ts) in let later = text_aligned ts in omega arith
 
-put_behind : (front rest text : List ℕ) → put_at (front ++ rest) (length front) text ≡ front ++ put_at rest 0 text
-put_behind [] rest text = refl
-put_behind (b ∷ front) rest text =
+put_after : (front rest text : List ℕ) → put_at (front ++ rest) (length front) text ≡ front ++ put_at rest 0 text
+put_after [] rest text = refl
+put_after (b ∷ front) rest text =
     let whole : List ℕ = b ∷ (front ++ rest) in
     let place : suc (length front) + length text ≡ suc (length front + length text) = omega arith in
     ap (λ (n : ℕ). take (suc (length front)) whole ++ (text ++ drop n whole)) place
-    ∙ ap (λ (l : List ℕ). b ∷ l) (put_behind front rest text)
+    ∙ ap (λ (l : List ℕ). b ∷ l) (put_after front rest text)
 
 counted : (kind : ℕ) (inner : List ℕ) → length inner % 4 ≡ 0
     → put_at (padded (attribute_with kind []) ++ inner) 0 (bytes_le (4 + length inner) 2) ≡ padded (attribute_with kind inner)
@@ -65,7 +65,7 @@ nest_counted old one two new kind start ts at first second third =
     second ∙ ap (λ (l : List ℕ). l ++ tree_bytes ts) first ∙ append_assoc old header (tree_bytes ts) in
     third ∙ ap (λ (n : ℕ). put_at two n (bytes_le (length two - n) 2)) at ∙ ap (λ (n : ℕ). put_at two (length old) (bytes_le n 2)) size
     ∙ ap (λ (l : List ℕ). put_at l (length old) (bytes_le (4 + length (tree_bytes ts)) 2)) whole
-    ∙ put_behind old (header ++ tree_bytes ts) (bytes_le (4 + length (tree_bytes ts)) 2)
+    ∙ put_after old (header ++ tree_bytes ts) (bytes_le (4 + length (tree_bytes ts)) 2)
     ∙ ap (λ (l : List ℕ). old ++ l) (counted kind (tree_bytes ts) (text_aligned ts))
 
 -- ---- attributes that fit

@@ -47,7 +47,7 @@ impl<'a> Iterator for Frames<&'a [u8]> {
         }
         match first_frame(bytes) {
             Ok(frame) => {
-                self.rest = behind_frame(bytes, frame.len());
+                self.rest = after_frame(bytes, frame.len());
                 Some(Ok(frame))
             }
             Err(fault) => {
@@ -92,7 +92,7 @@ fn first_frame(bytes: &[u8]) -> Result<&[u8], DecodeError>
 /// Returns what follows the frame that the bytes start with, and its padding. Requires that the
 /// bytes hold a complete frame, and that `size` is its length field and less than 2^32.
 #[inline(always)]
-fn behind_frame(bytes: &[u8], size: usize) -> &[u8]
+fn after_frame(bytes: &[u8], size: usize) -> &[u8]
     requires whole { HoldsFrame bytes.now }
     requires size { size ≡ field 0 4 bytes.now }
     requires fits { size < 2 ^ 32 }

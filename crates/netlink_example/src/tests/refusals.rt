@@ -32,7 +32,7 @@ const CUT: [u8; 8] = [0x14, 0, 0, 0, 0x10, 0, 0, 0];
 
 /// Each datagram with the number of its cause and the text, from reading and from answering.
 #[test]
-fn each_fault_is_told(rt: HostRuntime) -> Result<(), Fail> {
+fn each_fault_is_printed(rt: HostRuntime) -> Result<(), Fail> {
     let front = "Failed to parse message with type ";
     let rows: [(&[u8], u8, &str, &str); 4] = [
         (
@@ -84,7 +84,7 @@ fn each_fault_is_told(rt: HostRuntime) -> Result<(), Fail> {
 }
 
 #[test]
-fn want_of_memory_is_told(rt: HostRuntime) -> Result<(), Fail> {
+fn out_of_memory_is_printed(rt: HostRuntime) -> Result<(), Fail> {
     let rows = [
         (GenericError::NotAFamily, false),
         (GenericError::TooShort, false),

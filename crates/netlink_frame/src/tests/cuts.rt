@@ -116,9 +116,9 @@ fn joined_blocks(rt: HostRuntime) -> Result<(), Fail> {
         (&[4, 0, 1, 0], &[0xff], EMPTY, (5, 1, 4)),
         (&[5, 0, 1, 0, 0xaa], &[4, 0, 2, 0], FIRST, (5, 1, 4)),
     ];
-    for (block, behind, lines, ending) in rows.iter() {
+    for (block, after, lines, ending) in rows.iter() {
         let mut joined = block.to_vec(rt.alloc())?;
-        joined.extend_from_slice(behind)?;
+        joined.extend_from_slice(after)?;
         let (output, ended) = nlas_of(rt.alloc(), &joined)?;
         assert_eq!(rt; output.as_slice(), lines.as_bytes());
         assert!(rt; ended == *ending);

@@ -26,7 +26,7 @@ fn args_of(alloc: Global, words: &[&str]) -> Result<Args, AllocError> {
 }
 
 #[test]
-fn one_word_behind_the_name_is_a_command(rt: HostRuntime) -> Result<(), Fail> {
+fn one_word_after_the_name_is_a_command(rt: HostRuntime) -> Result<(), Fail> {
     let rows: [(&[&str], Option<Command>); 12] = [
         (&["netlink_frame", "normalize"], Some(Command::Normalize)),
         (&["netlink_frame", "show"], Some(Command::Show)),

@@ -263,7 +263,7 @@ fn trees_are_read_and_written(rt: HostRuntime) -> Result<(), Fail> {
     match read_tree(alloc, &[8, 0, 1, 0, 1, 2, 3, 4, 3, 0, 2, 0]) {
         Ok(_) => assert!(rt; false),
         Err(fault) => {
-            if is_want_of_memory(&fault) {
+            if is_out_of_memory_fault(&fault) {
                 return Err(Fail::from(fault));
             }
             let text = "NLA has invalid length: 3 (should be at least 4 bytes)";
@@ -273,7 +273,7 @@ fn trees_are_read_and_written(rt: HostRuntime) -> Result<(), Fail> {
     Ok(())
 }
 
-fn is_want_of_memory(fault: &TreeFault) -> bool {
+fn is_out_of_memory_fault(fault: &TreeFault) -> bool {
     match fault {
         TreeFault::Decode(cause) => cause.is_out_of_memory(),
         _ => false,

@@ -47,9 +47,9 @@ fn datagrams_are_frames_and_then_the_fault(rt: HostRuntime) -> Result<(), Fail> 
             "invalid netlink buffer length caused by invalid netlink buffer: length field says 15 but netlink packets are at least 16 bytes",
         ),
     ];
-    for (front, behind, sizes, frames, fault) in rows {
+    for (front, after, sizes, frames, fault) in rows {
         let mut datagram = Vec::from_slice(rt.alloc(), front)?;
-        datagram.extend_from_slice(behind)?;
+        datagram.extend_from_slice(after)?;
         let (found_sizes, found, found_fault) = walked(rt.alloc(), &datagram)?;
         assert!(rt; found_sizes.as_slice() == sizes);
         assert!(rt; found.as_slice() == frames);

@@ -28,7 +28,7 @@ fn a_nest_holds_its_leaf(rt: HostRuntime) -> Result<(), Fail> {
 }
 
 #[test]
-fn the_first_fault_is_told(rt: HostRuntime) -> Result<(), Fail> {
+fn the_first_fault_is_printed(rt: HostRuntime) -> Result<(), Fail> {
     let damage = "NLA has invalid length: 3 (should be at least 4 bytes)";
     let rows: [(&[u8], &str); 3] = [
         (&[], ""),

@@ -7,5 +7,5 @@ pub returns-in-Some-Ok-clause-item : goal.returns-in-Some-Ok-clause-item
 returns-in-Some-Ok-clause-item c = λ _.
     attribute_given c.args.bytes.now _ _ _ c.in-Some-Ok.nla c.args.cursor.now _ _ _ (omega (arith, c.if-at-bytes.false))
     (c.new.ensures.keeps ∙ take_rest c.args.bytes.now c.args.cursor.now)
-    c.in-Some-Ok.ensures.steps c.in-Some-Ok.field-0-is c.raw_kind.ensures.number c.value_length-size.ensures.number c.behind.ensures.rest
-    c.behind.ensures.forward
+    c.in-Some-Ok.ensures.steps c.in-Some-Ok.field-0-is c.raw_kind.ensures.number c.value_length-size.ensures.number c.after.ensures.rest
+    c.after.ensures.forward

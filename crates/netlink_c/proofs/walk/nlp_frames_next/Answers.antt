@@ -7,4 +7,4 @@ pub returns-in-Some-Ok-clause-item : goal.returns-in-Some-Ok-clause-item
 returns-in-Some-Ok-clause-item c = λ _.
     frame_given c.args.bytes.now _ _ _ c.in-Some-Ok.frame c.args.cursor.now _ (omega (arith, c.if-at-bytes.false))
     (c.new.ensures.keeps ∙ take_rest c.args.bytes.now c.args.cursor.now)
-    c.in-Some-Ok.ensures.steps c.in-Some-Ok.field-0-is c.behind.ensures.rest c.behind.ensures.forward
+    c.in-Some-Ok.ensures.steps c.in-Some-Ok.field-0-is c.after.ensures.rest c.after.ensures.forward

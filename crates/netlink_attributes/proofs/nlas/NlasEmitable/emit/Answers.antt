@@ -2,7 +2,7 @@ use Rattle.std.proofs.Common.{List, ℕ, ◌++◌, ◌<◌, ◌^◌, arith, leng
 use Rattle.std.proofs.lemmas.List.Elements.{AllWithin-more, at_read}
 use Rattle.netlink_attributes.specs.Attribute.{padded}
 use Rattle.netlink_attributes.specs.Nla.{attribute_with}
-use Rattle.netlink_attributes.proofs.WriteLemmas.{block-cons, put_behind, moved_on, list_walks}
+use Rattle.netlink_attributes.proofs.WriteLemmas.{block-cons, put_after, moved_on, list_walks}
 use Rattle.netlink_attributes.proofs.nlas.NlasEmitable.emit.Goals as goal
 
 pub loop-nla-preserved : goal.loop-nla-preserved
@@ -18,7 +18,7 @@ loop-nla-preserved g c =
       written = (
         front ++ text,
         omega (arith, c.loop-nla.invariant.written.1, size, length-append front text),
-        put_behind c.loop-nla.at c.nla_buffer_len-at.result front c.args.buffer.now c.loop-nla.buffer text c.emit_nla.new.buffer
+        put_after c.loop-nla.at c.nla_buffer_len-at.result front c.args.buffer.now c.loop-nla.buffer text c.emit_nla.new.buffer
             c.loop-nla.invariant.written.1 c.loop-nla.invariant.written.2
             size c.emit_nla.ensures.written,
         moved_on front text _ _ _ c.loop-nla.invariant.written.3

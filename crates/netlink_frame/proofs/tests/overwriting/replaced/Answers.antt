@@ -26,4 +26,4 @@ walk : Walk (5 ∷ 0 ∷ 1 ∷ 0 ∷ 170 ∷ 0 ∷ 0 ∷ 0 ∷ second) (one ∷ 
 walk = (second, starts_one, ([], starts_two, refl))
 
 pub returns : goal.returns
-returns c = c.overwrite.ensures.written ((c.overwrite.ensures.answer (one ∷ two ∷ []) None walk).1 refl) (one ∷ two ∷ []) None walk
+returns c = c.overwrite.ensures.written ((c.overwrite.ensures.succeeds (one ∷ two ∷ []) None walk).1 refl) (one ∷ two ∷ []) None walk

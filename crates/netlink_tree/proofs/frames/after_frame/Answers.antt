@@ -2,7 +2,7 @@ use Rattle.std.proofs.Common.{ℕ, List, subst, sym, arith}
 use Rattle.std.proofs.lemmas.List.{drop_all, take_rest}
 use Rattle.netlink_packet_core.specs.FrameWalk.{StartsFrame, frame_of}
 use Rattle.netlink_packet_core.specs.FrameStartLaws.{starts_frame_held}
-use Rattle.netlink_tree.proofs.frames.behind_frame.Goals as goal
+use Rattle.netlink_tree.proofs.frames.after_frame.Goals as goal
 
 pub returns-then-end-bytes-clause-starts : goal.returns-then-end-bytes-clause-starts
 returns-then-end-bytes-clause-starts c =

@@ -4,13 +4,13 @@
 ghost use Rattle.std.specs.Prelude.{◌≡◌, ◌≢◌, ◌+◌, ◌≤◌, length};
 ghost use Rattle.netlink_packet_core.specs.Header.{field};
 ghost use Rattle.netlink_packet_core.specs.Numbers.{signed};
-ghost use Rattle.netlink_c.specs.Answered.{IsRequestEnd};
+ghost use Rattle.netlink_c.specs.ErrorBody.{IsRequestEnd};
 ghost use Rattle.netlink_c.specs.Bodies.{IsShortError};
 ghost use Rattle.netlink_c.specs.Fault.{Refuses};
 
-use crate::answers::OK;
 use crate::fault::{FaultNumbers, refused};
 use crate::frame::Part;
+use crate::results::OK;
 use netlink_packet_core::{
     ErrorBuffer, NETLINK_HEADER_LEN, NLM_F_ACK_TLVS, NLM_F_CAPPED, NetlinkBuffer, nlmsg_align,
 };
@@ -19,7 +19,7 @@ use netlink_packet_core::{
 const CODE_SIZE: usize = 4;
 
 /// The offset past the header of the request, in bytes from the start of the code.
-const BEHIND_HEADER: usize = CODE_SIZE + NETLINK_HEADER_LEN;
+const AFTER_HEADER: usize = CODE_SIZE + NETLINK_HEADER_LEN;
 
 /// The body of an error message (`struct nlp_error`).
 #[derive(Clone, Copy, Debug, PartialEq, Eq)]
@@ -87,15 +87,15 @@ fn request_end(payload: &[u8], flags: u16) -> usize
     ensures inside { (4 ≤ result) × (result ≤ length payload.now) }
 {
     let size = payload.len();
-    if flags / NLM_F_ACK_TLVS % 2 == 0 || size < BEHIND_HEADER {
+    if flags / NLM_F_ACK_TLVS % 2 == 0 || size < AFTER_HEADER {
         return size;
     }
     if flags / NLM_F_CAPPED % 2 == 1 {
-        return BEHIND_HEADER;
+        return AFTER_HEADER;
     }
     let said = NetlinkBuffer::new(&payload[CODE_SIZE..]).length() as usize;
     let end = if said < NETLINK_HEADER_LEN {
-        BEHIND_HEADER
+        AFTER_HEADER
     } else {
         CODE_SIZE + nlmsg_align(said)
     };

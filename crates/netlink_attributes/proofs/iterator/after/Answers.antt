@@ -3,7 +3,7 @@ use Rattle.std.proofs.lemmas.List.{drop_all, take_rest}
 use Rattle.netlink_attributes.specs.Views.{attribute_of}
 use Rattle.netlink_attributes.specs.Walk.{Starts}
 use Rattle.netlink_attributes.specs.StartLaws.{starts_held}
-use Rattle.netlink_attributes.proofs.iterator.behind.Goals as goal
+use Rattle.netlink_attributes.proofs.iterator.after.Goals as goal
 
 pub returns-then-end-bytes-clause-starts : goal.returns-then-end-bytes-clause-starts
 returns-then-end-bytes-clause-starts c =
