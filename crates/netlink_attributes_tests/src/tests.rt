@@ -1,5 +1,6 @@
 //! Test cases for each public function, and the two tests of the Rust crate.
 
+mod calls;
 mod canonical;
 mod cuts;
 mod laws;

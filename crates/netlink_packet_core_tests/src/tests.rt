@@ -1,5 +1,6 @@
 mod beat;
 mod bodies;
+mod calls;
 mod canonical;
 mod constants;
 mod headers;

@@ -26,45 +26,48 @@ const BOTH: Attributes = &[(1, &[0xaa]), (2, &[1, 2, 3, 4])];
 const EMPTY: Attributes = &[(1, &[])];
 
 /// A test case for each prefix, from no bytes to the whole block.
+const CUTS_OF_TWO: [(Attributes, Ending); 17] = [
+    (NONE, WELL),
+    (NONE, (5, 1, 4)),
+    (NONE, (5, 2, 4)),
+    (NONE, (5, 3, 4)),
+    (NONE, (6, 4, 5)),
+    (FIRST, WELL),
+    (FIRST, WELL),
+    (FIRST, WELL),
+    (FIRST, WELL),
+    (FIRST, (5, 1, 4)),
+    (FIRST, (5, 2, 4)),
+    (FIRST, (5, 3, 4)),
+    (FIRST, (6, 4, 8)),
+    (FIRST, (6, 5, 8)),
+    (FIRST, (6, 6, 8)),
+    (FIRST, (6, 7, 8)),
+    (BOTH, WELL),
+];
+
 #[test]
 fn each_cut_of_two_attributes(rt: HostRuntime) {
-    let rows: [(Attributes, Ending); 17] = [
-        (NONE, WELL),
-        (NONE, (5, 1, 4)),
-        (NONE, (5, 2, 4)),
-        (NONE, (5, 3, 4)),
-        (NONE, (6, 4, 5)),
-        (FIRST, WELL),
-        (FIRST, WELL),
-        (FIRST, WELL),
-        (FIRST, WELL),
-        (FIRST, (5, 1, 4)),
-        (FIRST, (5, 2, 4)),
-        (FIRST, (5, 3, 4)),
-        (FIRST, (6, 4, 8)),
-        (FIRST, (6, 5, 8)),
-        (FIRST, (6, 6, 8)),
-        (FIRST, (6, 7, 8)),
-        (BOTH, WELL),
-    ];
-    cut_as(&rt, &TWO, &rows);
+    cut_as(&rt, &TWO, &CUTS_OF_TWO);
 }
+
+/// The same for the damaged block.
+const CUTS_OF_SHORT: [(Attributes, Ending); 10] = [
+    (NONE, WELL),
+    (NONE, (5, 1, 4)),
+    (NONE, (5, 2, 4)),
+    (NONE, (5, 3, 4)),
+    (EMPTY, WELL),
+    (EMPTY, (5, 1, 4)),
+    (EMPTY, (5, 2, 4)),
+    (EMPTY, (5, 3, 4)),
+    (EMPTY, (7, 4, 3)),
+    (EMPTY, (7, 4, 3)),
+];
 
 #[test]
 fn each_cut_of_a_damaged_block(rt: HostRuntime) {
-    let rows: [(Attributes, Ending); 10] = [
-        (NONE, WELL),
-        (NONE, (5, 1, 4)),
-        (NONE, (5, 2, 4)),
-        (NONE, (5, 3, 4)),
-        (EMPTY, WELL),
-        (EMPTY, (5, 1, 4)),
-        (EMPTY, (5, 2, 4)),
-        (EMPTY, (5, 3, 4)),
-        (EMPTY, (7, 4, 3)),
-        (EMPTY, (7, 4, 3)),
-    ];
-    cut_as(&rt, &SHORT, &rows);
+    cut_as(&rt, &SHORT, &CUTS_OF_SHORT);
 }
 
 /// Truncates the block at the index of each test case, and compares the attributes and the ending.
@@ -99,19 +102,20 @@ fn ended_as(block: &[u8], attributes: Attributes) -> Option<Ending> {
 }
 
 fn ending_of(cause: &DecodeError) -> Ending {
+    let number = cause.number();
     match cause {
         DecodeError::NlaBufferTooSmall {
             buffer_len,
             nla_len,
-        }
-        | DecodeError::NlaLengthMismatch {
+        } => (number, *buffer_len, *nla_len),
+        DecodeError::NlaLengthMismatch {
             buffer_len,
             nla_len,
-        }
-        | DecodeError::NlaInvalidLength {
+        } => (number, *buffer_len, *nla_len),
+        DecodeError::NlaInvalidLength {
             buffer_len,
             nla_len,
-        } => (cause.number(), *buffer_len, *nla_len),
-        _ => (cause.number(), 0, 0),
+        } => (number, *buffer_len, *nla_len),
+        _ => (number, 0, 0),
     }
 }

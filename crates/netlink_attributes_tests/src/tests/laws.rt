@@ -9,24 +9,40 @@ use netlink_attributes::laws::{
 use netlink_attributes::nla_place;
 
 #[test]
-fn each_law_can_be_called() {
+fn the_laws_of_walks_are_called() {
     walk_total();
     walk_unique();
     walk_given();
     walk_stops();
+}
+
+#[test]
+fn the_laws_of_equality_are_called() {
     walks_equal();
     views_equal::<&[u8]>();
     slice_views_equal();
     attributes_equal();
+}
+
+#[test]
+fn the_laws_of_written_attributes_are_called() {
     written_reads_back();
     written_walks();
+    attributes_read();
+}
+
+#[test]
+fn the_laws_of_one_block_are_called() {
     walk_cut(&TWO, 15);
     canonical_walks(&TWO);
-    attributes_read();
-    walk_join(&TWO, &TWO);
-    block_unique(&TWO, &TWO);
     fixed_points(&TWO);
     older_block_kept(&TWO);
+}
+
+#[test]
+fn the_laws_of_two_blocks_are_called() {
+    walk_join(&TWO, &TWO);
+    block_unique(&TWO, &TWO);
 }
 
 /// Returns whether there is an attribute at `index` whose value has the size of `value`, so that it

@@ -3,150 +3,200 @@
 ghost use Rattle.std.specs.Prelude.{replicate};
 
 use crate::tests::beat::Beat;
-use crate::tests::canonical::bytes_of;
+use crate::tests::calls::{
+    bytes_of, compare_as, has_number, is_framed_as, is_normalized_to, is_read_as, is_refused,
+    normal_frame, read,
+};
 use netlink_packet_core::{
     DecodeError, DoneMessage, Emitable, NetlinkBuffer, NetlinkHeader, NetlinkMessage,
-    NetlinkPayload, NetlinkSerializable, Parseable, normalize,
+    NetlinkPayload, NetlinkSerializable, Parseable,
 };
+use std::alloc::Global;
 use std::test::Fail;
 
 /// A beat with all flags, a sequence number and a port.
 pub const BEAT: [u8; 16] = [0x10, 0, 0, 0, 0x10, 0, 0xff, 0xff, 4, 3, 2, 1, 8, 7, 6, 5];
 
-/// Returns the header of that, before its length and its type are set.
-fn header() -> NetlinkHeader {
-    NetlinkHeader {
-        length: 0,
-        message_type: 0,
-        flags: 0xffff,
-        sequence_number: 0x01020304,
-        port_number: 0x05060708,
+/// The header of that, before its length and its type are set.
+const HEADER: NetlinkHeader = NetlinkHeader {
+    length: 0,
+    message_type: 0,
+    flags: 0xffff,
+    sequence_number: 0x01020304,
+    port_number: 0x05060708,
+};
+
+/// Returns the beat, with its length and its type set.
+fn beat() -> NetlinkMessage<Beat> {
+    let header = NetlinkHeader {
+        length: 16,
+        message_type: 16,
+        ..HEADER
+    };
+    NetlinkMessage::new(header, NetlinkPayload::InnerMessage(Beat))
+}
+
+/// Returns whether the message of the frame in the bytes is read through a view as this one.
+fn is_parsed_as(alloc: Global, bytes: &[u8], message: &NetlinkMessage<Beat>) -> bool {
+    match parsed(alloc, bytes) {
+        Ok(found) => found == *message,
+        Err(_) => false,
     }
 }
 
+fn parsed(alloc: Global, bytes: &[u8]) -> Result<NetlinkMessage<Beat>, DecodeError> {
+    match NetlinkBuffer::new_checked(bytes) {
+        Ok(view) => NetlinkMessage::parse(alloc, &view),
+        Err(error) => Err(error),
+    }
+}
+
+/// Returns whether a message is the beat, and the bytes are its frame and 0x55.
+fn is_beat(message: &NetlinkMessage<Beat>, bytes: &[u8; 17]) -> bool {
+    compare_as(message, &beat(), true) && &bytes[..16] == BEAT.as_slice() && bytes[16] == 0x55
+}
+
 #[test]
-fn a_beat_is_written_and_read_back(rt: HostRuntime) -> Result<(), Fail> {
-    let mut message = NetlinkMessage::new(header(), NetlinkPayload::InnerMessage(Beat));
+fn a_beat_is_written(rt: HostRuntime) {
+    let mut message = NetlinkMessage::new(HEADER, NetlinkPayload::InnerMessage(Beat));
     assert!(rt; message.fits());
     message.finalize();
     assert_eq!(rt; message.buffer_len(), 16);
     let mut buffer = [0x55u8; 17];
     message.serialize(&mut buffer);
-    assert_eq!(rt; &buffer[..16], BEAT.as_slice());
-    assert_eq!(rt; buffer[16], 0x55);
     let mut again = [0x55u8; 17];
     message.emit(&mut again);
-    assert_eq!(rt; again, buffer);
-    assert!(rt; NetlinkMessage::<Beat>::deserialize(rt.alloc(), &buffer)? == message);
-    let view = NetlinkBuffer::new_checked(&BEAT[..])?;
-    assert!(rt; NetlinkMessage::<Beat>::parse(rt.alloc(), &view)? == message);
-    assert_eq!(rt; message.into_frame(rt.alloc())?.as_slice(), BEAT.as_slice());
+    assert!(rt; is_beat(&message, &buffer) && is_beat(&message, &again));
+}
+
+#[test]
+fn a_beat_is_read(rt: HostRuntime) -> Result<(), Fail> {
+    assert!(rt; is_parsed_as(rt.alloc(), &BEAT, &beat()));
+    let mut bytes = BEAT.to_vec(rt.alloc())?;
+    bytes.push(0x55)?;
+    assert!(rt; is_read_as(rt.alloc(), &bytes, &beat()));
+    assert!(rt; is_framed_as(rt.alloc(), beat(), &BEAT));
     Ok(())
+}
+
+/// Returns whether the frame of a message is the frame with this length, type and payload.
+fn is_frame(
+    alloc: Global,
+    message: NetlinkMessage<Beat>,
+    length: u8,
+    message_type: u8,
+    payload: &[u8],
+) -> bool {
+    match bytes_of(alloc, length, message_type, payload) {
+        Ok(bytes) => is_framed_as(alloc, message, &bytes),
+        Err(_) => false,
+    }
 }
 
 /// A message is written with the length and the type of its payload, whatever its header contained.
 #[test]
 fn a_message_becomes_its_frame(rt: HostRuntime) -> Result<(), Fail> {
     let beat = NetlinkMessage::from_inner(Beat);
-    let zeros = bytes_of(rt.alloc(), 16, 16, &[])?;
-    assert_eq!(rt; beat.into_frame(rt.alloc())?.as_slice(), zeros.as_slice());
+    assert!(rt; is_frame(rt.alloc(), beat, 16, 16, &[]));
     let body = DoneMessage {
         code: 5,
         extended_ack: [1u8, 2, 3].to_vec(rt.alloc())?,
     };
-    let done = NetlinkMessage::<Beat>::new(NetlinkHeader::default(), NetlinkPayload::Done(body));
-    let wanted = bytes_of(rt.alloc(), 23, 3, &[5, 0, 0, 0, 1, 2, 3])?;
-    assert_eq!(rt; done.into_frame(rt.alloc())?.as_slice(), wanted.as_slice());
-    let noop = NetlinkMessage::<Beat>::new(header(), NetlinkPayload::Noop);
-    let (kept, payload) = noop.into_parts();
-    assert!(rt; kept == header() && payload == NetlinkPayload::Noop);
-    assert_eq!(rt; payload.message_type(), 1);
+    let done = NetlinkMessage::new(NetlinkHeader::default(), NetlinkPayload::Done(body));
+    assert!(rt; is_frame(rt.alloc(), done, 23, 3, &[5, 0, 0, 0, 1, 2, 3]));
     Ok(())
 }
+
+#[test]
+fn a_message_is_taken_apart(rt: HostRuntime) {
+    let noop = NetlinkMessage::<Beat>::new(HEADER, NetlinkPayload::Noop);
+    let (kept, payload) = noop.into_parts();
+    assert!(rt; compare_as(&kept, &HEADER, true));
+    assert!(rt; compare_as(&payload, &NetlinkPayload::Noop, true));
+    assert!(rt; payload.message_type() == 1);
+}
+
+/// The length field, the type and the payload of a frame, and the length and the payload that it
+/// is normalized to.
+const NORMALIZED: [(u8, u8, &[u8], u8, &[u8]); 6] = [
+    (20, 1, &[7, 8, 9, 10], 16, &[]),
+    (
+        20,
+        2,
+        &[0xc3, 0xdd, 0xff, 0xff],
+        20,
+        &[0xc3, 0xdd, 0xff, 0xff],
+    ),
+    (16, 3, &[0x21], 20, &[0, 0, 0, 0]),
+    (18, 4, &[7, 8, 9], 18, &[7, 8]),
+    (16, 16, &[], 16, &[]),
+    (19, 16, &[7, 8, 9], 16, &[]),
+];
 
 /// What bytes are normalized to; what follows a frame is dropped.
 #[test]
 fn frames_are_normalised(rt: HostRuntime) -> Result<(), Fail> {
-    let rows: [(u8, u8, &[u8], u8, &[u8]); 6] = [
-        (20, 1, &[7, 8, 9, 10], 16, &[]),
-        (
-            20,
-            2,
-            &[0xc3, 0xdd, 0xff, 0xff],
-            20,
-            &[0xc3, 0xdd, 0xff, 0xff],
-        ),
-        (16, 3, &[0x21], 20, &[0, 0, 0, 0]),
-        (18, 4, &[7, 8, 9], 18, &[7, 8]),
-        (16, 16, &[], 16, &[]),
-        (19, 16, &[7, 8, 9], 16, &[]),
-    ];
-    for (length, message_type, payload, size, text) in rows.iter() {
-        let bytes = bytes_of(rt.alloc(), *length, *message_type, payload)?;
-        let wanted = bytes_of(rt.alloc(), *size, *message_type, text)?;
-        let frame = normalize::<Beat>(rt.alloc(), &bytes)?;
-        assert_eq!(rt; frame.as_slice(), wanted.as_slice(), "type {message_type}");
+    for (length, message_type, payload, size, text) in NORMALIZED {
+        let bytes = bytes_of(rt.alloc(), length, message_type, payload)?;
+        let expected = bytes_of(rt.alloc(), size, message_type, text)?;
+        assert!(rt; is_normalized_to(rt.alloc(), &bytes, &expected));
     }
     Ok(())
+}
+
+/// The length field, the type and the payload of a frame, and the number and the text of the error.
+const REFUSED: [(u8, u8, &[u8], u8, &str); 5] = [
+    (
+        20,
+        16,
+        &[],
+        10,
+        "failed deserializing NetlinkMessage caused by invalid netlink buffer length caused by invalid netlink buffer: length field says 20 the buffer is 16 bytes long",
+    ),
+    (
+        15,
+        16,
+        &[],
+        11,
+        "failed deserializing NetlinkMessage caused by invalid netlink buffer length caused by invalid netlink buffer: length field says 15 but netlink packets are at least 16 bytes",
+    ),
+    (
+        18,
+        3,
+        &[0, 0],
+        12,
+        "failed to parse NLMSG_DONE caused by invalid DoneBuffer length caused by invalid DoneBuffer: length is 2 but DoneBuffer are at least 4 bytes",
+    ),
+    (
+        16,
+        2,
+        &[],
+        13,
+        "failed parsing NLMSG_ERROR caused by invalid ErrorBuffer length caused by invalid ErrorBuffer: length is 0 but ErrorBuffer are at least 4 bytes",
+    ),
+    (
+        17,
+        17,
+        &[1],
+        14,
+        "Failed to parse message with type 17: not a beat",
+    ),
+];
+
+/// Returns whether reading and normalizing the bytes end with this number and this text.
+fn are_refused(alloc: Global, bytes: &[u8], number: u8, text: &str) -> bool {
+    is_refused(alloc, read(alloc, bytes), number, text)
+        && is_refused(alloc, normal_frame(alloc, bytes), number, text)
 }
 
 /// Each error with its number and its text; `normalize` returns the same error.
 #[test]
 fn frames_are_refused(rt: HostRuntime) -> Result<(), Fail> {
-    let rows: [(u8, u8, &[u8], u8, &str); 5] = [
-        (
-            20,
-            16,
-            &[],
-            10,
-            "failed deserializing NetlinkMessage caused by invalid netlink buffer length caused by invalid netlink buffer: length field says 20 the buffer is 16 bytes long",
-        ),
-        (
-            15,
-            16,
-            &[],
-            11,
-            "failed deserializing NetlinkMessage caused by invalid netlink buffer length caused by invalid netlink buffer: length field says 15 but netlink packets are at least 16 bytes",
-        ),
-        (
-            18,
-            3,
-            &[0, 0],
-            12,
-            "failed to parse NLMSG_DONE caused by invalid DoneBuffer length caused by invalid DoneBuffer: length is 2 but DoneBuffer are at least 4 bytes",
-        ),
-        (
-            16,
-            2,
-            &[],
-            13,
-            "failed parsing NLMSG_ERROR caused by invalid ErrorBuffer length caused by invalid ErrorBuffer: length is 0 but ErrorBuffer are at least 4 bytes",
-        ),
-        (
-            17,
-            17,
-            &[1],
-            14,
-            "Failed to parse message with type 17: not a beat",
-        ),
-    ];
-    for (length, message_type, payload, number, text) in rows.iter() {
-        let bytes = bytes_of(rt.alloc(), *length, *message_type, payload)?;
-        let refusal = refusal_of(NetlinkMessage::<Beat>::deserialize(rt.alloc(), &bytes))?;
-        assert_eq!(rt; refusal.number(), *number);
-        assert_eq!(rt; refusal.to_string(rt.alloc())?.as_str(), *text);
-        let refusal = refusal_of(normalize::<Beat>(rt.alloc(), &bytes))?;
-        assert_eq!(rt; refusal.to_string(rt.alloc())?.as_str(), *text);
+    for (length, message_type, payload, number, text) in REFUSED {
+        let bytes = bytes_of(rt.alloc(), length, message_type, payload)?;
+        assert!(rt; are_refused(rt.alloc(), &bytes, number, text));
     }
     Ok(())
-}
-
-/// Returns the error of a result.
-pub(crate) fn refusal_of<T: Drop>(answer: Result<T, DecodeError>) -> Result<DecodeError, Fail> {
-    match answer {
-        Ok(_) => Err(Fail::from("the bytes are read")),
-        Err(refusal) => Ok(refusal),
-    }
 }
 
 /// A message of type 16 with `count` zero bytes.
@@ -171,23 +221,54 @@ impl NetlinkSerializable for Zeros {
     }
 }
 
+/// Returns the canonical frame of a message of zeros.
+fn zeros_frame(alloc: Global, count: usize) -> Result<Vec<u8>, DecodeError> {
+    NetlinkMessage::from_inner(Zeros { count }).into_frame(alloc)
+}
+
 #[test]
-fn a_message_that_does_not_fit(rt: HostRuntime) -> Result<(), Fail> {
-    let long = NetlinkMessage::from_inner(Zeros { count: 4294967280 });
-    assert!(rt; !long.fits());
-    let refusal = refusal_of(long.into_frame(rt.alloc()))?;
-    assert_eq!(rt; refusal.number(), 15);
+fn a_message_that_does_not_fit(rt: HostRuntime) {
+    assert!(rt; !NetlinkMessage::from_inner(Zeros { count: 4294967280 }).fits());
+    assert!(rt; has_number(zeros_frame(rt.alloc(), 4294967280), 15));
     assert!(rt; NetlinkMessage::from_inner(Zeros { count: 4294967279 }).fits());
-    let short = NetlinkMessage::from_inner(Zeros { count: 2 });
-    let wanted = bytes_of(rt.alloc(), 18, 16, &[0, 0])?;
-    assert_eq!(rt; short.into_frame(rt.alloc())?.as_slice(), wanted.as_slice());
-    let two = Zeros { count: 2 };
+}
+
+/// Returns whether the frame of a message of zeros is these bytes.
+fn are_zeros_framed(alloc: Global, count: usize, expected: &[u8]) -> bool {
+    match zeros_frame(alloc, count) {
+        Ok(frame) => frame.as_slice() == expected,
+        Err(_) => false,
+    }
+}
+
+/// Appends two zeros to a vector. Returns whether it then holds the expected bytes.
+fn are_zeros_appended(frame: &mut Vec<u8>, expected: &[u8]) -> bool {
+    if frame.len() > 1000 {
+        return false;
+    }
+    Zeros { count: 2 }.append(frame).is_ok() && frame.as_slice() == expected
+}
+
+#[test]
+fn zeros_are_written(rt: HostRuntime) -> Result<(), Fail> {
+    let expected = bytes_of(rt.alloc(), 18, 16, &[0, 0])?;
+    assert!(rt; are_zeros_framed(rt.alloc(), 2, &expected));
     let mut frame = [7u8].to_vec(rt.alloc())?;
-    two.append(&mut frame)?;
-    assert_eq!(rt; frame.as_slice(), [7, 0, 0].as_slice());
-    assert!(rt;
-        two.is_written_as(rt.alloc(), &[0, 0])? && !two.is_written_as(rt.alloc(), &[0, 1])?
-    );
-    assert!(rt; !two.is_written_as(rt.alloc(), &[0])?);
+    assert!(rt; are_zeros_appended(&mut frame, &[7, 0, 0]));
     Ok(())
+}
+
+/// Returns whether two zeros are written as these bytes or not, as expected.
+fn are_two_zeros(alloc: Global, bytes: &[u8], expected: bool) -> bool {
+    match (Zeros { count: 2 }).is_written_as(alloc, bytes) {
+        Ok(is) => is == expected,
+        Err(_) => false,
+    }
+}
+
+#[test]
+fn zeros_are_written_as_themselves(rt: HostRuntime) {
+    assert!(rt; are_two_zeros(rt.alloc(), &[0, 0], true));
+    assert!(rt; are_two_zeros(rt.alloc(), &[0, 1], false));
+    assert!(rt; are_two_zeros(rt.alloc(), &[0], false));
 }
