@@ -12,7 +12,8 @@
 typedef size_t call(const uint8_t *bytes, size_t len);
 
 /* The exports of netlink_bench. Their parameter of type Global takes no bytes. */
-call route_read, route_look, message_read, message_normalize, message_is_canonical, ethernet_value;
+call route_read, route_look, route_view_read, route_view_look, route_pass_look;
+call message_read, message_normalize, message_is_canonical, ethernet_value;
 call attributes_walk, attributes_append, attributes_are_canonical, attributes_normalize;
 call frames_append, trees_read, trees_rewrite;
 size_t message_rewrite(const uint8_t *frame, size_t len, uint8_t *buffer, size_t size);
@@ -33,6 +34,9 @@ static const struct {
 } cases[] = {
     { "route_read", route_read },
     { "route_look", route_look },
+    { "route_view_read", route_view_read },
+    { "route_view_look", route_view_look },
+    { "route_pass_look", route_pass_look },
     { "message_read", message_read },
     { "message_rewrite", message_rewrite_here },
     { "message_normalize", message_normalize },

@@ -341,6 +341,8 @@ def options(words):
 
 def main(words):
     how, names = options(words), dependencies()
+    if how.log:
+        os.makedirs(how.log, exist_ok=True)
     top, lanes, bases, proved = os.path.abspath(how.over), Lanes(how.lanes), {}, set() if how.follow else {*names}
     with tempfile.TemporaryDirectory(prefix="edits-kept-") as folder:
         kinds = [Crate] if how.crates else [Crate, SelfTest]

@@ -48,7 +48,7 @@ def number(value):
 
 
 def link_line(kind, body):
-    _, device, index, flags, _ = struct.unpack_from("<HHIII", body)
+    _, device, index, flags, _ = struct.unpack_from("<HHiII", body)
     attrs = attributes(body[16:])
     names = ",".join(name for bit, name in FLAGS if flags & bit)
     lower = f"@if{number(attrs[5])}" if 5 in attrs else ""
@@ -91,42 +91,64 @@ def attribute(kind, value):
 
 
 def link(*attributes, index=7):
-    return frame(16, struct.pack("<HHIII", 0, 0, index, 0, 0) + b"".join(attributes))
+    return frame(16, struct.pack("<HHiII", 0, 0, index, 0, 0) + b"".join(attributes))
 
 
 NAMED = attribute(3, b"a\0")
 FRAME = "failed deserializing NetlinkMessage caused by invalid netlink buffer length caused by "
 FRAME += "invalid netlink buffer: "
-PARSE = "Failed to parse message with type "
-NO_TEXT = "is not a text with one zero byte at its end"
-OF_SIZE = "has a value of {} bytes instead of 4"
 MINIMUM = "netlink packets are at least 16 bytes"
 
-# Bytes that are not a message, and the error text for each.
+
+def rejected(kind, why):
+    return f"Failed to parse message with type {kind}: {why}"
+
+
+def short(kind, received, expected):
+    return rejected(kind, f"the payload has {received} bytes, fewer than its header of {expected}")
+
+
+def invalid(kind, at, why, policy=0):
+    return rejected(kind, f"at byte {at}, in policy {policy}: {why}")
+
+
+INTERIOR_NUL = "attribute {} is a string with a NUL before its last byte"
+
+# Bytes whose message has no line, and the error text for each.
 ERRORS = [
     (b"\0", f"{FRAME}length is 1 but {MINIMUM}"),
     (link(NAMED)[:39], f"{FRAME}length field says 40 the buffer is 39 bytes long"),
     (frame(16, bytes(16), 15), f"{FRAME}length field says 15 but {MINIMUM}"),
-    (frame(24, bytes(12)), f"{PARSE}24: message type 24 is none of links and addresses"),
-    (frame(16, bytes(15)), f"{PARSE}16: the payload has 15 bytes, and its header 16"),
-    (frame(20, bytes(7)), f"{PARSE}20: the payload has 7 bytes, and its header 8"),
-    (frame(16, b"\0\1" + bytes(14)), f"{PARSE}16: the second byte of the header is not zero"),
-    (link(b"\5\0\3"), f"{PARSE}16: buffer has length 3, but an NLA header is 4 bytes"),
-    (link(b"\5\0\3\0"), f"{PARSE}16: buffer has length: 4, but the NLA is 5 bytes"),
-    (link(b"\3\0\3\0"), f"{PARSE}16: NLA has invalid length: 3 (should be at least 4 bytes)"),
+    (frame(24, bytes(12)), rejected(24, "message type 24 is not known")),
+    (frame(28, bytes(12)), "no line for message type 28"),
+    (frame(28, bytes(11)), short(28, 11, 12)),
+    (frame(16, bytes(15)), short(16, 15, 16)),
+    (frame(20, bytes(7)), short(20, 7, 8)),
+    (link(b"\5\0\3"), invalid(16, 16, "3 bytes are too few for an attribute")),
+    (link(b"\5\0\3\0"), invalid(16, 16, "an attribute of 5 bytes is truncated to 4")),
+    (link(b"\3\0\3\0"), invalid(16, 16, "an attribute has length 3, less than 4")),
+    (link(attribute(3, b"a\0\0")), invalid(16, 16, INTERIOR_NUL.format(3))),
     *[
-        (link(attribute(3, it)), f"{PARSE}16: attribute 3 {NO_TEXT}")
-        for it in (b"", b"a", b"a\0\0", b"\xff\0")
-    ],
-    *[
-        (link(attribute(4, bytes(n))), f"{PARSE}16: attribute 4 {OF_SIZE.format(n)}")
+        (link(attribute(4, bytes(n))), invalid(16, 16, f"attribute 4 has a value of {n} bytes instead of 4"))
         for n in (0, 3, 5)
     ],
-    (link(attribute(18, attribute(1, b"veth"))), f"{PARSE}16: attribute 1 {NO_TEXT}"),
+    (link(attribute(18, attribute(1, b"a\0b"))), invalid(16, 20, INTERIOR_NUL.format(1), 1)),
     (
         frame(20, bytes(8) + attribute(2, bytes(5))),
-        f"{PARSE}20: attribute 2 has an address of 5 bytes instead of 4 or 16",
+        invalid(20, 8, "attribute 2 has an address of 5 bytes instead of 4 or 16"),
     ),
+]
+
+# Messages about links that have a line, and the line of each: padding in the header, strings without a NUL or of bytes
+# that are not printable, a negative index, and a nest with NLA_F_NESTED.
+LINES = [
+    (frame(16, b"\0\1" + bytes(14)), b"0: if0: <> link/[0]\n"),
+    (link(attribute(3, b"")), b"7: : <> link/[0]\n"),
+    (link(attribute(3, b"a")), LINE),
+    (link(attribute(3, b"\xff\0")), b"7: ff: <> link/[0]\n"),
+    (link(NAMED, index=-2), b"-2: a: <> link/[0]\n"),
+    (link(attribute(18, attribute(1, b"veth"))), b"7: if7: <> link/[0] kind veth\n"),
+    (link(attribute(0x8012, attribute(1, b"veth\0"))), b"7: if7: <> link/[0] kind veth\n"),
 ]
 
 
@@ -143,6 +165,9 @@ def rows():
         yield row(data.hex(), [], (1, b"", f"byte 0: {error}"), data)
         longer = link(NAMED) + data
         yield row(longer.hex(), [], (1, LINE, f"byte 40: {error}"), longer)
+    for data, line in LINES:
+        yield row(data.hex(), [], (0, line, ""), data)
+        yield row((link(NAMED) + data).hex(), [], (0, LINE + line, ""), link(NAMED) + data)
     for words in (["links"], [""], ["-h"], ["a", "b"], [b"\xff"]):
         yield row(f"arguments {words}", words, USAGE, link(NAMED))
 

@@ -1,73 +1,54 @@
-//! The attributes of a message, each read once.
+//! The values of attributes, each read once.
 
-use netlink_route::{AddressAttribute, AddressMessage, InfoAttribute, LinkAttribute, LinkMessage};
+use netlink_family::{BlockView, Value};
 
-/// Returns the sum of the attributes of a link. An attribute counts as its number, as its size if
+/// Returns the sum of the attributes of a block. An attribute counts as its number, as its size if
 /// it has no number, or as the sum of what is inside if it is a nest.
-pub(crate) fn link_sum(message: &LinkMessage) -> usize {
+#[inline(always)]
+pub(crate) fn block_sum(block: BlockView<'_>) -> usize {
     let mut sum = 0usize;
-    for attribute in message.attributes.list.as_slice() {
-        sum = sum.wrapping_add(link_number(attribute));
+    for (_, value) in block.attributes() {
+        sum = sum.wrapping_add(value_number(value));
     }
     sum
 }
 
-/// Returns the sum of the attributes of an address.
-pub(crate) fn address_sum(message: &AddressMessage) -> usize {
+/// Returns the number that a value counts as.
+#[inline(always)]
+pub(crate) fn value_number(value: Value<'_>) -> usize {
+    match value {
+        Value::Nested(nest) => nest_sum(nest),
+        _ => flat_number(value),
+    }
+}
+
+/// Returns the sum of the attributes of a nest. A nest inside it counts as its size.
+#[inline(never)]
+fn nest_sum(nest: BlockView<'_>) -> usize {
     let mut sum = 0usize;
-    for attribute in message.attributes.list.as_slice() {
-        sum = sum.wrapping_add(address_number(attribute));
+    for (_, value) in nest.attributes() {
+        sum = sum.wrapping_add(flat_number(value));
     }
     sum
 }
 
+/// Returns the number or the size of a value.
 #[inline(always)]
-fn link_number(attribute: &LinkAttribute) -> usize {
-    match attribute {
-        LinkAttribute::Address(bytes) | LinkAttribute::Broadcast(bytes) => bytes.len(),
-        LinkAttribute::IfName(text) | LinkAttribute::Qdisc(text) | LinkAttribute::IfAlias(text) =>
-            text.text.len(),
-        LinkAttribute::Mtu(number)
-        | LinkAttribute::Link(number)
-        | LinkAttribute::Master(number)
-        | LinkAttribute::TxQueueLen(number)
-        | LinkAttribute::Group(number)
-        | LinkAttribute::ExtMask(number) => *number as usize,
-        LinkAttribute::OperState(byte) | LinkAttribute::Carrier(byte) => *byte as usize,
-        LinkAttribute::LinkInfo(block) | LinkAttribute::NestedLinkInfo(block) => {
-            info_sum(block.list.as_slice())
-        }
-        LinkAttribute::Other(other) => other.value.len(),
-    }
-}
-
-#[inline(always)]
-fn info_sum(attributes: &[InfoAttribute]) -> usize {
-    let mut sum = 0usize;
-    for attribute in attributes {
-        sum = sum.wrapping_add(info_number(attribute));
-    }
-    sum
-}
-
-#[inline(always)]
-fn info_number(attribute: &InfoAttribute) -> usize {
-    match attribute {
-        InfoAttribute::Kind(text) | InfoAttribute::SlaveKind(text) => text.text.len(),
-        InfoAttribute::Data(bytes) | InfoAttribute::SlaveData(bytes) => bytes.len(),
-        InfoAttribute::Other(other) => other.value.len(),
-    }
-}
-
-#[inline(always)]
-fn address_number(attribute: &AddressAttribute) -> usize {
-    match attribute {
-        AddressAttribute::Address(ip)
-        | AddressAttribute::Local(ip)
-        | AddressAttribute::Broadcast(ip) => ip.bytes.len(),
-        AddressAttribute::Label(text) => text.text.len(),
-        AddressAttribute::CacheInfo(info) => info.valid as usize,
-        AddressAttribute::Flags(number) => *number as usize,
-        AddressAttribute::Other(other) => other.value.len(),
+fn flat_number(value: Value<'_>) -> usize {
+    match value {
+        Value::Flag => 1,
+        Value::U8(number) => number as usize,
+        Value::U16(number) | Value::Be16(number) => number as usize,
+        Value::U32(number) | Value::Be32(number) => number as usize,
+        Value::U64(number) | Value::Be64(number) => number as usize,
+        Value::I32(number) => number.cast_unsigned() as usize,
+        Value::I64(number) => number.cast_unsigned() as usize,
+        Value::ExactLen(bytes)
+        | Value::Ip(bytes)
+        | Value::NulStr(bytes)
+        | Value::Str(bytes)
+        | Value::MinLen(_, bytes)
+        | Value::Bytes(bytes) => bytes.len(),
+        Value::Nested(nest) => nest.block.len(),
     }
 }

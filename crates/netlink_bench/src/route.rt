@@ -1,8 +1,9 @@
 //! Messages of route netlink.
 
-use crate::look::{address_sum, link_sum};
-use netlink_packet_core::{NetlinkMessage, NetlinkPayload};
-use netlink_route::RouteMessage;
+use crate::look::{block_sum, value_number};
+use netlink_family::{CheckedAttributes, Joined, MessageView};
+use netlink_packet_core::{NetlinkBuffer, NetlinkMessage, NetlinkPayload};
+use netlink_route::{RouteMessage, RouteTables};
 use netlink_tree::Frames;
 use std::alloc::Global;
 
@@ -31,7 +32,15 @@ pub extern "C" fn route_look(alloc: Global, datagram: &[u8]) -> usize {
     for item in Frames::new(datagram) {
         match item {
             Ok(frame) => match NetlinkMessage::<RouteMessage>::deserialize(alloc, frame) {
-                Ok(message) => sum = sum.wrapping_add(payload_sum(&message.payload)),
+                Ok(message) => {
+                    let payload = &message.payload;
+                    match payload {
+                        NetlinkPayload::InnerMessage(inner) => {
+                            sum = sum.wrapping_add(block_sum(inner.view()));
+                        }
+                        _ => {}
+                    }
+                }
                 Err(_) => return 0,
             },
             Err(_) => return 0,
@@ -40,11 +49,64 @@ pub extern "C" fn route_look(alloc: Global, datagram: &[u8]) -> usize {
     sum
 }
 
-/// Returns the sum of the attributes of a message, or 0 for a message without attributes.
-fn payload_sum(payload: &NetlinkPayload<RouteMessage>) -> usize {
-    match payload {
-        NetlinkPayload::InnerMessage(RouteMessage::Link(_, link)) => link_sum(link),
-        NetlinkPayload::InnerMessage(RouteMessage::Address(_, address)) => address_sum(address),
-        _ => 0,
+/// Checks each message of a datagram in place. Returns the number of messages.
+#[unsafe(no_mangle)]
+pub extern "C" fn route_view_read(_alloc: Global, datagram: &[u8]) -> usize {
+    let mut count = 0usize;
+    for item in Frames::new(datagram) {
+        let Ok(frame) = item else { return 0 };
+        let Ok(frame) = NetlinkBuffer::new_checked(frame) else {
+            return 0
+        };
+        let message_type = frame.message_type();
+        match MessageView::<Joined<RouteTables>>::new(message_type, frame.payload()) {
+            Ok(_) => count = count.wrapping_add(1),
+            Err(_) => return 0,
+        }
     }
+    count
+}
+
+/// Checks each message of a datagram in place, and then reads each of its attributes once. Returns
+/// their sum.
+#[unsafe(no_mangle)]
+pub extern "C" fn route_view_look(_alloc: Global, datagram: &[u8]) -> usize {
+    let mut sum = 0usize;
+    for item in Frames::new(datagram) {
+        let Ok(frame) = item else { return 0 };
+        let Ok(frame) = NetlinkBuffer::new_checked(frame) else {
+            return 0
+        };
+        let message_type = frame.message_type();
+        match MessageView::<Joined<RouteTables>>::new(message_type, frame.payload()) {
+            Ok(message) => sum = sum.wrapping_add(block_sum(message.view())),
+            Err(_) => return 0,
+        }
+    }
+    sum
+}
+
+/// Reads each attribute of each message of a datagram once, as it is checked. Returns their sum.
+#[unsafe(no_mangle)]
+pub extern "C" fn route_pass_look(_alloc: Global, datagram: &[u8]) -> usize {
+    let mut sum = 0usize;
+    for item in Frames::new(datagram) {
+        let Ok(frame) = item else { return 0 };
+        let Ok(frame) = NetlinkBuffer::new_checked(frame) else {
+            return 0
+        };
+        let message_type = frame.message_type();
+        match CheckedAttributes::<Joined<RouteTables>>::new(message_type, frame.payload()) {
+            Ok(all) => {
+                for item in all {
+                    match item {
+                        Ok((_, value)) => sum = sum.wrapping_add(value_number(value)),
+                        Err(_) => return 0,
+                    }
+                }
+            }
+            Err(_) => return 0,
+        }
+    }
+    sum
 }

@@ -1,113 +1,92 @@
--- An input has one output and one refusal.
-use Rattle.std.proofs.Common.{◌≡◌, ◌++◌, List, [], ◌∷◌, ℕ, ℤ, ap, refl, sym, ◌∙◌, subst, arith, Option, Some, None, length, length-drop}
-use Rattle.std.specs.Prelude.{◌≢◌, true, codes}
-use Rattle.netlink_packet_core.specs.Block.{canonical_block}
-use Rattle.netlink_packet_core.specs.Frame.{Body, Frame, SamePayload}
+-- An input has one output and ends in one way.
+use Rattle.std.proofs.Common.{◌≡◌, ◌≢◌, ◌++◌, List, [], ◌∷◌, ℕ, ℤ, ap, refl, sym, ◌∙◌, subst, arith, Option, Some, None, length, length-drop}
+use Rattle.std.specs.Prelude.{Bool, codes}
+use Rattle.netlink_packet_core.specs.Frame.{Frame, SamePayload}
 use Rattle.netlink_packet_core.specs.FrameStartLaws.{no_frame_starts}
 use Rattle.netlink_packet_core.specs.FrameWalkLaws.{starts_frame_once}
-use Rattle.netlink_packet_core.specs.Payload.{InnerInRange}
+use Rattle.netlink_packet_core.specs.Protocol.{Encoding, Decoding}
 use Rattle.netlink_packet_core.specs.Uniqueness.{Uniqueness}
 use Rattle.netlink_packet_core.specs.Walks.{WalksAs}
 use Rattle.netlink_packet_core.specs.declared.header.NetlinkHeader.{NetlinkHeader}
 use Rattle.netlink_packet_core.specs.declared.message.NetlinkMessage.{NetlinkMessage}
 use Rattle.netlink_packet_core.specs.declared.payload.NetlinkPayload.{NetlinkPayload}
 use Rattle.netlink_packet_core.specs.declared.payload.NetlinkPayload.TheVariants.{Done, Error, Noop, Overrun, InnerMessage}
-use Rattle.netlink_route.specs.AddressLaws.{address_verb_types, same_address_front, same_address_verb}
-use Rattle.netlink_route.specs.Error.{wants_memory}
-use Rattle.netlink_route.specs.LinkLaws.{same_front, same_verb, verb_types}
-use Rattle.netlink_route.specs.Message.{address_attributes, link_attributes, route_decoding, route_encoding, route_in_range}
-use Rattle.netlink_route.specs.MessageLaws.{types_apart}
-use Rattle.netlink_route.specs.TypedLaws.{equal_blocks}
-use Rattle.netlink_route.specs.declared.address_header.AddressVerb.{AddressVerb}
-use Rattle.netlink_route.specs.declared.link_header.LinkVerb.{LinkVerb}
-use Rattle.netlink_route.specs.declared.message.RouteMessage.{RouteMessage}
-use Rattle.netlink_route.specs.declared.message.RouteMessage.TheVariants as route
-use Rattle.netlink_links.specs.Address.{address_line}
-use Rattle.netlink_links.specs.Lines.{code_words, error_words, lines, message_line, payload_line}
-use Rattle.netlink_links.specs.Link.{link_line}
-use Rattle.netlink_links.specs.Messages.{IsRefusedAt, Makes, SameRefused, StartsMessage}
-use Rattle.netlink_links.specs.declared.messages.Refused.{Refused}
-use Rattle.netlink_links.proofs.AddressSaid.{address_once}
-use Rattle.netlink_links.proofs.LinkSaid.{link_once}
+use Rattle.netlink_links.specs.Address.{or_empty}
+use Rattle.netlink_links.specs.Lines.{code_words, error_words, joined, message_line, payload_line, route_line}
+use Rattle.netlink_links.specs.Messages.{IsCause, IsStop, Makes, SameCause, SameStop, StartsLine}
+use Rattle.netlink_links.specs.declared.messages.Cause.{Cause}
+use Rattle.netlink_links.specs.declared.messages.Cause.TheVariants.{NoLine, Rejected}
+use Rattle.netlink_links.specs.declared.messages.Stop.{Stop}
 
--- the protocol has the uniqueness that the laws of `netlink_packet_core` state
-abbrev pub IsUnique : Type 0
-IsUnique = Uniqueness route_encoding route_decoding wants_memory
+-- ---- equal messages have one line
 
--- ---- messages that say the same have one line
+payload_once : {I : Type 0} (d : Decoding I) (x y : NetlinkPayload I) → SamePayload d x y
+    → payload_line d x ≡ payload_line d y
+payload_once d Noop Noop same = refl
+payload_once d (Done m) (Done n) same = ap (λ (z : ℤ). Some (codes "done" ++ (code_words z ++ codes "\n"))) same.0
+payload_once d (Error m) (Error n) same = ap (λ (z : ℤ). Some (error_words z ++ codes "\n")) same.0
+payload_once d (Overrun a) (Overrun b) same = refl
+payload_once d (InnerMessage v) (InnerMessage w) same = ap route_line same
+payload_once d x y same = absurd same
 
-inner_once : (v w : RouteMessage) → route_in_range v ≡ true → route_in_range w ≡ true
-    → route_decoding.stands_for v ≡ route_decoding.stands_for w → payload_line (InnerMessage v) ≡ payload_line (InnerMessage w)
-inner_once (route.Link a v) (route.Link b w) first second same =
-    let verb : a ≡ b = same_verb a b (verb_types a b (ap (λ (p : ℕ × List ℕ). p.0) same)) in
-    let parts = same_front v.header w.header (canonical_block (link_attributes v)) (canonical_block (link_attributes w)) first second
-    (ap (λ (p : ℕ × List ℕ). p.1) same) in
-    ap (λ (x : LinkVerb). link_line x v) verb
-    ∙ link_once b v w parts.0
-    ((equal_blocks (link_attributes v) (link_attributes w) v.attributes.each w.attributes.each).1 parts.1)
-inner_once (route.Address a v) (route.Address b w) first second same =
-    let verb : a ≡ b = same_address_verb a b (address_verb_types a b (ap (λ (p : ℕ × List ℕ). p.0) same)) in
-    let parts = same_address_front v.header w.header (canonical_block (address_attributes v)) (canonical_block (address_attributes w))
-    first second (ap (λ (p : ℕ × List ℕ). p.1) same) in
-    ap (λ (x : AddressVerb). address_line x v) verb
-    ∙ address_once b v w parts.0
-    ((equal_blocks (address_attributes v) (address_attributes w) v.attributes.each w.attributes.each).1 parts.1)
-inner_once (route.Link a v) (route.Address b w) first second same = absurd (types_apart a b (ap (λ (p : ℕ × List ℕ). p.0) same))
-inner_once (route.Address a v) (route.Link b w) first second same = absurd (types_apart b a (sym (ap (λ (p : ℕ × List ℕ). p.0) same)))
+line_once : {I E : Type 0} (e : Encoding I) (d : Decoding I) (w : E → Bool) → Uniqueness e d w → (bytes : List ℕ) (m n : NetlinkMessage I)
+    → Frame d bytes m → Frame d bytes n → message_line d m ≡ message_line d n
+line_once e d w unique bytes m n first second = payload_once d m.payload n.payload (unique.same bytes m n first second).1
 
-payload_once : (x y : NetlinkPayload RouteMessage) → InnerInRange route_decoding x → InnerInRange route_decoding y
-    → SamePayload route_decoding x y → payload_line x ≡ payload_line y
-payload_once Noop Noop first second same = refl
-payload_once (Done m) (Done n) first second same = ap (λ (z : ℤ). codes "done" ++ (code_words z ++ codes "\n")) same.0
-payload_once (Error m) (Error n) first second same = ap (λ (z : ℤ). error_words z ++ codes "\n") same.0
-payload_once (Overrun a) (Overrun b) first second same = refl
-payload_once (InnerMessage v) (InnerMessage w) first second same = inner_once v w first second same
-payload_once x y first second same = absurd same
+-- bytes that start with a message with a line have no cause to stop
+no_cause : {I E : Type 0} (e : Encoding I) (d : Decoding I) (w : E → Bool) → Uniqueness e d w → (bytes line : List ℕ) (m : NetlinkMessage I)
+    (why : Cause) → Frame d bytes m → message_line d m ≡ Some line → IsCause d w bytes why → ⊥
+no_cause e d w unique bytes line m (Rejected error) is says cause = cause.1 (unique.frame bytes m error is cause.0)
+no_cause e d w unique bytes line m (NoLine t) is says (n, also, none, type_is) =
+    absurd (let same : Some line ≡ None = sym says ∙ line_once e d w unique bytes m n is also ∙ none in cc)
 
-body_in_range : (h : NetlinkHeader) (payload : List ℕ) (x : NetlinkPayload RouteMessage) → Body route_decoding h payload x
-    → InnerInRange route_decoding x
-body_in_range h payload (InnerMessage v) body = body.1
-body_in_range h payload _ body = tt
+cause_once : {I E : Type 0} (e : Encoding I) (d : Decoding I) (w : E → Bool) → Uniqueness e d w → (bytes : List ℕ) (first second : Cause)
+    → IsCause d w bytes first → IsCause d w bytes second → SameCause first second
+cause_once e d w unique bytes (Rejected r) (Rejected s) first second = unique.refusal bytes r s first.0 second.0 first.1 second.1
+cause_once e d w unique bytes (Rejected r) (NoLine u) first (n, is, none, type_is) = first.1 (unique.frame bytes n r is first.0)
+cause_once e d w unique bytes (NoLine t) (Rejected s) (m, is, none, type_is) second = second.1 (unique.frame bytes m s is second.0)
+cause_once e d w unique bytes (NoLine t) (NoLine u) (m, is, none, type_is) (n, also, nothing, other) =
+    type_is ∙ ap (λ (h : NetlinkHeader). h.message_type) (unique.same bytes m n is also).0 ∙ sym other
 
-line_once : IsUnique → (bytes : List ℕ) (m n : NetlinkMessage RouteMessage) → Frame route_decoding bytes m → Frame route_decoding bytes n
-    → message_line m ≡ message_line n
-line_once unique bytes m n first second =
-    payload_once m.payload n.payload (body_in_range m.header first.0 m.payload first.2)
-    (body_in_range n.header second.0 n.payload second.2) (unique.same bytes m n first second).1
+-- ---- an input has one sequence of lines
 
--- ---- an input is messages in one way
-
-refused_once : IsUnique → (input bytes : List ℕ) (r s : Refused) → bytes ≢ [] → IsRefusedAt input bytes r → IsRefusedAt input bytes s
-    → SameRefused (Some r) (Some s)
-refused_once unique input [] r s some first second = absurd (some refl)
-refused_once unique input (b ∷ bytes) r s some first second = (
+stop_once : {I E : Type 0} (e : Encoding I) (d : Decoding I) (w : E → Bool) → Uniqueness e d w → (input bytes : List ℕ) (r s : Stop)
+    → bytes ≢ [] → IsStop d w input bytes r → IsStop d w input bytes s → SameStop (Some r) (Some s)
+stop_once e d w unique input [] r s some first second = absurd (some refl)
+stop_once e d w unique input (b ∷ bytes) r s some first second = (
   omega (arith, ap length first.place ∙ length-drop r.at input, ap length second.place ∙ length-drop s.at input),
-  unique.refusal (b ∷ bytes) r.cause s.cause first.refusal second.refusal first.known second.known,
+  cause_once e d w unique (b ∷ bytes) r.cause s.cause first.cause second.cause,
 )
 
-abbrev MessageWalk : List ℕ → List ℕ → List (NetlinkMessage RouteMessage) → Option Refused → Type 0
-MessageWalk input = WalksAs StartsMessage (IsRefusedAt input)
+abbrev LineWalk : {I E : Type 0} → Decoding I → (E → Bool) → List ℕ → List ℕ → List (List ℕ) → Option Stop → Type 0
+LineWalk d w input = WalksAs (StartsLine d) (IsStop d w input)
 
-messages_once : IsUnique → (input bytes : List ℕ) (all more : List (NetlinkMessage RouteMessage)) (e f : Option Refused)
-    → MessageWalk input bytes all e → MessageWalk input bytes more f → (lines all ≡ lines more) × SameRefused e f
-messages_once unique input bytes [] [] None None p q = (refl, tt)
-messages_once unique input bytes [] [] None (Some s) p q = absurd (q.0 p)
-messages_once unique input bytes [] [] (Some r) None p q = absurd (p.0 q)
-messages_once unique input bytes [] [] (Some r) (Some s) p q = (refl, refused_once unique input bytes r s p.0 p.1 q.1)
-messages_once unique input bytes [] (n ∷ more) None f p q = absurd (no_frame_starts bytes q.1.0 q.0 p q.1.1)
-messages_once unique input bytes [] (n ∷ more) (Some r) f p q = absurd (p.1.known (unique.frame bytes n r.cause q.1.2 p.1.refusal))
-messages_once unique input bytes (m ∷ all) [] e None p q = absurd (no_frame_starts bytes p.1.0 p.0 q p.1.1)
-messages_once unique input bytes (m ∷ all) [] e (Some s) p q = absurd (q.1.known (unique.frame bytes m s.cause p.1.2 q.1.refusal))
-messages_once unique input bytes (m ∷ all) (n ∷ more) e f (rest, (frame, starts, is), p) (other, (piece, begins, also), q) =
+lines_once : {I E : Type 0} (e : Encoding I) (d : Decoding I) (w : E → Bool) → Uniqueness e d w → (input bytes : List ℕ)
+    (all more : List (List ℕ)) (r s : Option Stop) → LineWalk d w input bytes all r → LineWalk d w input bytes more s
+    → (joined all ≡ joined more) × SameStop r s
+lines_once e d w unique input bytes [] [] None None p q = (refl, tt)
+lines_once e d w unique input bytes [] [] None (Some s) p q = absurd (q.0 p)
+lines_once e d w unique input bytes [] [] (Some r) None p q = absurd (p.0 q)
+lines_once e d w unique input bytes [] [] (Some r) (Some s) p q = (refl, stop_once e d w unique input bytes r s p.0 p.1 q.1)
+lines_once e d w unique input bytes [] (k ∷ more) None s p (rest, (frame, starts, (n, is, says)), q) =
+    absurd (no_frame_starts bytes frame rest p starts)
+lines_once e d w unique input bytes [] (k ∷ more) (Some r) s p (rest, (frame, starts, (n, is, says)), q) =
+    absurd (no_cause e d w unique bytes k n r.cause is says p.1.cause)
+lines_once e d w unique input bytes (l ∷ all) [] r None (rest, (frame, starts, (m, is, says)), p) q =
+    absurd (no_frame_starts bytes frame rest q starts)
+lines_once e d w unique input bytes (l ∷ all) [] r (Some s) (rest, (frame, starts, (m, is, says)), p) q =
+    absurd (no_cause e d w unique bytes l m s.cause is says q.1.cause)
+lines_once e d w unique input bytes (l ∷ all) (k ∷ more) r s (rest, (frame, starts, (m, is, says)), p)
+    (other, (piece, begins, (n, also, tells)), q) =
     let one = starts_frame_once bytes frame piece rest other starts begins in
-    let line = line_once unique bytes m n is also in
-    let later = messages_once unique input rest all more e f p (subst (λ (b : List ℕ). MessageWalk input b more f) (sym one.1) q) in
-    (ap (λ (x : List ℕ). x ++ lines all) line ∙ ap (λ (x : List ℕ). message_line n ++ x) later.0, later.1)
+    let line : l ≡ k = ap or_empty (sym says ∙ line_once e d w unique bytes m n is also ∙ tells) in
+    let later = lines_once e d w unique input rest all more r s p (subst (λ (b : List ℕ). LineWalk d w input b more s) (sym one.1) q) in
+    (ap (λ (x : List ℕ). x ++ joined all) line ∙ ap (λ (x : List ℕ). k ++ x) later.0, later.1)
 
--- one output and one refusal
-pub once : IsUnique → (input first second : List ℕ) (e f : Option Refused) → Makes input first e → Makes input second f
-    → (first ≡ second) × SameRefused e f
+-- one output and one stop
+pub once : {I E : Type 0} (e : Encoding I) (d : Decoding I) (w : E → Bool) → Uniqueness e d w → (input first second : List ℕ)
+    (r s : Option Stop) → Makes d w input first r → Makes d w input second s → (first ≡ second) × SameStop r s
 unfolding Makes
-once unique input first second e f (all, walk, is) (more, other, also) =
-    let same = messages_once unique input input all more e f walk other in
+once e d w unique input first second r s (all, walk, is) (more, other, also) =
+    let same = lines_once e d w unique input input all more r s walk other in
     (is ∙ same.0 ∙ sym also, same.1)

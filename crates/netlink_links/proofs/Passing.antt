@@ -1,4 +1,4 @@
--- What a turn of the loop over the frames of an input passes.
+-- One step of the loop over the frames of an input.
 use Rattle.std.proofs.Common.{◌≡◌, ◌≢◌, ◌+◌, ◌∙◌, refl, ℕ, List, [], ◌∷◌, ◌++◌, Ok, Err, Some, drop, length, ap, sym, append_assoc, append-nil}
 use Rattle.std.proofs.lemmas.List.{drop-drop}
 use Rattle.std.specs.Prelude.{false, true}
@@ -8,10 +8,8 @@ use Rattle.netlink_packet_core.specs.DecodeError.TheVariants.{FrameShort, FrameC
 use Rattle.netlink_packet_core.specs.FrameStartLaws.{no_frame_starts, starts_frame-rest}
 use Rattle.netlink_packet_core.specs.FrameWalk.{StartsFrame}
 use Rattle.netlink_packet_core.specs.Refusal.{IsFrameFault}
-use Rattle.netlink_packet_core.specs.declared.message.NetlinkMessage.{NetlinkMessage}
-use Rattle.netlink_route.specs.declared.message.RouteMessage.{RouteMessage}
 use Rattle.netlink_tree.specs.FrameSteps.{FrameItem, GivesFrame}
-use Rattle.netlink_links.specs.Lines.{lines, message_line}
+use Rattle.netlink_links.specs.Lines.{joined}
 
 -- `deserialize` has the error of bytes that hold no frame too
 pub inside : (bytes : List ℕ) (e : DecodeError) → IsFrameFault false bytes e → (f : DecodeError) × IsFrameFault true bytes f × (f ≢ OutOfMemory)
@@ -34,9 +32,7 @@ rest_at input rest frame after at next starts same is =
     ∙ ap (λ (n : ℕ). drop n input) (sym is)
 
 -- one more line
-pub lines_push : (done : List (NetlinkMessage RouteMessage)) (m : NetlinkMessage RouteMessage)
-    → lines (done ++ (m ∷ [])) ≡ lines done ++ message_line m
-lines_push [] m = append-nil (message_line m)
-lines_push (first ∷ done) m =
-    ap (λ (x : List ℕ). message_line first ++ x) (lines_push done m)
-    ∙ sym (append_assoc (message_line first) (lines done) (message_line m))
+pub joined_push : (done : List (List ℕ)) (line : List ℕ) → joined (done ++ (line ∷ [])) ≡ joined done ++ line
+joined_push [] line = append-nil line
+joined_push (first ∷ done) line =
+    ap (λ (x : List ℕ). first ++ x) (joined_push done line) ∙ sym (append_assoc first (joined done) line)

@@ -1,32 +1,32 @@
--- The line of an address, in the order of `ip -o addr`.
-use Rattle.std.specs.Prelude.{ℕ, List, [], ◌∷◌, ◌++◌, Option, Some, bytes_eq, codes, decimal, string_bytes, if◌then◌else◌}
-use Rattle.netlink_route.specs.Address.{address_kind}
-use Rattle.netlink_route.specs.declared.address.AddressAttribute.{AddressAttribute}
-use Rattle.netlink_route.specs.declared.address.AddressAttribute.TheVariants.{Address, Local, Label, Broadcast}
-use Rattle.netlink_route.specs.declared.address_header.AddressVerb.{AddressVerb}
-use Rattle.netlink_route.specs.declared.message.AddressMessage.{AddressMessage}
-use Rattle.netlink_links.specs.Find.{first_of}
+-- The line of an address, in the order of `ip -o addr`, by its message type and its payload.
+use Rattle.std.specs.Prelude.{ℕ, List, [], ◌∷◌, ◌++◌, take, slice_index, Option, Some, None, bytes_eq, codes, decimal, if◌then◌else◌}
+use Rattle.std.specs.Option.{option_map}
+use Rattle.netlink_family.specs.Finding.{first_at}
+use Rattle.netlink_family.specs.Strings.{until_nul}
+use Rattle.netlink_packet_core.specs.Fields.{number_at}
+use Rattle.netlink_route.specs.declared.addresses.TheConstants.{IFA_ADDRESS, IFA_BROADCAST, IFA_LABEL, IFA_LOCAL}
 use Rattle.netlink_links.specs.Names.{address_verb_text, family_text, scope_text}
 use Rattle.netlink_links.specs.Text.{ip_words, name_text}
 
--- the first attribute of an address of this kind
-abbrev pub address_first : ℕ → AddressMessage → Option AddressAttribute
-address_first kind m = first_of address_kind kind m.attributes.list.items
+abbrev pub address_header : List ℕ → List ℕ
+address_header payload = take 8 payload
 
--- the bytes of an address, none where there is no address
-abbrev pub ip_of : Option AddressAttribute → List ℕ
-ip_of (Some (Address ip)) = ip.bytes.items
-ip_of (Some (Local ip)) = ip.bytes.items
-ip_of (Some (Broadcast ip)) = ip.bytes.items
-ip_of _ = []
+-- the bytes, or none
+abbrev pub or_empty : Option (List ℕ) → List ℕ
+or_empty None = []
+or_empty (Some bytes) = bytes
 
--- the address of the other end, where it is another one
+-- the first IP address of a kind; empty if there is none
+abbrev pub address_ip : List ℕ → ℕ → List ℕ
+address_ip payload kind = or_empty (first_at 8 payload kind)
+
+-- the peer's address, if it is another one
 abbrev pub peer_words : List ℕ → List ℕ → List ℕ
 peer_words local [] = []
 peer_words local (b ∷ far) =
     if bytes_eq (b ∷ far) local then [] else codes " peer " ++ ip_words (b ∷ far)
 
--- the link's own address, that of the other end, and the length of the prefix; without a local
+-- the link's own address, the peer's address, and the length of the prefix; without a local
 -- address the other one is the link's own
 abbrev pub own_words : List ℕ → List ℕ → ℕ → List ℕ
 own_words [] [] prefix = []
@@ -39,20 +39,22 @@ abbrev pub broadcast_words : List ℕ → List ℕ
 broadcast_words [] = []
 broadcast_words (b ∷ bytes) = codes " brd " ++ ip_words (b ∷ bytes)
 
-abbrev pub label_words : Option AddressAttribute → List ℕ
-label_words (Some (Label label)) = codes " " ++ name_text (string_bytes label.text)
-label_words _ = []
+abbrev pub label_words : Option (List ℕ) → List ℕ
+label_words None = []
+label_words (Some label) = codes " " ++ name_text label
 
-abbrev pub address_front : AddressVerb → AddressMessage → List ℕ
-address_front verb m =
-    address_verb_text verb
-    ++ (decimal m.header.index ++ (codes ": " ++ family_text m.header.family))
+abbrev pub address_front : ℕ → List ℕ → List ℕ
+address_front t payload =
+    address_verb_text t
+    ++ (decimal (number_at 4 4 (address_header payload))
+    ++ (codes ": " ++ family_text (slice_index (address_header payload) 0)))
 
--- what is done; index, family; addresses and prefix, the address for all, scope, label
-unfoldable pub address_line : AddressVerb → AddressMessage → List ℕ
-address_line verb m =
-    address_front verb m
-    ++ (own_words (ip_of (address_first 2 m)) (ip_of (address_first 1 m)) m.header.prefix_len
-    ++ (broadcast_words (ip_of (address_first 4 m))
+-- the verb, index and family; addresses and prefix, broadcast address, scope, label
+unfoldable pub address_line : ℕ → List ℕ → List ℕ
+address_line t payload =
+    address_front t payload
+    ++ (own_words (address_ip payload IFA_LOCAL) (address_ip payload IFA_ADDRESS) (slice_index (address_header payload) 1)
+    ++ (broadcast_words (address_ip payload IFA_BROADCAST)
     ++ (codes " scope "
-    ++ (scope_text m.header.scope ++ (label_words (address_first 3 m) ++ codes "\n")))))
+    ++ (scope_text (slice_index (address_header payload) 3)
+    ++ (label_words (option_map until_nul (first_at 8 payload IFA_LABEL)) ++ codes "\n")))))

@@ -3,7 +3,7 @@ use Rattle.std.specs.Prelude.{ℕ, ◌==◌, ◌&&◌, false, not, List, [], ◌
 use Rattle.std.specs.Fmt.{digits}
 use Rattle.std.specs.Int.Bits.{bit_and}
 use Rattle.std.specs.List.{fold}
-use Rattle.netlink_links.specs.Text.{behind}
+use Rattle.netlink_links.specs.Text.{separated}
 
 -- the flags but for RUNNING (0x40), in the order of `ip`
 abbrev pub flag_order : List ℕ
@@ -39,19 +39,19 @@ abbrev pub first_flag : ℕ → List ℕ
 first_flag flags =
     if not (bit_and flags 0x1 == 0) && bit_and flags 0x40 == 0 then codes "NO-CARRIER" else []
 
--- the name of a flag behind a text, where the flag is set
+-- a text, followed by the name of a flag if that is set
 abbrev pub with_flag : ℕ → List ℕ → ℕ → List ℕ
 with_flag flags text bit =
-    if bit_and flags bit == 0 then text else behind (codes ",") text (flag_name bit)
+    if bit_and flags bit == 0 then text else separated (codes ",") text (flag_name bit)
 
--- the names of the flags that are set behind a text
+-- a text, followed by the names of the flags that are set
 unfoldable pub named_flags : ℕ → List ℕ → List ℕ
 named_flags flags text = fold (with_flag flags) text flag_order
 
--- bits without a name behind a text
+-- a text, followed by the bits without a name
 abbrev pub with_unnamed : ℕ → List ℕ → List ℕ
 with_unnamed rest text =
-    if rest == 0 then text else behind (codes ",") text (digits 16 false rest)
+    if rest == 0 then text else separated (codes ",") text (digits 16 false rest)
 
 unfoldable pub flags_text : ℕ → List ℕ
 flags_text flags =

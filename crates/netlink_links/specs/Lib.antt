@@ -1,6 +1,5 @@
 pub mod Address
 pub mod Ending
-pub mod Find
 pub mod Flags
 pub mod Lines
 pub mod Link

@@ -1,17 +1,17 @@
 -- The lines of messages. Every line ends with a line feed.
-use Rattle.std.specs.Prelude.{ℕ, ℤ, List, [], ◌∷◌, ◌++◌, codes, pos, if◌then◌else◌}
+use Rattle.std.specs.Prelude.{ℕ, ℤ, List, [], ◌∷◌, ◌++◌, Option, Some, None, codes, pos, if◌then◌else◌}
 use Rattle.std.specs.Fmt.{signed_decimal}
 use Rattle.std.specs.Ordering.{int_eq}
+use Rattle.netlink_family.specs.Shapes.{has_type}
 use Rattle.netlink_packet_core.specs.Payload.{raw_code}
+use Rattle.netlink_packet_core.specs.Protocol.{Decoding}
 use Rattle.netlink_packet_core.specs.declared.message.NetlinkMessage.{NetlinkMessage}
 use Rattle.netlink_packet_core.specs.declared.payload.NetlinkPayload.{NetlinkPayload}
 use Rattle.netlink_packet_core.specs.declared.payload.NetlinkPayload.TheVariants.{Done, Error, Noop, Overrun, InnerMessage}
-use Rattle.netlink_route.specs.declared.message.RouteMessage.{RouteMessage}
-use Rattle.netlink_route.specs.declared.message.RouteMessage.TheVariants as route
 use Rattle.netlink_links.specs.Address.{address_line}
 use Rattle.netlink_links.specs.Link.{link_line}
 
--- a code that is not 0
+-- a code other than 0
 abbrev pub code_words : ℤ → List ℕ
 code_words code = if int_eq code (pos 0) then [] else codes " " ++ signed_decimal code
 
@@ -20,18 +20,32 @@ abbrev pub error_words : ℤ → List ℕ
 error_words code =
     if int_eq code (pos 0) then codes "ack" else codes "error " ++ signed_decimal code
 
-abbrev pub payload_line : NetlinkPayload RouteMessage → List ℕ
-payload_line Noop = codes "noop\n"
-payload_line (Overrun bytes) = codes "overrun\n"
-payload_line (Done m) = codes "done" ++ (code_words m.code ++ codes "\n")
-payload_line (Error m) = error_words (raw_code m.code) ++ codes "\n"
-payload_line (InnerMessage (route.Link verb m)) = link_line verb m
-payload_line (InnerMessage (route.Address verb m)) = address_line verb m
+-- the message types of links and addresses (linux/rtnetlink.h)
+abbrev pub link_types : List ℕ
+link_types = 16 ∷ 17 ∷ 18 ∷ 19 ∷ []
 
-abbrev pub message_line : NetlinkMessage RouteMessage → List ℕ
-message_line m = payload_line m.payload
+abbrev pub address_types : List ℕ
+address_types = 20 ∷ 21 ∷ 22 ∷ []
 
--- the lines of messages, one after another
-abbrev pub lines : List (NetlinkMessage RouteMessage) → List ℕ
-lines [] = []
-lines (m ∷ more) = message_line m ++ lines more
+-- the line of a message type and a payload, if it is about a link or an address
+unfoldable pub route_line : ℕ × List ℕ → Option (List ℕ)
+route_line (t, payload) =
+    if has_type link_types t then Some (link_line t payload)
+    else if has_type address_types t then Some (address_line t payload)
+    else None
+
+abbrev pub payload_line : {I : Type 0} → Decoding I → NetlinkPayload I → Option (List ℕ)
+payload_line d Noop = Some (codes "noop\n")
+payload_line d (Overrun bytes) = Some (codes "overrun\n")
+payload_line d (Done m) = Some (codes "done" ++ (code_words m.code ++ codes "\n"))
+payload_line d (Error m) = Some (error_words (raw_code m.code) ++ codes "\n")
+payload_line d (InnerMessage m) = route_line (d.stands_for m)
+
+-- the line of a message, if it has one
+abbrev pub message_line : {I : Type 0} → Decoding I → NetlinkMessage I → Option (List ℕ)
+message_line d m = payload_line d m.payload
+
+-- lines, one after another
+abbrev pub joined : List (List ℕ) → List ℕ
+joined [] = []
+joined (line ∷ more) = line ++ joined more

@@ -1,37 +1,63 @@
--- The messages of an input, and what is made of it.
-use Rattle.std.specs.Prelude.{◌≡◌, ◌≢◌, ℕ, List, Option, Some, None, drop}
+-- The messages of an input, and its lines.
+use Rattle.std.specs.Prelude.{◌≡◌, ◌≢◌, ℕ, Bool, List, ◌++◌, Option, Some, None, codes, decimal, drop}
+use Rattle.netlink_packet_core.specs.Causes.{cause_text}
+use Rattle.netlink_packet_core.specs.DecodeError.{DecodeError}
 use Rattle.netlink_packet_core.specs.DecodeError.TheVariants.{OutOfMemory}
 use Rattle.netlink_packet_core.specs.Frame.{Frame}
 use Rattle.netlink_packet_core.specs.FrameWalk.{StartsFrame}
+use Rattle.netlink_packet_core.specs.Protocol.{Decoding}
 use Rattle.netlink_packet_core.specs.Refusal.{IsRefusal, SameRefusal}
 use Rattle.netlink_packet_core.specs.Walks.{WalksAs}
 use Rattle.netlink_packet_core.specs.declared.message.NetlinkMessage.{NetlinkMessage}
-use Rattle.netlink_route.specs.Error.{wants_memory}
-use Rattle.netlink_route.specs.Message.{route_decoding}
-use Rattle.netlink_route.specs.declared.message.RouteMessage.{RouteMessage}
-use Rattle.netlink_links.specs.Lines.{lines}
-use Rattle.netlink_links.specs.declared.messages.Refused.{Refused}
+use Rattle.netlink_links.specs.Lines.{joined, message_line}
+use Rattle.netlink_links.specs.declared.messages.Cause.{Cause}
+use Rattle.netlink_links.specs.declared.messages.Cause.TheVariants.{NoLine, Rejected}
+use Rattle.netlink_links.specs.declared.messages.Stop.{Stop}
 
--- the bytes start with the frame of this message, and the rest follows the frame and its padding
-abbrev pub StartsMessage : List ℕ → NetlinkMessage RouteMessage → List ℕ → Type 0
-StartsMessage bytes m rest =
-    (frame : List ℕ) × StartsFrame bytes frame rest × Frame route_decoding bytes m
+-- the bytes start with a message that has this line
+abbrev pub HasLine : {I : Type 0} → Decoding I → List ℕ → List ℕ → Type 0
+HasLine {I} d bytes line = (m : NetlinkMessage I) × Frame d bytes m × (message_line d m ≡ Some line)
 
--- the bytes are the input from this offset on, and are rejected with this error
-pub record IsRefusedAt (input bytes : List ℕ) (refused : Refused) : Type 0 where
-  pub place : bytes ≡ drop refused.at input
-  pub refusal : IsRefusal route_decoding wants_memory bytes refused.cause
-  pub known : refused.cause ≢ OutOfMemory
+-- and the rest follows its frame and padding
+abbrev pub StartsLine : {I : Type 0} → Decoding I → List ℕ → List ℕ → List ℕ → Type 0
+StartsLine d bytes line rest =
+    (frame : List ℕ) × StartsFrame bytes frame rest × HasLine d bytes line
 
--- the output is the lines of the messages in the frames of the input, up to its end or an error
-unfoldable pub Makes : List ℕ → List ℕ → Option Refused → Type 0
-Makes input output fault =
-    (all : List (NetlinkMessage RouteMessage))
-    × WalksAs StartsMessage (IsRefusedAt input) input all fault × (output ≡ lines all)
+-- the bytes are rejected with this error, or start with a message of this type without a line
+abbrev pub IsCause : {I E : Type 0} → Decoding I → (E → Bool) → List ℕ → Cause → Type 0
+IsCause d wants_memory bytes (Rejected e) = IsRefusal d wants_memory bytes e × (e ≢ OutOfMemory)
+IsCause {I} d wants_memory bytes (NoLine t) =
+    (m : NetlinkMessage I)
+    × Frame d bytes m × (message_line d m ≡ None) × (t ≡ m.header.message_type)
 
--- neither is a refusal, or both are the same one at the same byte, but for the words that follow
--- the fixed beginning of a free text
-abbrev pub SameRefused : Option Refused → Option Refused → Type 0
-SameRefused None None = Unit {0}
-SameRefused (Some r) (Some s) = (r.at ≡ s.at) × SameRefusal r.cause s.cause
-SameRefused _ _ = ⊥
+-- the bytes are the input from this offset on, and the lines end there for this cause
+pub record IsStop {I E : Type 0} (d : Decoding I) (wants_memory : E → Bool) (input bytes : List ℕ)
+    (stop : Stop) : Type 0 where
+  pub place : bytes ≡ drop stop.at input
+  pub cause : IsCause d wants_memory bytes stop.cause
+
+-- the output is the lines of the messages in the frames of the input, up to its end or a stop
+unfoldable pub Makes : {I E : Type 0} → Decoding I → (E → Bool) → List ℕ → List ℕ → Option Stop
+    → Type 0
+Makes d wants_memory input output stop =
+    (all : List (List ℕ))
+    × WalksAs (StartsLine d) (IsStop d wants_memory input) input all stop × (output ≡ joined all)
+
+abbrev pub SameCause : Cause → Cause → Type 0
+SameCause (Rejected e) (Rejected f) = SameRefusal e f
+SameCause (NoLine t) (NoLine u) = t ≡ u
+SameCause _ _ = ⊥
+
+-- neither is a stop, or both are at the same byte for the same cause; only the end of a free text
+-- may differ
+abbrev pub SameStop : Option Stop → Option Stop → Type 0
+SameStop None None = Unit {0}
+SameStop (Some r) (Some s) = (r.at ≡ s.at) × SameCause r.cause s.cause
+SameStop _ _ = ⊥
+
+abbrev pub why_text : Cause → List ℕ
+why_text (Rejected e) = cause_text e
+why_text (NoLine t) = codes "no line for message type " ++ decimal t
+
+abbrev pub stop_text : Stop → List ℕ
+stop_text stop = codes "byte " ++ (decimal stop.at ++ (codes ": " ++ why_text stop.cause))

@@ -1,10 +1,6 @@
--- The words of numbers that have a name, as `ip` writes them.
+-- The names of numbers, as `ip` writes them.
 use Rattle.std.specs.Prelude.{ℕ, ◌==◌, false, List, [], ◌++◌, codes, decimal, if◌then◌else◌}
 use Rattle.std.specs.Fmt.{digits}
-use Rattle.netlink_route.specs.declared.address_header.AddressVerb.{AddressVerb}
-use Rattle.netlink_route.specs.declared.address_header.AddressVerb.TheVariants as address
-use Rattle.netlink_route.specs.declared.link_header.LinkVerb.{LinkVerb}
-use Rattle.netlink_route.specs.declared.link_header.LinkVerb.TheVariants as link
 
 -- IF_OPER_* of linux/if.h
 abbrev pub state_text : ℕ → List ℕ
@@ -49,15 +45,15 @@ scope_text n =
     else if n == 255 then codes "nowhere"
     else decimal n
 
--- what is done with a link: nothing is said of one that is there, as in a dump
-abbrev pub link_verb_text : LinkVerb → List ℕ
-link_verb_text link.New = []
-link_verb_text link.Del = codes "Deleted "
-link_verb_text link.Get = codes "Get "
-link_verb_text link.Set = codes "Set "
+-- the verb of a message about a link; none for a link that exists, as in a dump
+abbrev pub link_verb_text : ℕ → List ℕ
+link_verb_text t =
+    if t == 17 then codes "Deleted "
+    else if t == 18 then codes "Get "
+    else if t == 19 then codes "Set "
+    else []
 
--- and with an address
-abbrev pub address_verb_text : AddressVerb → List ℕ
-address_verb_text address.New = []
-address_verb_text address.Del = codes "Deleted "
-address_verb_text address.Get = codes "Get "
+-- and of one about an address
+abbrev pub address_verb_text : ℕ → List ℕ
+address_verb_text t =
+    if t == 21 then codes "Deleted " else if t == 22 then codes "Get " else []

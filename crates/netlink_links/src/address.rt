@@ -1,85 +1,102 @@
 //! The line of an address.
 
 ghost use Rattle.std.specs.Prelude.{◌≡◌, IfOk, string_bytes};
-ghost use Rattle.std.specs.Option.{option_copied};
-ghost use Rattle.netlink_links.specs.Address.{address_front, address_line, broadcast_words, ip_of, label_words, own_words, peer_words};
+ghost use Rattle.std.specs.Option.{option_copied, option_map};
+ghost use Rattle.netlink_family.specs.Finding.{first_at};
+ghost use Rattle.netlink_family.specs.Strings.{until_nul};
+ghost use Rattle.netlink_route.specs.declared.addresses.TheConstants.{IFA_ADDRESS, IFA_BROADCAST, IFA_LABEL, IFA_LOCAL};
+ghost use Rattle.netlink_links.specs.Address.{address_front, address_ip, address_line, broadcast_words, label_words, or_empty, own_words, peer_words};
 ghost use Rattle.netlink_links.specs.Names.{address_verb_text};
 
-use crate::find::find;
 use crate::names::{family_text, scope_text};
 use crate::text::{ip_words, name_text};
-use netlink_route::{AddressAttribute, AddressMessage, AddressVerb};
+use netlink_family::MessageView;
+use netlink_route::Addresses;
+use netlink_route::addresses::{
+    IFA_ADDRESS, IFA_BROADCAST, IFA_FAMILY, IFA_INDEX, IFA_LABEL, IFA_LOCAL, IFA_PREFIXLEN,
+    IFA_SCOPE, RTM_DELADDR, RTM_GETADDR,
+};
 use std::alloc::{AllocError, Global};
 
-const IFA_ADDRESS: u16 = 1;
-
-const IFA_LOCAL: u16 = 2;
-
-const IFA_LABEL: u16 = 3;
-
-const IFA_BROADCAST: u16 = 4;
-
-/// The line of a message about an address, in the order of `ip -o addr`: what is done with it, the
-/// index of its link, its family, the link's own address, that of the other end where it is another
-/// one, the length of the prefix, the address for all, the scope and the label. What no attribute
-/// says is left out; the name of the link is in none.
+/// Returns the line of a message about an address, in the order of `ip -o addr`: the verb, the index
+/// of the link, the family, the link's own address, the peer's address if it is another one, the
+/// length of the prefix, the broadcast address, the scope and the label. Parts without an attribute
+/// are left out.
 #[tactic(auto, unfolding(crate::specs::Address::address_line))]
 pub fn address_text(
     alloc: Global,
-    verb: AddressVerb,
-    address: &AddressMessage,
+    address: &MessageView<'_, Addresses>,
 ) -> Result<String, AllocError>
-    ensures line { IfOk result (λ text. string_bytes text ≡ address_line verb address.now) }
+    ensures line { IfOk result (λ text. string_bytes text
+        ≡ address_line address.now.message_type address.now.payload.now) }
 {
-    let all = address.attributes.list.as_slice();
-    let front = front_text(alloc, verb, address)?;
-    let local = ip_of(find(all, IFA_LOCAL));
-    let far = ip_of(find(all, IFA_ADDRESS));
-    let own = own_words(alloc, local, far, address.header.prefix_len)?;
-    let broadcast = broadcast_words(alloc, ip_of(find(all, IFA_BROADCAST)))?;
-    let scope = scope_text(alloc, address.header.scope)?;
-    let label = label_words(alloc, find(all, IFA_LABEL))?;
+    let front = front_text(alloc, address)?;
+    let own = own_words(
+        alloc,
+        local_ip(address),
+        far_ip(address),
+        address.header().u8(IFA_PREFIXLEN),
+    )?;
+    let broadcast = broadcast_words(alloc, broadcast_ip(address))?;
+    let scope = scope_text(alloc, address.header().u8(IFA_SCOPE))?;
+    let label = label_words(alloc, address)?;
     format!(in alloc; "{front}{own}{broadcast} scope {scope}{label}\n")
 }
 
-/// What is done with an address, the index of its link, and its family.
-fn front_text(
-    alloc: Global,
-    verb: AddressVerb,
-    address: &AddressMessage,
-) -> Result<String, AllocError>
-    ensures { IfOk result (λ text. string_bytes text ≡ address_front verb address.now) }
+/// Returns the verb, the index of the link, and the family.
+fn front_text(alloc: Global, address: &MessageView<'_, Addresses>) -> Result<String, AllocError>
+    ensures { IfOk result (λ text. string_bytes text
+        ≡ address_front address.now.message_type address.now.payload.now) }
 {
-    let done = verb_text(verb);
-    let index = address.header.index;
-    let family = family_text(alloc, address.header.family)?;
-    format!(in alloc; "{done}{index}: {family}")
+    let verb = verb_text(address.message_type);
+    let index = address.header().u32(IFA_INDEX);
+    let family = family_text(alloc, address.header().u8(IFA_FAMILY))?;
+    format!(in alloc; "{verb}{index}: {family}")
 }
 
-/// What is done with an address.
-fn verb_text(verb: AddressVerb) -> &'static str
-    ensures { result.now ≡ address_verb_text verb }
+/// Returns the verb of a message type.
+fn verb_text(message_type: u16) -> &'static str
+    ensures { result.now ≡ address_verb_text message_type }
 {
-    match verb {
-        AddressVerb::New => "",
-        AddressVerb::Del => "Deleted ",
-        AddressVerb::Get => "Get ",
+    match message_type {
+        RTM_DELADDR => "Deleted ",
+        RTM_GETADDR => "Get ",
+        _ => "",
     }
 }
 
-/// The bytes of an address, none where there is no address.
-fn ip_of<'a>(found: Option<&'a AddressAttribute>) -> &'a [u8]
-    ensures { result.now ≡ ip_of (option_copied found.entry) }
+/// Returns the link's own address; empty if there is none.
+fn local_ip<'a>(address: &MessageView<'a, Addresses>) -> &'a [u8]
+    ensures { result.now ≡ address_ip address.now.payload.now IFA_LOCAL }
+{
+    or_empty(address.view().ip(IFA_LOCAL))
+}
+
+/// Returns the address of the prefix, or the peer's; empty if there is none.
+fn far_ip<'a>(address: &MessageView<'a, Addresses>) -> &'a [u8]
+    ensures { result.now ≡ address_ip address.now.payload.now IFA_ADDRESS }
+{
+    or_empty(address.view().ip(IFA_ADDRESS))
+}
+
+/// Returns the broadcast address; empty if there is none.
+fn broadcast_ip<'a>(address: &MessageView<'a, Addresses>) -> &'a [u8]
+    ensures { result.now ≡ address_ip address.now.payload.now IFA_BROADCAST }
+{
+    or_empty(address.view().ip(IFA_BROADCAST))
+}
+
+/// Returns the bytes, or none.
+fn or_empty<'a>(found: Option<&'a [u8]>) -> &'a [u8]
+    ensures { result.now ≡ or_empty (option_copied found.entry) }
 {
     match found {
-        Some(AddressAttribute::Address(ip)) => &ip.bytes,
-        Some(AddressAttribute::Local(ip)) => &ip.bytes,
-        Some(AddressAttribute::Broadcast(ip)) => &ip.bytes,
-        _ => &[],
+        Some(bytes) => bytes,
+        None => &[],
     }
 }
 
-/// The link's own address, that of the other end, and the length of the prefix in bits.
+/// Returns the link's own address, the peer's address, and the length of the prefix in bits.
 fn own_words(alloc: Global, local: &[u8], far: &[u8], prefix: u8) -> Result<String, AllocError>
     ensures { IfOk result (λ text. string_bytes text ≡ own_words local.now far.now prefix) }
 {
@@ -95,7 +112,7 @@ fn own_words(alloc: Global, local: &[u8], far: &[u8], prefix: u8) -> Result<Stri
     format!(in alloc; " {own}{peer}/{prefix}")
 }
 
-/// The address of the other end, where it is another one.
+/// Returns the peer's address, if it is another one.
 fn peer_words(alloc: Global, local: &[u8], far: &[u8]) -> Result<String, AllocError>
     ensures { IfOk result (λ text. string_bytes text ≡ peer_words local.now far.now) }
 {
@@ -106,7 +123,7 @@ fn peer_words(alloc: Global, local: &[u8], far: &[u8]) -> Result<String, AllocEr
     format!(in alloc; " peer {peer}")
 }
 
-/// The address for all.
+/// Returns the broadcast address.
 fn broadcast_words(alloc: Global, bytes: &[u8]) -> Result<String, AllocError>
     ensures { IfOk result (λ text. string_bytes text ≡ broadcast_words bytes.now) }
 {
@@ -117,15 +134,16 @@ fn broadcast_words(alloc: Global, bytes: &[u8]) -> Result<String, AllocError>
     format!(in alloc; " brd {broadcast}")
 }
 
-/// The label.
-fn label_words(alloc: Global, found: Option<&AddressAttribute>) -> Result<String, AllocError>
-    ensures { IfOk result (λ text. string_bytes text ≡ label_words (option_copied found.entry)) }
+/// Returns the label.
+fn label_words(alloc: Global, address: &MessageView<'_, Addresses>) -> Result<String, AllocError>
+    ensures { IfOk result (λ text. string_bytes text
+        ≡ label_words (option_map until_nul (first_at 8 address.now.payload.now IFA_LABEL))) }
 {
-    match found {
-        Some(AddressAttribute::Label(label)) => {
-            let name = name_text(alloc, label.text.as_str())?;
+    match address.view().str_bytes(IFA_LABEL) {
+        Some(label) => {
+            let name = name_text(alloc, label)?;
             format!(in alloc; " {name}")
         }
-        _ => Ok(String::new(alloc)),
+        None => Ok(String::new(alloc)),
     }
 }

@@ -7,6 +7,7 @@ ghost use Rattle.netlink_program.specs.Ending.{IsUsage};
 ghost use Rattle.netlink_links.specs.Ending.{AsksForLines, Ends, usage_text};
 ghost use Rattle.netlink_links.specs.Run.{IsEarly};
 
+use crate::line::Line;
 use crate::run::{Fault, run};
 use netlink_program::Ending;
 use std::alloc::Global;
@@ -14,7 +15,7 @@ use std::env::Args;
 use std::fmt;
 use std::io::{Read, Write};
 
-/// What is said where there are arguments.
+/// The error for any argument.
 #[derive(Debug, Drop)]
 pub struct Usage;
 
@@ -26,8 +27,8 @@ impl fmt::Display for Usage {
     }
 }
 
-/// Whether there is no argument behind the program's name. Arguments that cannot be had as a whole,
-/// be they no text or want of memory, are some.
+/// Returns whether there is no argument after the program's name. Returns false if the arguments
+/// could not be read because one is not UTF-8 or an allocation failed.
 pub fn asked(args: Option<Args>) -> bool
     ensures asks { IsTrue result ↔ AsksForLines (option_map into_iter_items args) }
 {
@@ -43,8 +44,8 @@ pub fn asked(args: Option<Args>) -> bool
     }
 }
 
-/// Runs over the reader and the writer where that is asked; otherwise neither is touched.
-pub fn ended<R: Read, W: Write>(
+/// Runs over the reader and the writer if that is asked; otherwise uses neither.
+pub fn ended<I: Line, R: Read, W: Write>(
     alloc: Global,
     is_asked: bool,
     reader: &mut R,
@@ -55,10 +56,10 @@ pub fn ended<R: Read, W: Write>(
     ensures early { (fault : Fault) → result ≡ Ending.Failed fault → IsEarly fault
         → Keeps (W.contents writer.old) (W.contents writer.new) }
     ensures ends { is_asked ≡ true → IfSome (R.remaining reader.old) (λ input.
-        Ends input (W.contents writer.old) (W.contents writer.new) result) }
+        Ends I.decoding I.wants_memory input (W.contents writer.old) (W.contents writer.new) result) }
 {
     if !is_asked {
         return Ending::Usage(Usage);
     }
-    Ending::from(run(alloc, reader, writer))
+    Ending::from(run::<I, R, W>(alloc, reader, writer))
 }

@@ -3,7 +3,7 @@
 ghost use Rattle.std.specs.Prelude.{◌≡◌, IfOk, OnOk, string_bytes};
 ghost use Rattle.netlink_links.specs.Flags.{first_flag, flag_name, flags_text, named_flags, with_flag, with_unnamed};
 
-use crate::text::push_behind;
+use crate::text::push_separated;
 use std::alloc::{AllocError, Global};
 
 const IFF_UP: u32 = 0x1;
@@ -61,7 +61,7 @@ fn push_flag(text: &mut String, flags: u32, bit: u32) -> Result<(), AllocError>
     if flags & bit == 0 {
         return Ok(());
     }
-    push_behind(text, ",", flag_name(bit))
+    push_separated(text, ",", flag_name(bit))
 }
 
 /// The name of a flag (`IFF_*` of linux/if.h); nothing for other numbers.
@@ -99,5 +99,5 @@ fn push_unnamed(alloc: Global, text: &mut String, rest: u32) -> Result<(), Alloc
     if rest == 0 {
         return Ok(());
     }
-    push_behind(text, ",", format!(in alloc; "{rest:x}")?.as_str())
+    push_separated(text, ",", format!(in alloc; "{rest:x}")?.as_str())
 }

@@ -1,100 +1,126 @@
-//! The messages of an input, one behind another.
+//! The lines of the messages in an input.
 
-ghost use Rattle.std.specs.Prelude.{◌≡◌, ◌≢◌, ◌+◌, ◌-◌, ◌≤◌, IfErr, IfOk, IsErr, IsOkAnd, string_bytes};
+ghost use Rattle.std.specs.Prelude.{◌≡◌, ◌≢◌, ◌+◌, ◌-◌, ◌≤◌, None, Some, IfErr, IfOk, IsErr, IsOkAnd, string_bytes};
 ghost use Rattle.netlink_packet_core.specs.Attribute.{padding};
-ghost use Rattle.netlink_packet_core.specs.Frame.{Frame};
-ghost use Rattle.netlink_packet_core.specs.Refusal.{IsRefusal};
-ghost use Rattle.netlink_packet_core.specs.declared.message.NetlinkMessage.{NetlinkMessage};
-ghost use Rattle.netlink_route.specs.Error.{wants_memory};
-ghost use Rattle.netlink_route.specs.Message.{route_decoding};
-ghost use Rattle.netlink_route.specs.declared.message.RouteMessage.{RouteMessage};
-ghost use Rattle.netlink_links.specs.Lines.{message_line};
-ghost use Rattle.netlink_links.specs.Messages.{Makes};
+ghost use Rattle.netlink_links.specs.Messages.{HasLine, IsCause, Makes, stop_text};
+ghost use Rattle.netlink_links.specs.declared.messages.Cause.{Cause};
 
-use crate::line::message_text;
+use crate::line::{Line, message_text};
 use netlink_packet_core::laws::refusal_unique;
 use netlink_packet_core::{DecodeError, NetlinkMessage, nlmsg_align};
-use netlink_route::RouteMessage;
 use netlink_tree::Frames;
 use std::alloc::{AllocError, Global};
+use std::fmt;
 
-/// A refusal, and where it stands.
+/// Where the lines end before the end of the input, and why.
 #[derive(Debug, Drop, PartialEq, Eq)]
-pub struct Refused {
-    /// The byte of the input at which the refused message starts, counted from 0.
+pub struct Stop {
+    /// The offset in bytes at which the message starts.
     pub at: usize,
-    /// Why it is refused.
-    pub cause: DecodeError,
+    /// Why it has no line.
+    pub cause: Cause,
 }
 
-/// What is made of an input: the lines of its messages up to a refusal.
+/// Why a message has no line.
+#[derive(Debug, Drop, PartialEq, Eq)]
+pub enum Cause {
+    /// It is rejected.
+    Rejected(DecodeError),
+    /// It is a route message of this type, neither about a link nor about an address.
+    NoLine(u16),
+}
+
+impl fmt::Display for Stop {
+    ghost output = { λ stop. Some (stop_text stop) };
+
+    fn fmt<W: fmt::Write>(&self, f: &mut fmt::Formatter<W>) -> fmt::Result {
+        let at = self.at;
+        match &self.cause {
+            Cause::Rejected(error) => write!(f, "byte {at}: {error}"),
+            Cause::NoLine(message_type) => {
+                let number = *message_type;
+                write!(f, "byte {at}: no line for message type {number}")
+            }
+        }
+    }
+}
+
+/// The lines of an input.
 #[derive(Drop)]
-pub(crate) struct Answer {
-    pub(crate) output: String,
-    pub(crate) fault: Option<Refused>,
+pub(crate) struct Output {
+    /// The lines, up to the stop.
+    pub(crate) lines: String,
+    /// Where and why they end early, if they do.
+    pub(crate) stop: Option<Stop>,
 }
 
-/// Returns the lines of the messages in the frames of an input, and the error that ends them, or
-/// `AllocError` if an allocation fails.
-pub(crate) fn answer_to(alloc: Global, input: &[u8]) -> Result<Answer, AllocError>
-    ensures { IfOk result
-        (λ answer. Makes input.now (string_bytes answer.output) answer.fault) }
+/// Returns the lines of the messages in the frames of an input, up to a message without one.
+/// Returns `AllocError` if an allocation fails.
+pub(crate) fn lines_of<I: Line>(alloc: Global, input: &[u8]) -> Result<Output, AllocError>
+    ensures { IfOk result (λ output. Makes I.decoding I.wants_memory input.now (string_bytes output.lines) output.stop) }
 {
-    refusal_unique::<RouteMessage>();
-    let mut output = String::new(alloc);
+    refusal_unique::<I>();
+    let mut lines = String::new(alloc);
     let mut at = 0;
     for item in Frames::new(input) {
         // `deserialize` ignores what follows the frame
-        match first_line(alloc, &input[at..]) {
-            Ok(line) => output.push_str(line.as_str())?,
+        match first_line::<I>(alloc, &input[at..]) {
+            Ok(line) => lines.push_str(line.as_str())?,
             Err(cause) => {
-                let fault = Some(rejection(at, cause)?);
-                return Ok(Answer { output, fault });
+                let stop = Some(stop_at(at, cause)?);
+                return Ok(Output { lines, stop });
             }
         }
         let Ok(frame) = item else {
             unreachable!();
         };
-        at = behind(at, frame.len());
+        at = after(at, frame.len());
     }
-    Ok(Answer {
-        output,
-        fault: None,
-    })
+    Ok(Output { lines, stop: None })
 }
 
-/// Returns the rejected message at this byte of the input, or an error if the cause is that an
-/// allocation failed.
-fn rejection(at: usize, cause: DecodeError) -> Result<Refused, AllocError>
-    ensures memory { cause ≡ DecodeError.OutOfMemory → IsErr result }
-    ensures refused { cause ≢ DecodeError.OutOfMemory
-        → IsOkAnd result (λ r. (r.at ≡ at) × (r.cause ≡ cause)) }
-    ensures known { IfOk result
-        (λ r. (r.at ≡ at) × (r.cause ≡ cause) × (cause ≢ DecodeError.OutOfMemory)) }
+/// Returns the stop at this offset, or an error if the cause is that an allocation failed.
+fn stop_at(at: usize, cause: Cause) -> Result<Stop, AllocError>
+    ensures memory { cause ≡ Cause.Rejected DecodeError.OutOfMemory → IsErr result }
+    ensures stop { cause ≢ Cause.Rejected DecodeError.OutOfMemory
+        → IsOkAnd result (λ s. (s.at ≡ at) × (s.cause ≡ cause)) }
+    ensures cause { IfOk result (λ s. (s.at ≡ at) × (s.cause ≡ cause)
+        × (cause ≢ Cause.Rejected DecodeError.OutOfMemory)) }
 {
-    if cause.is_out_of_memory() {
-        return Err(AllocError);
+    match &cause {
+        Cause::Rejected(error) => {
+            if error.is_out_of_memory() {
+                return Err(AllocError);
+            }
+        }
+        Cause::NoLine(_) => {}
     }
-    Ok(Refused { at, cause })
+    Ok(Stop { at, cause })
 }
 
 /// Returns the offset after the frame of this size at an offset, and after its padding. Requires
 /// that the frame ends 4 bytes or more before `usize::MAX`.
-fn behind(at: usize, size: usize) -> usize
+fn after(at: usize, size: usize) -> usize
     requires room { at + size ≤ usize.MAX - 4 }
     ensures { result ≡ at + (size + padding size) }
 {
     at + nlmsg_align(size)
 }
 
-/// Returns the line of the message that the bytes begin with.
-fn first_line(alloc: Global, bytes: &[u8]) -> Result<String, DecodeError>
-    ensures reads { IfOk result
-        (λ line. (m : NetlinkMessage RouteMessage) × Frame route_decoding bytes.now m
-        × (string_bytes line ≡ message_line m)) }
-    ensures refuses { IfErr result
-        (λ e. e ≢ DecodeError.OutOfMemory → IsRefusal route_decoding wants_memory bytes.now e) }
+/// Returns the line of the message that the bytes begin with, or why it has none.
+fn first_line<I: Line>(alloc: Global, bytes: &[u8]) -> Result<String, Cause>
+    ensures reads { IfOk result (λ line.
+        HasLine I.decoding bytes.now (string_bytes line)) }
+    ensures cause { IfErr result (λ cause. cause ≢ Cause.Rejected DecodeError.OutOfMemory
+        → IsCause I.decoding I.wants_memory bytes.now cause) }
 {
-    let message = NetlinkMessage::<RouteMessage>::deserialize(alloc, bytes)?;
-    Ok(message_text(alloc, &message)?)
+    let message = match NetlinkMessage::<I>::deserialize(alloc, bytes) {
+        Ok(message) => message,
+        Err(error) => return Err(Cause::Rejected(error)),
+    };
+    match message_text(alloc, &message) {
+        Ok(Some(line)) => Ok(line),
+        Ok(None) => Err(Cause::NoLine(message.header.message_type)),
+        Err(_) => Err(Cause::Rejected(DecodeError::OutOfMemory)),
+    }
 }

@@ -1,11 +1,12 @@
-//! The words of numbers that have a name.
+//! The names of numbers.
 
 ghost use Rattle.std.specs.Prelude.{◌≡◌, IfOk, string_bytes};
 ghost use Rattle.netlink_links.specs.Names.{family_text, hardware_text, scope_text, state_text};
 
 use std::alloc::{AllocError, Global};
 
-/// The word of an operational state, an `IF_OPER_*` of linux/if.h; any other number in hexadecimal.
+/// Returns the name of an operational state, an `IF_OPER_*` of linux/if.h; for any other number,
+/// the number in hexadecimal.
 pub(crate) fn state_text(alloc: Global, state: u8) -> Result<String, AllocError>
     ensures { IfOk result (λ text. string_bytes text ≡ state_text state) }
 {
@@ -22,7 +23,8 @@ pub(crate) fn state_text(alloc: Global, state: u8) -> Result<String, AllocError>
     String::from_str(alloc, name)
 }
 
-/// The word of a kind of device, an `ARPHRD_*` of linux/if_arp.h; any other number in brackets.
+/// Returns the name of a device type, an `ARPHRD_*` of linux/if_arp.h; for any other number, the
+/// number in brackets.
 pub(crate) fn hardware_text(alloc: Global, layer_type: u16) -> Result<String, AllocError>
     ensures { IfOk result (λ text. string_bytes text ≡ hardware_text layer_type) }
 {
@@ -41,7 +43,8 @@ pub(crate) fn hardware_text(alloc: Global, layer_type: u16) -> Result<String, Al
     String::from_str(alloc, name)
 }
 
-/// The word of an address family, an `AF_*` of linux/socket.h; any other number behind `family`.
+/// Returns the name of an address family, an `AF_*` of linux/socket.h; for any other number,
+/// `family` and the number.
 pub(crate) fn family_text(alloc: Global, family: u8) -> Result<String, AllocError>
     ensures { IfOk result (λ text. string_bytes text ≡ family_text family) }
 {
@@ -53,7 +56,8 @@ pub(crate) fn family_text(alloc: Global, family: u8) -> Result<String, AllocErro
     String::from_str(alloc, name)
 }
 
-/// The word of a scope, an `RT_SCOPE_*` of linux/rtnetlink.h; any other number in decimal.
+/// Returns the name of a scope, an `RT_SCOPE_*` of linux/rtnetlink.h; for any other number, the
+/// number in decimal.
 pub(crate) fn scope_text(alloc: Global, scope: u8) -> Result<String, AllocError>
     ensures { IfOk result (λ text. string_bytes text ≡ scope_text scope) }
 {

@@ -4,23 +4,24 @@ ghost use Rattle.std.specs.Prelude.{◌≡◌, Some, IfErr, IfSome};
 ghost use Rattle.std.specs.Io.KnownBytes.{Keeps};
 ghost use Rattle.netlink_links.specs.Run.{RunsAs, IsEarly, fault_text, outcome, read_fault};
 
-use crate::messages::{Answer, Refused, answer_to};
+use crate::line::Line;
+use crate::messages::{Output, Stop, lines_of};
 use netlink_program::{ReadFault, read_all};
 use std::alloc::{AllocError, Global};
 use std::fmt;
 use std::io::{Read, Write};
 
-/// Why a run did not end well.
+/// Why a run failed.
 #[derive(Debug, Drop, PartialEq, Eq)]
 pub enum Fault {
-    /// The reader failed, or did not end within its bound of calls.
+    /// The reader failed, or did not end within 1048576 calls.
     Read,
-    /// The writer failed; how much it took is not said.
+    /// The writer failed. It may have written a part.
     Write,
-    /// A request for memory was refused.
+    /// An allocation failed.
     OutOfMemory,
-    /// The input was refused.
-    Refused(Refused),
+    /// A message of the input has no line.
+    Stopped(Stop),
 }
 
 impl fmt::Display for Fault {
@@ -31,7 +32,7 @@ impl fmt::Display for Fault {
             Fault::Read => f.write_str("read failed"),
             Fault::Write => f.write_str("write failed"),
             Fault::OutOfMemory => f.write_str("out of memory"),
-            Fault::Refused(Refused { at, cause }) => write!(f, "byte {at}: {cause}"),
+            Fault::Stopped(stop) => write!(f, "{stop}"),
         }
     }
 }
@@ -57,34 +58,38 @@ impl From<AllocError> for Fault {
     }
 }
 
-/// Writes the lines of all messages that the reader gives, in one piece, and ends with the first
-/// refusal.
+/// Writes the lines of all messages that the reader gives, up to a message without one, in one
+/// piece.
 ///
-/// The reader's end has to come within 1048576 calls, each for at most 4096 bytes; an interrupted
-/// call counts, and is made again. `Read` and `OutOfMemory` have written nothing. A `Write` comes
-/// before a `Refused` that would have followed; empty output is not written.
-pub fn run<R: Read, W: Write>(alloc: Global, reader: &mut R, writer: &mut W) -> Result<(), Fault>
+/// The reader must end within 1048576 calls of at most 4096 bytes each. An interrupted call counts
+/// and is repeated. If the run ends with `Read` or `OutOfMemory`, nothing was written. `Write` takes
+/// precedence over `Stopped`. Empty output is not written.
+pub fn run<I: Line, R: Read, W: Write>(
+    alloc: Global,
+    reader: &mut R,
+    writer: &mut W,
+) -> Result<(), Fault>
     ensures nothing { IfErr result
         (λ fault. IsEarly fault → Keeps (W.contents writer.old) (W.contents writer.new)) }
     ensures runs { IfSome (R.remaining reader.old) (λ input.
-        RunsAs input (W.contents writer.old) (W.contents writer.new) result) }
+        RunsAs I.decoding I.wants_memory input (W.contents writer.old) (W.contents writer.new) result) }
 {
     let input = read_all(alloc, reader)?;
-    let Answer { output, fault } = answer_to(alloc, input.as_slice())?;
-    let is_written = writer.write_all(output.as_bytes()).is_ok();
-    outcome(is_written, fault)
+    let Output { lines, stop } = lines_of::<I>(alloc, input.as_slice())?;
+    let is_written = writer.write_all(lines.as_bytes()).is_ok();
+    outcome(is_written, stop)
 }
 
-/// Returns how a run ends: with `Write` if its output was not written, else with the rejected
-/// message, if there is one.
-fn outcome(is_written: bool, fault: Option<Refused>) -> Result<(), Fault>
-    ensures is { result ≡ outcome is_written fault }
+/// Returns how a run ends: with `Write` if its output was not written, else with the stop, if there
+/// is one.
+fn outcome(is_written: bool, stop: Option<Stop>) -> Result<(), Fault>
+    ensures is { result ≡ outcome is_written stop }
 {
     if !is_written {
         return Err(Fault::Write);
     }
-    match fault {
+    match stop {
         None => Ok(()),
-        Some(refused) => Err(Fault::Refused(refused)),
+        Some(stop) => Err(Fault::Stopped(stop)),
     }
 }

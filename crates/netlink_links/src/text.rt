@@ -1,17 +1,21 @@
-//! Words made of bytes.
+//! Bytes as text.
 
 ghost use Rattle.std.specs.Prelude.{◌≡◌, IfOk, OnOk, string_bytes};
 ghost use Rattle.std.specs.List.{list_all};
-ghost use Rattle.netlink_links.specs.Text.{behind, bytes_text, ip_words, is_printing, name_text, two_digits};
+ghost use Rattle.netlink_links.specs.Text.{bytes_text, ip_words, is_printable, name_text, separated, two_digits};
 
 use netlink_packet_core::{IpAddr, parse_ip};
 use std::alloc::{AllocError, Global};
 use std::net::{Ipv4Addr, Ipv6Addr};
 
-/// Adds a word, with the separator in front of it where something stands there.
-pub(crate) fn push_behind(text: &mut String, separator: &str, word: &str) -> Result<(), AllocError>
+/// Appends a word, after a separator if the text is not empty.
+pub(crate) fn push_separated(
+    text: &mut String,
+    separator: &str,
+    word: &str,
+) -> Result<(), AllocError>
     ensures { OnOk result
-        (string_bytes text.new ≡ behind separator.now (string_bytes text.old) word.now) }
+        (string_bytes text.new ≡ separated separator.now (string_bytes text.old) word.now) }
 {
     if !text.is_empty() {
         text.push_str(separator)?;
@@ -19,7 +23,7 @@ pub(crate) fn push_behind(text: &mut String, separator: &str, word: &str) -> Res
     text.push_str(word)
 }
 
-/// The two hexadecimal digits of a byte.
+/// Returns the two hexadecimal digits of a byte.
 fn two_digits(alloc: Global, byte: u8) -> Result<String, AllocError>
     ensures { IfOk result (λ text. string_bytes text ≡ two_digits byte) }
 {
@@ -28,40 +32,40 @@ fn two_digits(alloc: Global, byte: u8) -> Result<String, AllocError>
     format!(in alloc; "{high:x}{low:x}")
 }
 
-/// Bytes as the address of a device is written: two hexadecimal digits each, in lower case, with
-/// colons between them.
+/// Returns bytes as two hexadecimal digits each, in lower case, separated by colons.
 pub(crate) fn bytes_text(alloc: Global, bytes: &[u8]) -> Result<String, AllocError>
     ensures { IfOk result (λ text. string_bytes text ≡ bytes_text bytes.now) }
 {
     let mut text = String::new(alloc);
     for byte in bytes {
-        push_behind(&mut text, ":", two_digits(alloc, *byte)?.as_str())?;
+        push_separated(&mut text, ":", two_digits(alloc, *byte)?.as_str())?;
     }
     Ok(text)
 }
 
-/// A name as it is where each of its bytes is a printing character of ASCII, and by the digits of
-/// its bytes otherwise, so that it stands within its line.
-#[tactic(auto, unfolding(crate::specs::Text::name_text))]
-pub(crate) fn name_text(alloc: Global, name: &str) -> Result<String, AllocError>
+/// Returns a name as it is if all its bytes are printable ASCII other than spaces, and otherwise as
+/// hexadecimal digits.
+#[tactic(auto, unfolding(crate::specs::Text::name_text), using(crate::specs::Text::printable_utf8))]
+pub(crate) fn name_text(alloc: Global, name: &[u8]) -> Result<String, AllocError>
     ensures { IfOk result (λ text. string_bytes text ≡ name_text name.now) }
 {
-    if are_printing(name.as_bytes()) {
-        String::from_str(alloc, name)
-    } else {
-        bytes_text(alloc, name.as_bytes())
+    if are_printable(name) {
+        if let Ok(text) = str::from_utf8(name) {
+            return String::from_str(alloc, text);
+        }
+        unreachable!()
     }
+    bytes_text(alloc, name)
 }
 
-/// Whether all are printing characters of ASCII.
-fn are_printing(bytes: &[u8]) -> bool
-    ensures { result ≡ list_all is_printing bytes.now }
+/// Returns whether all bytes are printable ASCII other than spaces.
+fn are_printable(bytes: &[u8]) -> bool
+    ensures { result ≡ list_all is_printable bytes.now }
 {
     bytes.iter().all(|byte| *byte > 32 && *byte < 127)
 }
 
-/// An address of the Internet protocol: of 4 bytes in decimal with dots, of 16 as RFC 5952 says;
-/// nothing for other bytes.
+/// Returns an IP address as text (RFC 5952 for IPv6); empty if there are neither 4 nor 16 bytes.
 pub(crate) fn ip_words(alloc: Global, bytes: &[u8]) -> Result<String, AllocError>
     ensures { IfOk result (λ text. string_bytes text ≡ ip_words bytes.now) }
 {

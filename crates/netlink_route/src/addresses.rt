@@ -1,60 +1,109 @@
-//! Messages about addresses, read and written.
+//! Addresses (linux/rtnetlink.h, linux/if_addr.h).
 
-ghost use Rattle.std.specs.Prelude.{◌≡◌, false, length, ℕ, IfErr, IfOk, IsTrue, None, Some};
-ghost use Rattle.netlink_route.specs.AddressHeader.{address_header_fits};
-ghost use Rattle.netlink_route.specs.Error.{wants_memory};
-ghost use Rattle.netlink_route.specs.Family.{family_reading};
-ghost use Rattle.netlink_route.specs.Faults.{IsFamilyFault};
-ghost use Rattle.netlink_route.specs.KindFaults.{address_faults};
-ghost use Rattle.netlink_route.specs.Message.{address_bytes, addresses};
+ghost use Rattle.std.specs.Prelude.{refl};
+ghost use Rattle.netlink_family.specs.Shapes.{named, named_fields};
+ghost use Rattle.netlink_route.specs.declared.addresses.TheConstants.{FIELDS, ROWS, TYPES};
 
-use crate::address_header::{ADDRESS_HEADER_LEN, read_address_header, write_address_header};
-use crate::error::{RouteError, header_short};
-use crate::message::AddressMessage;
-use crate::typed::read_block;
-use netlink_packet_core::Emitable;
-use std::alloc::Global;
+use netlink_family::{Family, Field, OwnedMessage, Row, Shape, TOP, Table, is_among};
 
-impl AddressMessage {
-    /// The size of the message as it is written.
-    #[tactic(auto, using(crate::proofs::Headers::address_sizes))]
-    pub(crate) fn size(&self) -> usize
-        ensures { result ≡ length (address_bytes self.now) }
-    {
-        ADDRESS_HEADER_LEN + self.attributes.buffer_len()
+pub const RTM_NEWADDR: u16 = 20;
+
+pub const RTM_DELADDR: u16 = 21;
+
+pub const RTM_GETADDR: u16 = 22;
+
+// The fields of `struct ifaddrmsg`.
+pub const IFA_FAMILY: Field = ("ifa_family", 0, Shape::U8);
+
+pub const IFA_PREFIXLEN: Field = ("ifa_prefixlen", 1, Shape::U8);
+
+pub const IFA_LOW_FLAGS: Field = ("ifa_flags", 2, Shape::U8);
+
+pub const IFA_SCOPE: Field = ("ifa_scope", 3, Shape::U8);
+
+pub const IFA_INDEX: Field = ("ifa_index", 4, Shape::U32);
+
+pub const IFA_ADDRESS: u16 = 1;
+
+pub const IFA_LOCAL: u16 = 2;
+
+pub const IFA_LABEL: u16 = 3;
+
+pub const IFA_BROADCAST: u16 = 4;
+
+pub const IFA_ANYCAST: u16 = 5;
+
+pub const IFA_CACHEINFO: u16 = 6;
+
+pub const IFA_MULTICAST: u16 = 7;
+
+pub const IFA_FLAGS: u16 = 8;
+
+pub const IFA_RT_PRIORITY: u16 = 9;
+
+pub const IFA_TARGET_NETNSID: u16 = 10;
+
+pub const IFA_PROTO: u16 = 11;
+
+const TYPES: &'static [u16] = &[RTM_NEWADDR, RTM_DELADDR, RTM_GETADDR];
+
+const FIELDS: &'static [Field] = &[
+    IFA_FAMILY,
+    IFA_PREFIXLEN,
+    IFA_LOW_FLAGS,
+    IFA_SCOPE,
+    IFA_INDEX,
+];
+
+const ROWS: &'static [Row] = &[
+    (TOP, IFA_ADDRESS, "IFA_ADDRESS", Shape::Ip),
+    (TOP, IFA_LOCAL, "IFA_LOCAL", Shape::Ip),
+    (TOP, IFA_LABEL, "IFA_LABEL", Shape::Str),
+    (TOP, IFA_BROADCAST, "IFA_BROADCAST", Shape::Ip),
+    (TOP, IFA_ANYCAST, "IFA_ANYCAST", Shape::Ip),
+    (TOP, IFA_CACHEINFO, "IFA_CACHEINFO", Shape::ExactLen(16)),
+    (TOP, IFA_MULTICAST, "IFA_MULTICAST", Shape::Ip),
+    (TOP, IFA_FLAGS, "IFA_FLAGS", Shape::U32),
+    (TOP, IFA_RT_PRIORITY, "IFA_RT_PRIORITY", Shape::U32),
+    (TOP, IFA_TARGET_NETNSID, "IFA_TARGET_NETNSID", Shape::I32),
+    (TOP, IFA_PROTO, "IFA_PROTO", Shape::U8),
+];
+
+/// The family of addresses.
+#[derive(Clone, Copy, Debug, PartialEq, Eq)]
+pub struct Addresses;
+
+impl Table for Addresses {
+    ghost types = { TYPES.now };
+
+    ghost header_len = { λ _. 8 };
+
+    ghost rows = { λ _. named ROWS.now (λ name. name.now) };
+
+    ghost fields = { λ _. named_fields FIELDS.now (λ name. name.now) };
+
+    fn has(message_type: u16) -> bool {
+        is_among(TYPES, message_type)
     }
 
-    /// Fills the buffer, which has exactly that size, with the message.
-    #[tactic(auto, using(crate::proofs::Headers::address_sizes))]
-    pub(crate) fn write(&self, buffer: &mut [u8])
-        requires { length buffer.old ≡ length (address_bytes self.now) }
-        ensures { buffer.new ≡ address_bytes self.now }
-    {
-        let (header, block) = buffer.split_at_mut(ADDRESS_HEADER_LEN);
-        write_address_header(&self.header, header);
-        self.attributes.emit(block);
+    fn header_len(_message_type: u16) -> usize {
+        8
     }
 
-    /// The message in a payload.
-    pub(crate) fn read(alloc: Global, payload: &[u8]) -> Result<Self, RouteError>
-        ensures fits { IfOk result (λ m. IsTrue (address_header_fits m.header)) }
-        ensures reads { IfOk result
-            (λ m. (t : ℕ) → family_reading addresses t payload.now ≡ Some (t, address_bytes m)) }
-        ensures refuses { IfErr result
-            (λ e. wants_memory e ≡ false
-            → (t : ℕ) → family_reading addresses t payload.now ≡ None) }
-        ensures fault { IfErr result
-            (λ e. wants_memory e ≡ false
-            → IsFamilyFault addresses address_faults payload.now e) }
-    {
-        if payload.len() < ADDRESS_HEADER_LEN {
-            return Err(header_short(ADDRESS_HEADER_LEN, payload));
-        }
-        let (front, block) = payload.split_at(ADDRESS_HEADER_LEN);
-        let attributes = read_block(alloc, block)?;
-        Ok(AddressMessage {
-            header: read_address_header(front),
-            attributes,
-        })
+    fn rows(_message_type: u16) -> &'static [Row] {
+        ROWS
     }
+
+    fn fields(_message_type: u16) -> &'static [Field] {
+        FIELDS
+    }
+
+    ghost sorted = { λ _. refl };
 }
+
+impl Family for Addresses {
+    ghost own = { refl };
+}
+
+/// A message about an address.
+pub type AddressMessage = OwnedMessage<Addresses>;

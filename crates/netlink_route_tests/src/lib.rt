@@ -1,7 +1,6 @@
-//! The tests of `netlink_route`, over its public calls: messages of links and addresses.
+//! Tests of `netlink_route` through its public functions.
 //!
-//! They are a crate of their own, since a crate that has tests is proved twice, with them and
-//! without.
+//! They are in a separate crate because a crate with tests is proved twice, with and without them.
 #![tactic(auto)]
 
 #[cfg(test)]

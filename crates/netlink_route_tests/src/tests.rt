@@ -1,9 +1,15 @@
-//! Messages as the kernel sends them, and damaged ones. The bytes are written by hand, from
-//! linux/netlink.h, rtnetlink.h, if_link.h and if_addr.h, or stand in `examples/captured`.
+//! Messages as the kernel sends them, and invalid ones. The bytes are written by hand from
+//! linux/netlink.h, rtnetlink.h, if_link.h, if_addr.h and neighbour.h, or are in
+//! `examples/captured`.
 
 mod captured;
+mod errors;
+mod getters;
 mod mark;
 mod memory_not_asked;
 mod memory_refused;
 mod messages;
-mod refusals;
+mod neighbours;
+mod samples;
+mod show;
+mod strings;

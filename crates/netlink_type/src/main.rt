@@ -5,11 +5,9 @@ ghost use Rattle.std.specs.Prelude.{◌≡◌, IfErr, IfOk};
 ghost use Rattle.netlink_packet_core.specs.Frame.{Frame};
 ghost use Rattle.netlink_packet_core.specs.Refusal.{IsRefusal};
 ghost use Rattle.netlink_packet_core.specs.declared.message.NetlinkMessage.{NetlinkMessage};
-ghost use Rattle.netlink_route.specs.Error.{wants_memory};
-ghost use Rattle.netlink_route.specs.Message.{route_decoding};
-ghost use Rattle.netlink_route.specs.declared.message.RouteMessage.{RouteMessage};
+ghost use Rattle.netlink_family.specs.ErrorTexts.{wants_memory};
 
-use netlink_packet_core::{DecodeError, NetlinkMessage};
+use netlink_packet_core::{DecodeError, NetlinkDeserializable, NetlinkMessage};
 use netlink_program::{Ending, read_all};
 use netlink_route::RouteMessage;
 use std::alloc::Global;
@@ -17,9 +15,11 @@ use std::convert::Infallible;
 
 /// Returns the type of the message at the start of `bytes`, or the error of `deserialize`.
 fn message_type(alloc: Global, bytes: &[u8]) -> Result<u16, DecodeError>
-    ensures accepts { IfOk result (λ number. (m : NetlinkMessage RouteMessage)
-        × Frame route_decoding bytes.now m × (number ≡ m.header.message_type)) }
-    ensures refuses { IfErr result (IsRefusal route_decoding wants_memory bytes.now) }
+    ensures accepts { IfOk result (λ number. (m : NetlinkMessage _)
+        × Frame ⟦<RouteMessage as NetlinkDeserializable>⟧.decoding bytes.now m
+        × (number ≡ m.header.message_type)) }
+    ensures refuses { IfErr result
+        (IsRefusal ⟦<RouteMessage as NetlinkDeserializable>⟧.decoding wants_memory bytes.now) }
 {
     let message = NetlinkMessage::<RouteMessage>::deserialize(alloc, bytes)?;
     Ok(message.header.message_type)

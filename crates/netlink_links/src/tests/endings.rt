@@ -1,16 +1,17 @@
-//! The arguments, the statuses and what stands on standard error.
+//! The arguments, the statuses and the texts on standard error.
 
 use crate::ending::{Usage, asked, ended};
-use crate::messages::Refused;
+use crate::messages::{Cause, Stop};
 use crate::run::Fault;
 use crate::tests::lines::ADDRESS;
 use netlink_packet_core::DecodeError;
 use netlink_program::Ending;
+use netlink_route::RouteMessage;
 use std::alloc::{AllocError, Global};
 use std::env::Args;
 use std::test::Fail;
 
-/// The arguments as they are handed to a program.
+/// Returns these words as the arguments of a program.
 fn args_of(alloc: Global, words: &[&str]) -> Result<Args, AllocError> {
     let mut args = Vec::new(alloc);
     for word in words {
@@ -36,9 +37,9 @@ fn a_name_alone_asks(rt: HostRuntime) -> Result<(), Fail> {
 
 #[test]
 fn each_ending_has_its_status_and_its_text(rt: HostRuntime) -> Result<(), Fail> {
-    let refused = Fault::Refused(Refused {
+    let stopped = Fault::Stopped(Stop {
         at: 40,
-        cause: DecodeError::TooLong,
+        cause: Cause::Rejected(DecodeError::TooLong),
     });
     let rows = [
         (Ending::Done, 0u8, ""),
@@ -46,7 +47,7 @@ fn each_ending_has_its_status_and_its_text(rt: HostRuntime) -> Result<(), Fail> 
         (Ending::Failed(Fault::Write), 1, "write failed\n"),
         (Ending::Failed(Fault::OutOfMemory), 1, "out of memory\n"),
         (
-            Ending::Failed(refused),
+            Ending::Failed(stopped),
             1,
             "byte 40: message does not fit a 32-bit length\n",
         ),
@@ -59,13 +60,13 @@ fn each_ending_has_its_status_and_its_text(rt: HostRuntime) -> Result<(), Fail> 
     Ok(())
 }
 
-/// Without arguments the input is read to its end, and with some it is left.
+/// Without arguments the input is read to its end. With any, it is not read.
 #[test]
 fn runs_end_with_their_status(rt: HostRuntime) {
     for (is_asked, status, size) in [(true, 0, 73), (false, 2, 0)] {
         let mut reader: &[u8] = &ADDRESS;
         let mut output: Vec<u8> = Vec::new(rt.alloc());
-        let ending = ended(rt.alloc(), is_asked, &mut reader, &mut output);
+        let ending = ended::<RouteMessage, _, _>(rt.alloc(), is_asked, &mut reader, &mut output);
         assert_eq!(rt; ending.status(), status);
         assert_eq!(rt; output.len(), size);
         assert_eq!(rt; reader.is_empty(), is_asked);

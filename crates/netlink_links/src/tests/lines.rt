@@ -1,8 +1,7 @@
 //! Messages made by hand, after linux/rtnetlink.h, if_link.h and if_addr.h, and their lines.
 
-use crate::find::find;
-use crate::messages::answer_to;
-use netlink_packet_core::DefaultNla;
+use crate::messages::{Cause, Output, Stop, lines_of};
+use netlink_route::RouteMessage;
 use std::alloc::{AllocError, Global};
 use std::test::Fail;
 
@@ -39,11 +38,11 @@ const OTHERS: [u8; 92] = [
     16, 0, 0, 0, 4, 0, 0, 0, 0, 0, 0, 0, 0, 0, 0, 0,
 ];
 
-/// The lines of an input that is taken whole.
-fn lines_of(alloc: Global, input: &[u8]) -> Result<String, AllocError> {
-    let answer = answer_to(alloc, input)?;
-    match answer.fault {
-        None => Ok(answer.output),
+/// Returns the lines of an input whose messages all have one; otherwise nothing.
+fn all_lines(alloc: Global, input: &[u8]) -> Result<String, AllocError> {
+    let output = lines_of::<RouteMessage>(alloc, input)?;
+    match output.stop {
+        None => Ok(output.lines),
         Some(_) => Ok(String::new(alloc)),
     }
 }
@@ -51,7 +50,7 @@ fn lines_of(alloc: Global, input: &[u8]) -> Result<String, AllocError> {
 #[test]
 fn a_link_is_a_line(rt: HostRuntime) -> Result<(), Fail> {
     assert_eq!(rt;
-        lines_of(rt.alloc(), &LO)?.as_str(),
+        all_lines(rt.alloc(), &LO)?.as_str(),
         "Set 1: lo@if9: <LOOPBACK,UP,LOWER_UP> mtu 65536 master if5 state 0x7 link/loopback 00:00:00:00:00:fe kind veth\n"
     );
     Ok(())
@@ -60,7 +59,7 @@ fn a_link_is_a_line(rt: HostRuntime) -> Result<(), Fail> {
 #[test]
 fn an_address_is_a_line(rt: HostRuntime) -> Result<(), Fail> {
     assert_eq!(rt;
-        lines_of(rt.alloc(), &ADDRESS)?.as_str(),
+        all_lines(rt.alloc(), &ADDRESS)?.as_str(),
         "Deleted 4: inet 10.0.0.1 peer 10.0.0.2/24 brd 10.0.0.255 scope link abcd\n"
     );
     Ok(())
@@ -69,25 +68,53 @@ fn an_address_is_a_line(rt: HostRuntime) -> Result<(), Fail> {
 #[test]
 fn other_messages_are_words(rt: HostRuntime) -> Result<(), Fail> {
     assert_eq!(rt;
-        lines_of(rt.alloc(), &OTHERS)?.as_str(),
+        all_lines(rt.alloc(), &OTHERS)?.as_str(),
         "error -2\nack\ndone -22\nnoop\noverrun\n"
     );
     Ok(())
 }
 
-/// Of two attributes of a kind the first is found.
+/// A request for all neighbours (linux/neighbour.h).
+const NEIGHBOURS: [u8; 28] = [
+    28, 0, 0, 0, 30, 0, 1, 3, 1, 0, 0, 0, 0, 0, 0, 0, // length 28, RTM_GETNEIGH
+    2, 0, 0, 0, 0, 0, 0, 0, 0, 0, 0, 0, // AF_INET
+];
+
 #[test]
-fn the_first_of_a_kind_is_found(rt: HostRuntime) -> Result<(), Fail> {
-    let alloc = rt.alloc();
-    let all = [
-        DefaultNla::new(3, vec![in alloc; 7u8]?),
-        DefaultNla::new(4, vec![in alloc; 8u8]?),
-        DefaultNla::new(4, vec![in alloc; 9u8]?),
-    ];
-    match find(&all, 4) {
-        Some(found) => assert!(rt; *found == all[1]),
+fn a_neighbour_has_no_line(rt: HostRuntime) -> Result<(), Fail> {
+    let Output { lines, stop } = lines_of::<RouteMessage>(rt.alloc(), &NEIGHBOURS)?;
+    assert!(rt; lines.is_empty());
+    match stop {
+        Some(stop) => {
+            assert_eq!(rt;
+                stop,
+                Stop {
+                    at: 0,
+                    cause: Cause::NoLine(30)
+                }
+            );
+            assert_eq!(rt;
+                stop.to_string(rt.alloc())?.as_str(),
+                "byte 0: no line for message type 30"
+            );
+        }
         None => assert!(rt; false),
     }
-    assert!(rt; find(&all, 0x8004).is_none());
+    Ok(())
+}
+
+/// A link named in Latin-1, without a NUL and with no other attribute.
+const LATIN: [u8; 40] = [
+    40, 0, 0, 0, 16, 0, 0, 0, 0, 0, 0, 0, 0, 0, 0, 0, // length 40, RTM_NEWLINK
+    0, 0, 1, 0, 0xff, 0xff, 0xff, 0xff, 0, 0, 0, 0, 0, 0, 0, 0, // ARPHRD_ETHER, index -1
+    6, 0, 3, 0, b'c', 0xe9, 0, 0, // IFLA_IFNAME
+];
+
+#[test]
+fn names_may_have_any_bytes(rt: HostRuntime) -> Result<(), Fail> {
+    assert_eq!(rt;
+        all_lines(rt.alloc(), &LATIN)?.as_str(),
+        "-1: 63:e9: <> link/ether\n"
+    );
     Ok(())
 }

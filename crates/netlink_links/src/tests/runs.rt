@@ -3,13 +3,15 @@
 use crate::laws::makes_once;
 use crate::run::{Fault, run};
 use crate::tests::lines::ADDRESS;
+use netlink_route::RouteMessage;
 use std::io;
 use std::io::{Read, Write};
 use std::test::Fail;
 
 const LINE: &str = "Deleted 4: inet 10.0.0.1 peer 10.0.0.2/24 brd 10.0.0.255 scope link abcd\n";
 
-/// The line in front of a cut frame is written, and the fault says at which byte the frame starts.
+/// The line before a truncated frame is written, and the error names the byte at which the frame
+/// starts.
 #[test]
 fn a_cut_frame_ends_the_lines(rt: HostRuntime) -> Result<(), Fail> {
     let alloc = rt.alloc();
@@ -17,7 +19,7 @@ fn a_cut_frame_ends_the_lines(rt: HostRuntime) -> Result<(), Fail> {
     input.extend_from_slice(&ADDRESS[..59])?;
     let mut reader = input.as_slice();
     let mut output: Vec<u8> = Vec::new(alloc);
-    match run(alloc, &mut reader, &mut output) {
+    match run::<RouteMessage, _, _>(alloc, &mut reader, &mut output) {
         Err(fault) => assert_eq!(rt;
             fault.to_string(alloc)?.as_str(),
             "byte 60: failed deserializing NetlinkMessage caused by invalid netlink buffer length caused by invalid netlink buffer: length field says 60 the buffer is 59 bytes long"
@@ -29,7 +31,7 @@ fn a_cut_frame_ends_the_lines(rt: HostRuntime) -> Result<(), Fail> {
     Ok(())
 }
 
-/// Gives nothing.
+/// A reader and a writer that fail.
 #[derive(Drop)]
 struct Broken;
 
@@ -52,9 +54,9 @@ impl Write for Broken {
 #[test]
 fn devices_that_fail(rt: HostRuntime) {
     let mut output: Vec<u8> = Vec::new(rt.alloc());
-    let answer = run(rt.alloc(), &mut Broken, &mut output);
-    assert!(rt; answer == Err(Fault::Read) && output.is_empty());
+    let result = run::<RouteMessage, _, _>(rt.alloc(), &mut Broken, &mut output);
+    assert!(rt; result == Err(Fault::Read) && output.is_empty());
     let mut reader: &[u8] = &ADDRESS;
-    let answer = run(rt.alloc(), &mut reader, &mut Broken);
-    assert!(rt; answer == Err(Fault::Write));
+    let result = run::<RouteMessage, _, _>(rt.alloc(), &mut reader, &mut Broken);
+    assert!(rt; result == Err(Fault::Write));
 }

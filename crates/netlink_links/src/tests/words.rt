@@ -1,4 +1,4 @@
-//! The words of numbers and bytes, after linux/if.h, if_arp.h and rtnetlink.h.
+//! The texts of numbers and bytes, after linux/if.h, if_arp.h and rtnetlink.h.
 
 use crate::flags::flags_text;
 use crate::names::{family_text, hardware_text, scope_text, state_text};
@@ -25,7 +25,7 @@ fn flags_have_names(rt: HostRuntime) -> Result<(), Fail> {
 }
 
 #[test]
-fn numbers_have_words(rt: HostRuntime) -> Result<(), Fail> {
+fn numbers_have_names(rt: HostRuntime) -> Result<(), Fail> {
     let alloc = rt.alloc();
     for (state, text) in [(0, "UNKNOWN"), (2, "DOWN"), (6, "UP"), (200, "0xc8")] {
         assert_eq!(rt; state_text(alloc, state)?.as_str(), text);
@@ -48,7 +48,7 @@ fn numbers_have_words(rt: HostRuntime) -> Result<(), Fail> {
 fn bytes_have_texts(rt: HostRuntime) -> Result<(), Fail> {
     let alloc = rt.alloc();
     for (name, text) in [("eth0.5", "eth0.5"), ("a\n", "61:0a"), ("", "")] {
-        assert_eq!(rt; name_text(alloc, name)?.as_str(), text);
+        assert_eq!(rt; name_text(alloc, name.as_bytes())?.as_str(), text);
     }
     let mut address = [0; 16];
     address[0] = 0x20;

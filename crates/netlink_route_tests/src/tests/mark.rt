@@ -1,11 +1,11 @@
-//! The mark behind which a test asks for no memory.
+//! The marker after which a test does not allocate.
 
 use std::alloc::Global;
 
-/// The size of the request that is the mark.
+/// The size of the allocation that is the marker.
 const MARK: usize = 7_654_321;
 
-/// Where `tests/memory` runs the test, this request and every later one are refused. Elsewhere it
+/// If `tests/memory` runs the test, this allocation and every later one fails. Otherwise this
 /// changes nothing.
 pub(crate) fn refuse_from_here(alloc: Global) {
     let _ = Vec::<u8>::with_capacity(alloc, MARK);

@@ -1,72 +1,94 @@
-//! Calls that ask for no memory.
+//! Code that does not allocate.
 //!
-//! `tests/memory` runs each test with every request behind its mark refused: it passes as ever, and
-//! it makes none.
+//! `tests/memory` runs each test with every allocation failing, starting at its marker: the test
+//! passes and allocates nothing after the marker.
 
 use crate::tests::mark::refuse_from_here;
-use crate::tests::messages::LO;
-use netlink_packet_core::{Emitable, NetlinkDeserializable, NetlinkHeader};
-use netlink_route::{
-    AddressAttribute, InfoAttribute, IpBytes, LinkAttribute, RouteError, RouteMessage, Text,
-    read_block,
+use crate::tests::samples::{ADDRESS, LO, decoded, wrong_size};
+use netlink_family::{FamilyError, MessageView};
+use netlink_packet_core::NetlinkSerializable;
+use netlink_route::addresses::IFA_CACHEINFO;
+use netlink_route::links::{
+    IFI_INDEX, IFLA_IFNAME, IFLA_INFO_KIND, IFLA_LINKINFO, IFLA_MTU, RTM_NEWLINK,
 };
+use netlink_route::{Addresses, LinkMessage, Links};
 use std::test::Fail;
 
-/// Attributes that were read are compared and written.
+/// Messages that were decoded are compared and encoded.
 #[test]
-fn attributes_in_hand(rt: HostRuntime) -> Result<(), Fail> {
+fn messages_in_hand(rt: HostRuntime) -> Result<(), Fail> {
     let alloc = rt.alloc();
-    let block = read_block::<LinkAttribute>(alloc, &LO[32..])?;
-    let other = read_block::<LinkAttribute>(alloc, &LO[32..])?;
-    let mut buffer = [0; 48];
+    let message = decoded(alloc, 16, &LO[16..])?;
+    let other = decoded(alloc, 16, &LO[16..])?;
+    let mut buffer = [0; 64];
     refuse_from_here(alloc);
-    assert!(rt; block == other && block.buffer_len() == 48);
-    if block.buffer_len() == 48 {
-        block.emit(&mut buffer);
+    assert!(rt; message == other && message.buffer_len() == 64);
+    if message.buffer_len() == 64 {
+        message.serialize(&mut buffer);
     }
     assert!(rt; buffer.ends_with(&[4, 0, 0x41, 0x80]));
     Ok(())
 }
 
-/// Values are made of what is in hand.
+/// Returns the kind of a link.
+fn kind_of<'a>(link: &MessageView<'a, Links>) -> Option<&'a [u8]> {
+    link.view().nest(IFLA_LINKINFO)?.str_bytes(IFLA_INFO_KIND)
+}
+
+/// Counts the attributes of a link.
+fn count(link: &MessageView<'_, Links>) -> u32 {
+    let mut number = 0u32;
+    for _attribute in link.view().attributes() {
+        number = number.wrapping_add(1);
+    }
+    number
+}
+
+/// Views are made of bytes, and read.
 #[test]
-fn values_in_hand(rt: HostRuntime) -> Result<(), Fail> {
-    let alloc = rt.alloc();
-    let name = String::from_str(alloc, "lo")?;
-    let four = vec![in alloc; 7u8; 4]?;
-    refuse_from_here(alloc);
-    assert!(rt; Text::new(name).is_some() && IpBytes::new(four).is_some());
-    assert!(rt; LinkAttribute::other(0x4004, Vec::new(alloc)).is_some());
-    assert!(rt; AddressAttribute::other(8, Vec::new(alloc)).is_none());
-    assert!(rt; InfoAttribute::other(1, Vec::new(alloc)).is_none());
+fn bytes_in_hand(rt: HostRuntime) -> Result<(), Fail> {
+    refuse_from_here(rt.alloc());
+    let link = MessageView::<Links>::new(16, &LO[16..])?;
+    assert!(rt; count(&link) == 5);
+    assert!(rt; kind_of(&link) == Some(b"veth".as_slice()));
+    let view = link.view();
+    assert!(rt; view.str(IFLA_IFNAME) == Some("lo") && view.u32(IFLA_MTU) == Some(65536));
     Ok(())
 }
 
-/// No bytes, and values that hold none, are read with no request.
+/// Fields of a message are written.
 #[test]
-fn what_is_read_with_none(rt: HostRuntime) -> Result<(), Fail> {
-    let alloc = rt.alloc();
-    refuse_from_here(alloc);
-    assert!(rt; read_block::<LinkAttribute>(alloc, &[])?.size == 0);
-    let wrong = read_block::<LinkAttribute>(alloc, &[5, 0, 4, 0, 1, 0, 0, 0]);
-    let size = RouteError::Size {
-        kind: 4,
-        expected: 4,
-        received: 1,
+fn fields_in_hand(rt: HostRuntime) -> Result<(), Fail> {
+    let mut link = LinkMessage::new(rt.alloc(), RTM_NEWLINK)?;
+    refuse_from_here(rt.alloc());
+    link.set_i32(IFI_INDEX, -2);
+    assert!(rt; link.header().i32(IFI_INDEX) == -2);
+    Ok(())
+}
+
+/// Returns the error of a payload of a message type.
+fn error_of(rt: &HostRuntime, message_type: u16, payload: &[u8]) -> Option<FamilyError> {
+    decoded(rt.alloc(), message_type, payload).err()
+}
+
+/// Errors are found without a copy of the payload.
+#[test]
+fn errors_in_hand(rt: HostRuntime) -> Result<(), Fail> {
+    refuse_from_here(rt.alloc());
+    let link = [
+        0, 0, 0, 0, 0, 0, 0, 0, 0, 0, 0, 0, 0, 0, 0, 0, 5, 0, 4, 0, 1, 0, 0, 0,
+    ];
+    let error = MessageView::<Links>::new(16, &link).err();
+    assert!(rt; error == wrong_size(16, IFLA_MTU, 4, 1));
+    let address = [0, 0, 0, 0, 0, 0, 0, 0, 5, 0, 6, 0, 1, 0, 0, 0];
+    let error = MessageView::<Addresses>::new(20, &address).err();
+    assert!(rt; error == wrong_size(8, IFA_CACHEINFO, 16, 1));
+    let unknown = FamilyError::UnknownType { message_type: 31 };
+    assert!(rt; error_of(&rt, 31, &[]) == Some(unknown));
+    let short = FamilyError::HeaderShort {
+        expected: 12,
+        received: 8,
     };
-    assert!(rt; wrong.err() == Some(size));
-    let lasting = read_block::<AddressAttribute>(alloc, &[5, 0, 6, 0, 1, 0, 0, 0]);
-    let lasting_size = RouteError::Size {
-        kind: 6,
-        expected: 16,
-        received: 1,
-    };
-    assert!(rt; lasting.err() == Some(lasting_size));
-    let header = NetlinkHeader {
-        message_type: 30,
-        ..NetlinkHeader::default()
-    };
-    let unknown = RouteMessage::deserialize(alloc, &header, &[]);
-    assert!(rt; unknown.err() == Some(RouteError::UnknownType { message_type: 30 }));
+    assert!(rt; error_of(&rt, 30, &ADDRESS[16..24]) == Some(short));
     Ok(())
 }

@@ -1,75 +1,92 @@
-//! Calls that ask for memory.
+//! Code that allocates.
 //!
-//! `tests/memory` runs each test once for each of its requests, with that one refused. Then it
-//! passes as ever, or it ends with want of memory, which it hands on by `?`.
+//! `tests/memory` runs each test once per allocation, with that allocation failing: the test must
+//! pass, or return the out-of-memory error by `?`.
 
-use crate::tests::messages::{ADDRESS, LO};
-use netlink_packet_core::{DecodeError, NetlinkDeserializable, NetlinkHeader, NlaBlock};
-use netlink_route::{
-    AddressAttribute, InfoAttribute, LinkAttribute, RouteError, RouteMessage, read_block,
-};
+use crate::tests::samples::{ADDRESS, LO, NEIGHBOUR, decoded, invalid};
+use netlink_family::{FamilyError, MessageView, Reason, Value};
+use netlink_packet_core::NetlinkHeader;
+use netlink_route::links::{IFLA_MTU, RTM_NEWLINK};
+use netlink_route::{LinkMessage, Links};
 use std::test::Fail;
 
-/// The header of a message of this type, its numbers all zeros.
-fn of_type(message_type: u16) -> NetlinkHeader {
-    NetlinkHeader {
-        message_type,
-        ..NetlinkHeader::default()
-    }
-}
-
 #[test]
-fn messages_are_read(rt: HostRuntime) -> Result<(), Fail> {
+fn messages_are_decoded(rt: HostRuntime) -> Result<(), Fail> {
     let alloc = rt.alloc();
-    let link = RouteMessage::deserialize(alloc, &of_type(16), &LO[16..])?;
-    assert!(rt; matches!(link, RouteMessage::Link(..)));
-    let address = RouteMessage::deserialize(alloc, &of_type(20), &ADDRESS[16..])?;
-    assert!(rt; matches!(address, RouteMessage::Address(..)));
+    let link = decoded(alloc, 16, &LO[16..])?;
+    assert!(rt; link.view().block.len() == 48);
+    let address = decoded(alloc, 20, &ADDRESS[16..])?;
+    assert!(rt; address.view().block == &ADDRESS[24..]);
+    let neighbour = decoded(alloc, 28, &NEIGHBOUR[16..])?;
+    assert!(rt; neighbour.view().block == &NEIGHBOUR[28..]);
     Ok(())
 }
 
-/// One byte behind the attributes of a link; what stands in front of it is copied first.
+/// One byte follows the attributes of a link. The attributes before it may be copied first.
 #[test]
-fn a_message_is_refused(rt: HostRuntime) -> Result<(), Fail> {
-    match RouteMessage::deserialize(rt.alloc(), &of_type(16), &LO[16..77]) {
-        Ok(_) => assert!(rt; false),
-        Err(fault) => {
-            if fault == RouteError::OutOfMemory {
-                return Err(Fail::from(fault));
-            }
-            let damage = DecodeError::nla_buffer_too_small(1, 4);
-            assert!(rt; fault == RouteError::Attributes(damage));
-        }
+fn a_message_is_rejected(rt: HostRuntime) -> Result<(), Fail> {
+    let error = decoded(rt.alloc(), 16, &LO[16..77]).err();
+    if error == Some(FamilyError::OutOfMemory) {
+        return Err(Fail::from(FamilyError::OutOfMemory));
     }
+    assert!(rt; error == invalid(60, Reason::Short { received: 1 }));
     Ok(())
 }
 
 #[test]
-fn blocks_are_read(rt: HostRuntime) -> Result<(), Fail> {
+fn views_are_copied(rt: HostRuntime) -> Result<(), Fail> {
     let alloc = rt.alloc();
-    let links = read_block::<LinkAttribute>(alloc, &LO[32..])?;
-    assert!(rt; links.list.len() == 5);
-    let addresses = read_block::<AddressAttribute>(alloc, &ADDRESS[24..])?;
-    assert!(rt; addresses.list.len() == 4);
-    let info = read_block::<InfoAttribute>(alloc, &[6, 0, 2, 0, 1, 2, 0, 0, 4, 0, 3, 0])?;
-    assert!(rt; info.list.len() == 2);
+    let link = MessageView::<Links>::new(RTM_NEWLINK, &LO[16..])?;
+    let owned = link.to_owned(alloc)?;
+    assert!(rt; owned.bytes.len() == 64);
+    assert!(rt; owned.view().block == decoded(alloc, 16, &LO[16..])?.view().block);
+    let header = NetlinkHeader {
+        length: 80,
+        message_type: RTM_NEWLINK,
+        flags: 0,
+        sequence_number: 0,
+        port_number: 0,
+    };
+    assert!(rt; link.to_message(alloc, header)?.header.length == 80);
     Ok(())
 }
 
-/// A refused push leaves the block as it was, be it empty or not.
+#[test]
+fn messages_are_shown(rt: HostRuntime) -> Result<(), Fail> {
+    let alloc = rt.alloc();
+    let link = MessageView::<Links>::new(RTM_NEWLINK, &[0; 16])?;
+    assert_eq!(rt;
+        link.show(alloc)?.as_str(),
+        "type 16\nifi_family: 0\nifi_type: 0\nifi_index: 0\nifi_flags: 0\nifi_change: 0\n"
+    );
+    Ok(())
+}
+
+/// After a failed `try_push` the message is unchanged.
+#[test]
+fn attributes_of_any_kind_are_pushed(rt: HostRuntime) -> Result<(), Fail> {
+    let alloc = rt.alloc();
+    let mut link = LinkMessage::new(alloc, RTM_NEWLINK)?;
+    if let Err(error) = link.try_push(alloc, IFLA_MTU, &[7, 0, 0, 0]) {
+        assert!(rt; link.bytes.len() == 16);
+        return Err(Fail::from(error));
+    }
+    assert!(rt; link.bytes.len() == 24);
+    Ok(())
+}
+
+/// After a failed push the message is unchanged.
 #[test]
 fn attributes_are_pushed(rt: HostRuntime) -> Result<(), Fail> {
-    let Some(mut block) = NlaBlock::new(Vec::new(rt.alloc())) else {
-        assert!(rt; false);
-        return Ok(());
-    };
+    let alloc = rt.alloc();
+    let mut link = LinkMessage::new(alloc, RTM_NEWLINK)?;
     for number in 0u32..6 {
-        let size = block.size;
-        if let Err(cause) = block.push(LinkAttribute::Mtu(number)) {
-            assert!(rt; block.size == size && block.list.len() == number as usize);
-            return Err(Fail::from(cause));
+        let size = link.bytes.len();
+        if let Err(error) = link.push(alloc, IFLA_MTU, Value::U32(number)) {
+            assert!(rt; link.bytes.len() == size);
+            return Err(Fail::from(error));
         }
-        assert!(rt; block.size == size + 8);
+        assert!(rt; link.bytes.len() == size.wrapping_add(8));
     }
     Ok(())
 }

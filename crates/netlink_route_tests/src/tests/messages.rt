@@ -1,64 +1,111 @@
-//! Messages that are read, changed and written.
+//! Links and addresses that are decoded, made and encoded.
 
+use crate::tests::samples::{ADDRESS, LO, decoded, wrong_size};
+use netlink_family::{AttributeError, FamilyError, MessageView, Reason, Value};
 use netlink_packet_core::laws::reads_back;
-use netlink_packet_core::{NetlinkMessage, NetlinkPayload, Nla, normalize};
-use netlink_route::{
-    AddressAttribute, AddressVerb, InfoAttribute, IpBytes, LinkAttribute, LinkVerb, RouteMessage,
-    Text,
+use netlink_packet_core::{NetlinkMessage, NetlinkPayload, normalize};
+use netlink_route::addresses::{
+    IFA_ADDRESS, IFA_CACHEINFO, IFA_FLAGS, IFA_INDEX, IFA_LABEL, IFA_LOCAL, IFA_PREFIXLEN,
+    RTM_DELADDR, RTM_NEWADDR,
 };
+use netlink_route::links::{
+    IFI_FLAGS, IFI_INDEX, IFI_TYPE, IFLA_ADDRESS, IFLA_IFNAME, IFLA_INFO_KIND, IFLA_INFO_XSTATS,
+    IFLA_LINKINFO, IFLA_MTU, RTM_NEWLINK, RTM_SETLINK,
+};
+use netlink_route::{AddressMessage, Addresses, LinkMessage, Links, RouteMessage};
+use std::alloc::Global;
 use std::test::Fail;
 
-/// The link "lo" with packets of 65536 bytes, its address (padding 0xaa), the kind "veth" in a nest
-/// without its bit, and an attribute of kind 0x8041.
-pub const LO: [u8; 80] = [
-    80, 0, 0, 0, 16, 0, 2, 0, 1, 0, 0, 0, 0, 0, 0, 0, // length 80, RTM_NEWLINK
-    0, 0, 4, 3, 1, 0, 0, 0, 0x49, 0, 1, 0, 0, 0, 0, 0, // AF_UNSPEC, ARPHRD_LOOPBACK, index 1
-    7, 0, 3, 0, b'l', b'o', 0, 0xaa, // IFLA_IFNAME
-    8, 0, 4, 0, 0, 0, 1, 0, // IFLA_MTU
-    10, 0, 1, 0, 0, 0, 0, 0, 0, 0, 0xaa, 0xaa, // IFLA_ADDRESS
-    13, 0, 18, 0, 9, 0, 1, 0, b'v', b'e', b't', b'h', 0, 0, 0, 0, // IFLA_LINKINFO
-    4, 0, 0x41, 0x80,
-];
+/// Decodes a payload, and returns the family of the message.
+fn family_of(
+    alloc: Global,
+    message_type: u16,
+    payload: &[u8],
+) -> Result<&'static str, FamilyError> {
+    let message = decoded(alloc, message_type, payload)?;
+    match message.message_view().tables().split() {
+        Ok(_link) => Ok("link"),
+        Err(other) => match other.split() {
+            Ok(_address) => Ok("address"),
+            Err(_neighbour) => Ok("neighbour"),
+        },
+    }
+}
 
 #[test]
-fn a_link_is_read_and_written(rt: HostRuntime) -> Result<(), Fail> {
+fn families_are_distinguished_by_message_type(rt: HostRuntime) -> Result<(), Fail> {
+    let zeros = [0u8; 16];
+    let rows: [(u16, usize, &str); 10] = [
+        (16, 16, "link"),
+        (17, 16, "link"),
+        (18, 16, "link"),
+        (19, 16, "link"),
+        (20, 8, "address"),
+        (21, 8, "address"),
+        (22, 8, "address"),
+        (28, 12, "neighbour"),
+        (29, 12, "neighbour"),
+        (30, 12, "neighbour"),
+    ];
+    for (message_type, size, family) in rows.iter() {
+        if *size <= 16 {
+            let found = family_of(rt.alloc(), *message_type, &zeros[..*size])?;
+            assert_eq!(rt; found, *family);
+        }
+    }
+    Ok(())
+}
+
+/// Returns whether the link is that of `LO`.
+fn is_lo(link: &MessageView<'_, Links>) -> bool {
+    let header = link.header();
+    let has_header = header.i32(IFI_INDEX) == 1
+        && header.u16(IFI_TYPE) == 0x0304
+        && header.u32(IFI_FLAGS) == 0x0001_0049;
+    has_header && link.message_type == RTM_NEWLINK && has_lo_attributes(link)
+}
+
+/// Returns whether the attributes are those of `LO`, in their order.
+fn has_lo_attributes(link: &MessageView<'_, Links>) -> bool {
+    let mut all = link.view().attributes();
+    let first = all.next() == Some((IFLA_IFNAME, Value::Str(b"lo\0")))
+        && all.next() == Some((IFLA_MTU, Value::U32(65536)))
+        && all.next() == Some((IFLA_ADDRESS, Value::Bytes(&[0, 0, 0, 0, 0, 0])));
+    let is_veth = match all.next() {
+        Some((IFLA_LINKINFO, Value::Nested(info))) => {
+            let mut inner = info.attributes();
+            inner.next() == Some((IFLA_INFO_KIND, Value::Str(b"veth\0"))) && inner.next() == None
+        }
+        _ => false,
+    };
+    first && is_veth && all.next() == Some((0x8041, Value::Bytes(&[]))) && all.next() == None
+}
+
+#[test]
+fn a_link_is_decoded(rt: HostRuntime) -> Result<(), Fail> {
     let message = NetlinkMessage::<RouteMessage>::deserialize(rt.alloc(), &LO)?;
-    assert!(rt; message.fits());
-    reads_back(&message, &message, &[7]);
     match &message.payload {
-        NetlinkPayload::InnerMessage(RouteMessage::Link(verb, link)) => {
-            assert!(rt; *verb == LinkVerb::New);
-            assert_eq!(rt; link.header.index, 1);
-            assert_eq!(rt; link.header.layer_type, 0x0304);
-            match link.attributes.list.as_slice() {
-                [
-                    LinkAttribute::IfName(name),
-                    LinkAttribute::Mtu(65536),
-                    LinkAttribute::Address(_),
-                    LinkAttribute::LinkInfo(info),
-                    LinkAttribute::Other(other),
-                ] => {
-                    assert_eq!(rt; name.text.as_str(), "lo");
-                    match info.list.as_slice() {
-                        [InfoAttribute::Kind(kind)] => {
-                            assert_eq!(rt; kind.text.as_str(), "veth");
-                        }
-                        _ => assert!(rt; false),
-                    }
-                    assert_eq!(rt; other.kind, 0x8041);
-                }
-                _ => assert!(rt; false),
+        NetlinkPayload::InnerMessage(message) => {
+            match message.message_view().tables().split() {
+                Ok(link) => assert!(rt; is_lo(&link)),
+                Err(_) => assert!(rt; false),
             }
         }
         _ => assert!(rt; false),
     }
-    // padding is written as zeros, and the nest with its padding
-    let mut canonical = [0; 80];
-    canonical.copy_from_slice(&LO);
+    Ok(())
+}
+
+#[test]
+fn a_link_is_encoded(rt: HostRuntime) -> Result<(), Fail> {
+    let message = NetlinkMessage::<RouteMessage>::deserialize(rt.alloc(), &LO)?;
+    assert!(rt; message.fits());
+    reads_back(&message, &message, &[7]);
+    // padding outside nests is written as zeros
+    let mut canonical = LO;
     canonical[39] = 0;
     canonical[58] = 0;
     canonical[59] = 0;
-    canonical[60] = 16;
     assert_eq!(rt;
         normalize::<RouteMessage>(rt.alloc(), &LO)?.as_slice(),
         canonical.as_slice()
@@ -66,41 +113,29 @@ fn a_link_is_read_and_written(rt: HostRuntime) -> Result<(), Fail> {
     Ok(())
 }
 
-/// The address 192.0.2.1/24 of link 4 as the kernel sends it: `IFA_ADDRESS`, `IFA_LABEL`,
-/// `IFA_FLAGS` and `IFA_CACHEINFO`.
-pub const ADDRESS: [u8; 72] = [
-    72, 0, 0, 0, 20, 0, 2, 0, 1, 0, 0, 0, 0, 0, 0, 0, // length 72, RTM_NEWADDR
-    2, 24, 0x80, 0, 4, 0, 0, 0, // AF_INET, prefix 24, IFA_F_PERMANENT, scope 0, index 4
-    8, 0, 1, 0, 192, 0, 2, 1, // IFA_ADDRESS
-    9, 0, 3, 0, b'e', b't', b'h', b'0', 0, 0, 0, 0, // IFA_LABEL
-    8, 0, 8, 0, 0x80, 0, 0, 0, // IFA_FLAGS
-    20, 0, 6, 0, 255, 255, 255, 255, 255, 255, 255, 255, 1, 2, 3, 4, 5, 6, 7, 8, // IFA_CACHEINFO
-];
+/// Returns whether the address is that of `ADDRESS`.
+fn is_address(address: &MessageView<'_, Addresses>) -> bool {
+    let header = address.header();
+    let has_header = header.u8(IFA_PREFIXLEN) == 24 && header.u32(IFA_INDEX) == 4;
+    let mut all = address.view().attributes();
+    has_header
+        && address.message_type == RTM_NEWADDR
+        && all.next() == Some((IFA_ADDRESS, Value::Ip(&[192, 0, 2, 1])))
+        && all.next() == Some((IFA_LABEL, Value::Str(b"eth0\0")))
+        && all.next() == Some((IFA_FLAGS, Value::U32(0x80)))
+        && all.next() == Some((IFA_CACHEINFO, Value::ExactLen(&ADDRESS[56..])))
+        && all.next() == None
+}
 
 #[test]
-fn an_address_is_read_and_written(rt: HostRuntime) -> Result<(), Fail> {
-    let message = NetlinkMessage::<RouteMessage>::deserialize(rt.alloc(), &ADDRESS)?;
-    match &message.payload {
-        NetlinkPayload::InnerMessage(RouteMessage::Address(verb, address)) => {
-            assert!(rt; *verb == AddressVerb::New);
-            assert_eq!(rt; address.header.prefix_len, 24);
-            match address.attributes.list.as_slice() {
-                [
-                    AddressAttribute::Address(ip),
-                    _,
-                    AddressAttribute::Flags(0x80),
-                    AddressAttribute::CacheInfo(info),
-                ] => {
-                    assert_eq!(rt; info.preferred, 0xffff_ffff);
-                    assert_eq!(rt; info.valid, 0xffff_ffff);
-                    assert_eq!(rt; info.created, 0x0403_0201);
-                    assert_eq!(rt; info.updated, 0x0807_0605);
-                    assert_eq!(rt; ip.bytes.as_slice(), [192, 0, 2, 1].as_slice());
-                }
-                _ => assert!(rt; false),
-            }
-        }
-        _ => assert!(rt; false),
+fn an_address_is_decoded_and_encoded(rt: HostRuntime) -> Result<(), Fail> {
+    let message = decoded(rt.alloc(), 20, &ADDRESS[16..])?;
+    match message.message_view().tables().split() {
+        Ok(_) => assert!(rt; false),
+        Err(other) => match other.split() {
+            Ok(address) => assert!(rt; is_address(&address)),
+            Err(_) => assert!(rt; false),
+        },
     }
     assert_eq!(rt;
         normalize::<RouteMessage>(rt.alloc(), &ADDRESS)?.as_slice(),
@@ -109,20 +144,88 @@ fn an_address_is_read_and_written(rt: HostRuntime) -> Result<(), Fail> {
     Ok(())
 }
 
+/// Appends an attribute to a link. Returns the error if there is one.
+fn link_error(
+    alloc: Global,
+    link: &mut LinkMessage,
+    kind: u16,
+    value: &[u8],
+) -> Option<FamilyError> {
+    link.try_push(alloc, kind, value).err()
+}
+
+/// Appends an attribute to an address. Returns the error if there is one.
+fn address_error(
+    alloc: Global,
+    address: &mut AddressMessage,
+    kind: u16,
+    value: &[u8],
+) -> Option<FamilyError> {
+    address.try_push(alloc, kind, value).err()
+}
+
 #[test]
-fn values_are_made(rt: HostRuntime) -> Result<(), Fail> {
+fn values_of_links_are_checked(rt: HostRuntime) -> Result<(), Fail> {
     let alloc = rt.alloc();
-    assert!(rt; Text::new(String::from_str(alloc, "l\0o")?).is_none());
-    assert!(rt; Text::new(String::from_str(alloc, "lo")?).is_some());
-    assert!(rt; LinkAttribute::other(4, Vec::new(alloc)).is_none());
-    match LinkAttribute::other(0x4004, vec![in alloc; 7]?) {
-        Some(other) => assert!(rt; other.kind() == 0x4004 && other != LinkAttribute::Mtu(7)),
+    let mut link = LinkMessage::new(alloc, RTM_SETLINK)?;
+    let nul = AttributeError {
+        offset: 0,
+        policy: 0,
+        reason: Reason::InteriorNul { kind: IFLA_IFNAME },
+    };
+    let error = link_error(alloc, &mut link, IFLA_IFNAME, b"l\0o");
+    assert!(rt; error == Some(FamilyError::InvalidAttribute(nul)));
+    let error = link_error(alloc, &mut link, IFLA_MTU, &[]);
+    assert!(rt; error == wrong_size(0, IFLA_MTU, 4, 0));
+    // flag bits are ignored, and the error has the kind as received
+    let error = link_error(alloc, &mut link, 0x4004, &[7]);
+    assert!(rt; error == wrong_size(0, 0x4004, 4, 1));
+    assert!(rt; link.bytes.len() == 16);
+    Ok(())
+}
+
+#[test]
+fn valid_values_of_links_are_appended(rt: HostRuntime) -> Result<(), Fail> {
+    let alloc = rt.alloc();
+    let mut link = LinkMessage::new(alloc, RTM_SETLINK)?;
+    assert!(rt; link_error(alloc, &mut link, IFLA_IFNAME, b"lo") == None);
+    assert!(rt; link_error(alloc, &mut link, 0x4004, &[7, 0, 0, 0]) == None);
+    // an empty IFLA_INFO_XSTATS in a nest
+    assert!(rt; link_error(alloc, &mut link, IFLA_LINKINFO, &[4, 0, 3, 0]) == None);
+    assert_eq!(rt;
+        link.view().block,
+        [
+            6, 0, 3, 0, b'l', b'o', 0, 0, // IFLA_IFNAME
+            8, 0, 4, 0x40, 7, 0, 0, 0, // IFLA_MTU with NLA_F_NET_BYTEORDER
+            8, 0, 18, 0, 4, 0, 3, 0, // IFLA_LINKINFO
+        ]
+        .as_slice()
+    );
+    assert!(rt; link.view().u32(IFLA_MTU) == Some(7));
+    match link.view().nest(IFLA_LINKINFO) {
+        Some(info) => assert!(rt; info.bytes(IFLA_INFO_XSTATS) == Some(&[])),
         None => assert!(rt; false),
     }
-    assert!(rt; IpBytes::new(vec![in alloc; 0u8; 5]?).is_none());
-    assert!(rt; IpBytes::new(vec![in alloc; 0u8; 16]?).is_some());
-    assert!(rt; AddressAttribute::other(8, Vec::new(alloc)).is_none());
-    assert!(rt; InfoAttribute::other(1, Vec::new(alloc)).is_none());
-    assert!(rt; InfoAttribute::other(3, Vec::new(alloc)).is_some());
+    Ok(())
+}
+
+#[test]
+fn values_of_addresses_are_checked(rt: HostRuntime) -> Result<(), Fail> {
+    let alloc = rt.alloc();
+    let mut address = AddressMessage::new(alloc, RTM_DELADDR)?;
+    let size = AttributeError {
+        offset: 0,
+        policy: 0,
+        reason: Reason::WrongAddressSize {
+            kind: IFA_LOCAL,
+            received: 5,
+        },
+    };
+    let error = address_error(alloc, &mut address, IFA_LOCAL, &[0; 5]);
+    assert!(rt; error == Some(FamilyError::InvalidAttribute(size)));
+    assert!(rt; address_error(alloc, &mut address, IFA_LOCAL, &[0; 16]) == None);
+    let error = address_error(alloc, &mut address, IFA_FLAGS, &[]);
+    assert!(rt; error == wrong_size(0, IFA_FLAGS, 4, 0));
+    assert!(rt; address.bytes.len() == 28);
     Ok(())
 }

@@ -1,0 +1,89 @@
+-- Binary search in sorted rows.
+use Rattle.std.proofs.Common.{◌≡◌, ◌+◌, ◌-◌, ◌<◌, ◌≤◌, arith, length, slice_index_or, Bor, ◌==◌, ◌&&◌, ℕ, Bool, true, false, List, [], ◌∷◌, ◌++◌, take, drop, ap, sym, ◌∙◌, subst, refl, Option, Some}
+use Rattle.std.specs.Prelude.{if◌then◌else◌}
+use Rattle.std.proofs.lemmas.Bool.{and_parts, eqb-true}
+use Rattle.std.proofs.lemmas.List.{drop_more, map-append, take-append-drop, take_all}
+use Rattle.netlink_family.specs.Shapes.{Row, stored_row, row_at, rows_in, are_sorted, key_before}
+use Rattle.netlink_family.specs.SortedLaws.{at_row, back_sorted, before_row, after_row, front_sorted, is_after, key_less}
+use Rattle.netlink_family.specs.declared.shape.Shape.{Shape}
+use Rattle.netlink_family.specs.declared.shape.Shape.TheVariants.{Flag}
+
+-- a row as the code declares it
+abbrev pub StoredRow : Type 0
+StoredRow = ℕ × ℕ × Bor (List ℕ) × Shape
+
+-- a placeholder for a missing row
+abbrev pub blank : StoredRow
+blank = (0, 0, record { ref_ptr = (0, 0); now = [] }, Flag)
+
+-- all but the first
+abbrev pub all_but_first : {X : Type 0} → List X → List X
+all_but_first l = take (length l - 1) (drop 1 l)
+
+pub first_and_rest : {X : Type 0} (l : List X) (d : X) → 1 ≤ length l → l ≡ slice_index_or l 0 d ∷ all_but_first l
+first_and_rest [] d some = absurd (omega arith)
+first_and_rest (x ∷ l) d some = ap (λ r. x ∷ r) (sym (take_all (length (x ∷ l) - 1) l (omega arith)))
+
+-- the invariant: the row is among those that are left, and they are sorted
+pub record AreLeft (p k : ℕ) (rows rest : List StoredRow) : Type 0 where
+  pub same : row_at (rows_in rows) p k ≡ row_at (rows_in rest) p k
+  pub sorted : are_sorted (rows_in rest) ≡ true
+
+parts : (rest : List StoredRow) (m : ℕ) (front tail back : List StoredRow) (row : StoredRow)
+    → front ≡ take m rest → tail ≡ drop m rest → tail ≡ row ∷ back
+    → rows_in rest ≡ rows_in front ++ (stored_row row ∷ rows_in back)
+parts rest m front tail back row head after is =
+    ap rows_in (sym (take-append-drop m rest)) ∙ map-append stored_row (take m rest) (drop m rest)
+    ∙ ap (λ x. rows_in x ++ rows_in (drop m rest)) (sym head) ∙ ap (λ x. rows_in front ++ rows_in x) (sym after ∙ is)
+
+module _ (p k : ℕ) (rows rest : List StoredRow) (m : ℕ) (front tail back : List StoredRow)
+    (row : StoredRow) (left : AreLeft p k rows rest) (head : front ≡ take m rest) (after : tail ≡ drop m rest)
+    (is : tail ≡ row ∷ back) where
+  whole : rows_in rest ≡ rows_in front ++ (stored_row row ∷ rows_in back)
+  whole = parts rest m front tail back row head after is
+
+  order : are_sorted (rows_in front ++ (stored_row row ∷ rows_in back)) ≡ true
+  order = sym (ap are_sorted whole) ∙ left.sorted
+
+  goes_back : key_before row.0 row.1 p k ≡ true → AreLeft p k rows back
+  goes_back less = record {
+    same =
+        left.same ∙ ap (λ (x : List Row). row_at x p k) whole
+        ∙ after_row (rows_in front) (stored_row row) (rows_in back) p k order (key_less row.0 row.1 p k less);
+    sorted = back_sorted (rows_in front) (stored_row row) (rows_in back) order;
+  }
+
+  goes_front : (row.0 == p && row.1 == k) ≡ false → key_before row.0 row.1 p k ≡ false → AreLeft p k rows front
+  goes_front other not = record {
+    same =
+        left.same ∙ ap (λ (x : List Row). row_at x p k) whole
+        ∙ before_row (rows_in front) (stored_row row) (rows_in back) p k order (is_after row.0 row.1 p k other not);
+    sorted = front_sorted (rows_in front) (stored_row row ∷ rows_in back) order;
+  }
+
+  by_side : (b : Bool) → (row.0 == p && row.1 == k) ≡ false → key_before row.0 row.1 p k ≡ b
+      → AreLeft p k rows (if b then back else front)
+  by_side true other less = goes_back less
+  by_side false other not = goes_front other not
+
+  -- the search continues in one half
+  pub goes_on : (next : List StoredRow) (same after : Bool) → same ≡ (row.0 == p && row.1 == k) → same ≡ false
+      → after ≡ key_before row.0 row.1 p k → next ≡ (if after then back else front) → AreLeft p k rows next
+  goes_on next same after_row which other side half =
+      subst (AreLeft p k rows) (sym half) (by_side after_row (sym which ∙ other) (sym side))
+
+  -- or ends at the row
+  pub found : (same : Bool) → same ≡ (row.0 == p && row.1 == k) → same ≡ true
+      → ◌≡◌ {A = Option Row} (Some (stored_row row)) (row_at (rows_in rows) p k)
+  found same which is =
+      let keys = and_parts (row.0 == p) (row.1 == k) (sym which ∙ is) in
+      sym (left.same ∙ ap (λ (x : List Row). row_at x p k) whole
+      ∙ at_row (rows_in front) (stored_row row) (rows_in back) p k order (eqb-true row.0 p keys.0) (eqb-true row.1 k keys.1))
+
+-- the row at an index
+pub found_at : (p k : ℕ) (rows : List StoredRow) (at : ℕ) → are_sorted (rows_in rows) ≡ true → at < length rows
+    → (same : Bool) → same ≡ ((slice_index_or rows at blank).0 == p && (slice_index_or rows at blank).1 == k) → same ≡ true
+    → ◌≡◌ {A = Option Row} (Some (stored_row (slice_index_or rows at blank))) (row_at (rows_in rows) p k)
+found_at p k rows at sorted inside =
+    found p k rows rows at (take at rows) (drop at rows) (drop (at + 1) rows) (slice_index_or rows at blank)
+    (record { same = refl; sorted = sorted }) refl refl (drop_more rows at blank inside)

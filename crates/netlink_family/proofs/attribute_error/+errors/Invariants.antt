@@ -1,0 +1,15 @@
+use Rattle.std.proofs.Common.{◌+◌, ◌*◌}
+use Rattle.netlink_packet_core.specs.Steps.{unread}
+use Rattle.netlink_family.specs.Shapes.{rows_in}
+use Rattle.netlink_family.proofs.FirstErrors.{AreFine}
+use Rattle.netlink_family.proofs.attribute_error.+errors.Given as goal
+
+abbrev pub decreases-value_error : goal.decreases-value_error
+decreases-value_error l = 2 * l.levels
+
+abbrev pub decreases-error_in : goal.decreases-error_in
+decreases-error_in l = 2 * l.levels + 1
+
+abbrev pub invariant-error_in-loop-item : goal.invariant-error_in-loop-item
+invariant-error_in-loop-item l =
+    AreFine l.levels (rows_in l.rows) l.policy l.end l.block l.left (unread l.item-iterator)

@@ -1,0 +1,6 @@
+use Rattle.std.proofs.Common.{ap, ◌∙◌}
+use Rattle.netlink_family.specs.Shapes.{are_sorted}
+use Rattle.netlink_family.proofs.family.rows_of.Goals as goal
+
+pub returns-clause-sorted : goal.returns-clause-sorted
+returns-clause-sorted g c = ap are_sorted c.rows.ensures.rows ∙ g.met.F.Table.sorted c.args.message_type

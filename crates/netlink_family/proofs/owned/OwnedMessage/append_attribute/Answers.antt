@@ -1,0 +1,15 @@
+use Rattle.std.proofs.Common.{◌≡◌, true, ap, rules, ◌∙◌}
+use Rattle.netlink_family.specs.Message.{is_canonical_payload}
+use Rattle.netlink_family.specs.Pushing.{has_room}
+use Rattle.netlink_family.proofs.CanonicalPayloads.{either, push_canonical}
+use Rattle.netlink_family.proofs.owned.OwnedMessage.append_attribute.Goals as goal
+
+pub invariant_of-self-clause-canonical : goal.invariant_of-self-clause-canonical
+invariant_of-self-clause-canonical g c =
+    let has : has_room (g.F.Table.header_len c.args.self.now.message_type) c.args.self.now.bytes.items c.args.value.now ≡ true = search rules in
+    either c.append_nla.result _ _
+    (is_canonical_payload (g.F.Table.header_len c.args.self.now.message_type) (g.F.Table.rows c.args.self.now.message_type) c.append_nla.new.block.items ≡ true)
+    c.append_nla.ensures.ok c.append_nla.ensures.err
+    (λ writes. push_canonical (g.F.Table.header_len c.args.self.now.message_type) (g.F.Table.rows c.args.self.now.message_type) c.args.self.now.bytes.items c.append_nla.new.block.items
+    c.args.kind c.args.value.now c.args.self.now.canonical c.ranges.kind.fits c.requires.shape has writes)
+    (λ e q. ap (is_canonical_payload (g.F.Table.header_len c.args.self.now.message_type) (g.F.Table.rows c.args.self.now.message_type)) q.1 ∙ c.args.self.now.canonical)

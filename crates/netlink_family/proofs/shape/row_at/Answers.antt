@@ -1,0 +1,7 @@
+use Rattle.std.proofs.Common.{arith}
+use Rattle.netlink_family.proofs.RowSearch.{found_at}
+use Rattle.netlink_family.proofs.shape.row_at.Goals as goal
+
+pub returns-then-is_same : goal.returns-then-is_same
+returns-then-is_same c =
+    found_at c.args.policy c.args.kind c.args.rows.now _ c.requires.sorted (omega arith) c.is_same.result c.is_same.ensures c.if-is_same.true

@@ -1,0 +1,13 @@
+use Rattle.std.proofs.Common.{◌≡◌, ◌++◌, length, string_bytes}
+use Rattle.netlink_family.specs.Shapes.{fields_in}
+use Rattle.netlink_family.specs.Show.{field_lines}
+use Rattle.netlink_family.proofs.show.push_fields.Given as goal
+
+-- the text still to be appended is that of the rest of the fields
+abbrev pub invariant-loop-rest : goal.invariant-loop-rest
+invariant-loop-rest l =
+    string_bytes l.fn.text ++ field_lines (fields_in l.fields) l.header
+    ≡ string_bytes l.text ++ field_lines (fields_in l.rest) l.header
+
+abbrev pub decreases-loop-rest : goal.decreases-loop-rest
+decreases-loop-rest l = length l.rest

@@ -1,0 +1,335 @@
+-- A payload has an error if and only if it is not read.
+use Rattle.std.specs.Prelude.{ℕ, zero, suc, ◌≡◌, ◌≢◌, ◌+◌, ◌-◌, ◌<◌, ◌≤◌, ◌^◌, Bool, true, false, ◌&&◌, List, [], ◌∷◌, length, drop, take, nat_le, nat_lt, is_none, is_some, Option, Some, None, refl, if◌then◌else◌}
+use Rattle.std.specs.List.{list_all}
+use Rattle.std.specs.Option.{option_map}
+use Rattle.std.proofs.Common.{ap, arith, sym, ◌∙◌, length-drop}
+use Rattle.std.proofs.lemmas.Bool.{and_from, and_left, and_right, le-leb, le-ltb, lt-leb, lt-ltb}
+use Rattle.netlink_packet_core.specs.Attribute.{Attribute, padded_size}
+use Rattle.netlink_packet_core.specs.DecodeError.{DecodeError}
+use Rattle.netlink_packet_core.specs.DecodeError.TheVariants.{NlaBufferTooSmall, NlaLengthMismatch, NlaInvalidLength}
+use Rattle.netlink_packet_core.specs.Reading.{attributes_in, attributes_within, starts_whole}
+use Rattle.netlink_packet_core.specs.StartLaws.{nothing_starts, starts-attribute_of, starts-length, starts-length_field, starts-rest}
+use Rattle.netlink_packet_core.specs.Views.{attribute_of, length_field, raw_kind}
+use Rattle.netlink_packet_core.specs.Walk.{IsFault, Starts}
+use Rattle.netlink_family.specs.Blocks.{all_normalized, block_fits, block_reading, keep_fit, normalize, normalized, with_first}
+use Rattle.netlink_family.specs.PayloadReading.{after_header, payload_reading}
+use Rattle.netlink_family.specs.Errors.{ValueError, block_error, reason_of, decode_reason, walk_reason, payload_error, error_at, error_in, first_error, flat_error, left_after, message_error, too_long_error, value_error}
+use Rattle.netlink_family.specs.Shapes.{Row, all_shaped, by_nest, fits_kind, has_shape, is_shaped, nest_levels, nest_of, or_first, reading_by, shape_in}
+use Rattle.netlink_family.specs.declared.error.FamilyError.{FamilyError}
+use Rattle.netlink_family.specs.declared.error.FamilyError.TheVariants.{InvalidAttribute, TooLong}
+use Rattle.netlink_family.specs.declared.attribute_error.Reason.{Reason}
+use Rattle.netlink_family.specs.declared.attribute_error.Reason.TheVariants.{TooDeep}
+use Rattle.netlink_family.specs.declared.attribute_error.AttributeError.{AttributeError}
+use Rattle.netlink_family.specs.declared.shape.Shape.{Shape}
+
+-- ---- one attribute
+
+pub whole_starts : (bytes : List ℕ) (a : Attribute) (rest : List ℕ) → Starts bytes a rest → starts_whole bytes ≡ true
+whole_starts bytes a rest starts =
+    let field = starts-length_field bytes a rest starts in
+    let size = starts-length bytes a rest starts in
+    let kind : raw_kind bytes ≡ a.kind =
+    ap (λ (x : Attribute). x.kind) (starts-attribute_of bytes a rest starts) in
+    let value = starts.fits.value in
+    let small : a.kind < 2 ^ 16 = starts.fits.kind in
+    let header : 4 ≤ length bytes = omega arith in
+    let least : 4 ≤ length_field bytes = omega arith in
+    let most : length_field bytes ≤ length bytes = omega arith in
+    let length_fits : length_field bytes < 2 ^ 16 = omega arith in
+    let kind_fits : raw_kind bytes < 2 ^ 16 = omega (arith, kind, small) in
+    and_from _ _ (le-leb _ _ header) (and_from _ _ (le-leb _ _ least)
+    (and_from _ _ (le-leb _ _ most) (and_from _ _ (lt-ltb _ _ length_fits) (lt-ltb _ _ kind_fits))))
+
+pub malformed_whole : (bytes : List ℕ) (e : DecodeError) → IsFault bytes e → starts_whole bytes ≡ false
+malformed_whole bytes (NlaBufferTooSmall size least) is = and_left _ _ (lt-leb _ _ is.0)
+malformed_whole bytes (NlaLengthMismatch size said) is =
+    and_right _ _ (and_right _ _ (and_left _ _ (lt-leb _ _ is.1)))
+malformed_whole bytes (NlaInvalidLength least said) is =
+    and_right _ _ (and_left _ _ (lt-leb _ _ is.1))
+malformed_whole bytes _ is = absurd is
+
+walk_reason_is : (bytes : List ℕ) (e : DecodeError) → IsFault bytes e → walk_reason bytes ≡ decode_reason e
+walk_reason_is bytes (NlaBufferTooSmall size least) is =
+    let short : nat_lt (length bytes) 4 ≡ true = lt-ltb _ _ is.0 in
+    let size_is = is.1 in
+    let least_is = is.2 in
+    rw short cc
+walk_reason_is bytes (NlaLengthMismatch size said) is =
+    let long : nat_lt (length bytes) 4 ≡ false = le-ltb _ _ is.0 in
+    let cut : nat_lt (length bytes) (length_field bytes) ≡ true = lt-ltb _ _ is.1 in
+    let size_is = is.2 in
+    let decoded_text_is = is.3 in
+    rw (long, cut) cc
+walk_reason_is bytes (NlaInvalidLength least said) is =
+    let long : nat_lt (length bytes) 4 ≡ false = le-ltb _ _ is.0 in
+    let low = is.1 in
+    let header = is.0 in
+    let whole : nat_lt (length bytes) (length_field bytes) ≡ false = le-ltb _ _ (omega arith) in
+    let least_is = is.2 in
+    let decoded_text_is = is.3 in
+    rw (long, whole) cc
+walk_reason_is bytes _ is = absurd is
+
+-- ---- one step of a walk
+
+same_fuel : (values : ValueError) (policy end m n : ℕ) (bytes : List ℕ) → length bytes ≤ m → length bytes ≤ n
+    → first_error values policy end m bytes ≡ first_error values policy end n bytes
+unfolding first_error
+same_fuel values policy end zero zero bytes p q = refl
+same_fuel values policy end zero (suc n) [] p q = refl
+same_fuel values policy end zero (suc n) (b ∷ more) p q = absurd (omega arith)
+same_fuel values policy end (suc m) zero [] p q = refl
+same_fuel values policy end (suc m) zero (b ∷ more) p q = absurd (omega arith)
+same_fuel values policy end (suc m) (suc n) [] p q = refl
+same_fuel values policy end (suc m) (suc n) (b ∷ more) p q =
+    let bytes : List ℕ = b ∷ more in
+    let a : Attribute = attribute_of bytes in
+    let shorter = length-drop (padded_size a) bytes in
+    ap (λ (later : Option AttributeError). if starts_whole bytes
+    then or_first (values (end - length bytes) (raw_kind bytes) a.value) later
+    else Some (error_at policy (end - length bytes) (walk_reason bytes)))
+    (same_fuel values policy end m n (drop (padded_size a) bytes) (omega arith) (omega arith))
+
+-- if bytes start with an attribute, their error is its error, or else that of the rest
+pub error_step : (values : ValueError) (policy end : ℕ) (bytes : List ℕ) (a : Attribute)
+    (rest : List ℕ) → Starts bytes a rest → first_error values policy end (length bytes) bytes
+    ≡ or_first (values (end - length bytes) a.kind a.value) (first_error values policy end (length rest) rest)
+unfolding first_error
+error_step values policy end [] a rest starts = absurd (nothing_starts [] a rest refl starts)
+error_step values policy end (b ∷ more) a rest starts =
+    let bytes : List ℕ = b ∷ more in
+    let whole = whole_starts bytes a rest starts in
+    let same = starts-attribute_of bytes a rest starts in
+    let size = starts-length bytes a rest starts in
+    ap (λ (is : Bool). if is then or_first (values (end - length bytes) (raw_kind bytes) (attribute_of bytes).value)
+    (first_error values policy end (length more) (drop (padded_size (attribute_of bytes)) bytes))
+    else Some (error_at policy (end - length bytes) (walk_reason bytes))) whole
+    ∙ ap (λ (x : Attribute). or_first (values (end - length bytes) x.kind x.value)
+    (first_error values policy end (length more) (drop (padded_size x) bytes))) same
+    ∙ ap (λ (r : List ℕ). or_first (values (end - length bytes) a.kind a.value)
+    (first_error values policy end (length more) r)) (sym (starts-rest bytes a rest starts))
+    ∙ ap (or_first (values (end - length bytes) a.kind a.value))
+    (same_fuel values policy end (length more) (length rest) rest (omega arith) (omega arith))
+
+-- if they start with none, the error is that of the walk
+pub error_malformed : (values : ValueError) (policy end : ℕ) (bytes : List ℕ) (e : DecodeError)
+    → bytes ≢ [] → IsFault bytes e → first_error values policy end (length bytes) bytes
+    ≡ Some (error_at policy (end - length bytes) (decode_reason e))
+unfolding first_error
+error_malformed values policy end [] e some is = absurd (some refl)
+error_malformed values policy end (b ∷ more) e some is =
+    let bytes : List ℕ = b ∷ more in
+    ap (λ (w : Bool). if w then or_first (values (end - length bytes) (raw_kind bytes) (attribute_of bytes).value)
+    (first_error values policy end (length more) (drop (padded_size (attribute_of bytes)) bytes))
+    else Some (error_at policy (end - length bytes) (walk_reason bytes))) (malformed_whole bytes e is)
+    ∙ ap (λ (why : Reason). Some (error_at policy (end - length bytes) why)) (walk_reason_is bytes e is)
+
+pub error_nothing : (values : ValueError) (policy end : ℕ) (bytes : List ℕ) → bytes ≡ []
+    → first_error values policy end (length bytes) bytes ≡ None
+unfolding first_error
+error_nothing values policy end [] none = refl
+error_nothing values policy end (b ∷ more) none = absurd (cc)
+
+-- the number of bytes left after an attribute
+pub left_after_start : (bytes : List ℕ) (a : Attribute) (rest : List ℕ) → Starts bytes a rest
+    → left_after (length bytes) (length_field bytes) ≡ length rest
+left_after_start bytes a rest starts =
+    let field = starts-length_field bytes a rest starts in
+    let size = length-drop (padded_size a) bytes in
+    let same = ap length (starts-rest bytes a rest starts) in
+    omega arith
+
+-- ---- one value
+
+flat_step : (levels : ℕ) (rows : List Row) (policy at kind : ℕ) (value : List ℕ)
+    → nest_of (shape_in rows policy kind) ≡ None → value_error levels rows policy at kind value
+    ≡ flat_error policy at (shape_in rows policy kind) kind value
+unfolding value_error
+flat_step zero rows policy at kind value flat =
+    ap (λ (n : Option ℕ). by_nest n (λ inner. Some (error_at policy at (TooDeep kind)))
+    (flat_error policy at (shape_in rows policy kind) kind value)) flat
+flat_step (suc levels) rows policy at kind value flat =
+    ap (λ (n : Option ℕ). by_nest n (λ inner. error_in levels rows inner (at + 4 + length value) value)
+    (flat_error policy at (shape_in rows policy kind) kind value)) flat
+
+-- a value that is not a nest
+pub value_flat : (levels : ℕ) (rows : List Row) (policy at kind : ℕ) (value : List ℕ)
+    (shape : Shape) (is : Bool) → shape ≡ shape_in rows policy kind → nest_of shape ≡ None
+    → has_shape shape value ≡ is → value_error levels rows policy at kind value
+    ≡ (if is then None else Some (error_at policy at (reason_of shape kind value)))
+value_flat levels rows policy at kind value shape is same flat has =
+    flat_step levels rows policy at kind value (ap nest_of (sym same) ∙ flat)
+    ∙ ap (λ (s : Shape). flat_error policy at s kind value) (sym same)
+    ∙ ap (λ (b : Bool). if b then None else Some (error_at policy at (reason_of shape kind value))) has
+
+-- a nest that is too deep
+pub value_deep : (levels : ℕ) (rows : List Row) (policy at kind : ℕ) (value : List ℕ)
+    (shape : Shape) (inner : ℕ) → shape ≡ shape_in rows policy kind → nest_of shape ≡ Some inner → levels ≡ 0
+    → value_error levels rows policy at kind value ≡ Some (error_at policy at (TooDeep kind))
+unfolding value_error
+value_deep zero rows policy at kind value shape inner same nest deep =
+    ap (λ (n : Option ℕ). by_nest n (λ inner. Some (error_at policy at (TooDeep kind)))
+    (flat_error policy at (shape_in rows policy kind) kind value)) (ap nest_of (sym same) ∙ nest)
+value_deep (suc levels) rows policy at kind value shape inner same nest deep = absurd (omega arith)
+
+-- a nest
+pub value_nest : (levels : ℕ) (rows : List Row) (policy at kind : ℕ) (value : List ℕ)
+    (shape : Shape) (inner : ℕ) → shape ≡ shape_in rows policy kind → nest_of shape ≡ Some inner → 0 < levels
+    → value_error levels rows policy at kind value ≡ error_in (levels - 1) rows inner (at + 4 + length value) value
+unfolding value_error
+value_nest zero rows policy at kind value shape inner same nest some = absurd (omega arith)
+value_nest (suc levels) rows policy at kind value shape inner same nest some =
+    let e : suc levels - 1 ≡ levels = omega arith in
+    ap (λ (n : Option ℕ). by_nest n (λ inner. error_in levels rows inner (at + 4 + length value) value)
+    (flat_error policy at (shape_in rows policy kind) kind value)) (ap nest_of (sym same) ∙ nest)
+    ∙ ap (λ (n : ℕ). error_in n rows inner (at + 4 + length value) value) (sym e)
+
+-- ---- attributes that have their shapes have no error
+
+pub none_of : {T : Type 0} (first later : Option T)
+    → is_none (or_first first later) ≡ (is_none first && is_none later)
+none_of None later = refl
+none_of (Some first) later = refl
+
+all_first : (is : Attribute → Bool) (a : Attribute) (rest : Option (List Attribute))
+    → all_shaped is (option_map (λ all. a ∷ all) rest) ≡ (is a && all_shaped is rest)
+all_first is a (Some all) = refl
+all_first is a None = sym (and_right (is a) false refl)
+
+by_whole : (whole : Bool) (is : Attribute → Bool) (a : Attribute) (first later : Option AttributeError)
+    (rest : Option (List Attribute)) (malformed : AttributeError) → is_none first ≡ is a
+    → is_none later ≡ all_shaped is rest → is_none (if whole then or_first first later else Some malformed)
+    ≡ all_shaped is (if whole then option_map (λ all. a ∷ all) rest else None)
+by_whole true is a first later rest malformed one more =
+    none_of first later ∙ ap (λ (x : Bool). x && is_none later) one
+    ∙ ap (λ (x : Bool). is a && x) more ∙ sym (all_first is a rest)
+by_whole false is a first later rest malformed one more = refl
+
+first_shaped : (values : ValueError) (is : Attribute → Bool) (policy end most : ℕ) (bytes : List ℕ)
+    → ((at : ℕ) (a : Attribute) → is_none (values at a.kind a.value) ≡ is a)
+    → is_none (first_error values policy end most bytes) ≡ all_shaped is (attributes_within most bytes)
+unfolding first_error attributes_within
+first_shaped values is policy end zero [] each = refl
+first_shaped values is policy end zero (b ∷ more) each = refl
+first_shaped values is policy end (suc most) [] each = refl
+first_shaped values is policy end (suc most) (b ∷ more) each =
+    let bytes : List ℕ = b ∷ more in
+    let a : Attribute = attribute_of bytes in
+    by_whole (starts_whole bytes) is a (values (end - length bytes) a.kind a.value)
+    (first_error values policy end most (drop (padded_size a) bytes))
+    (attributes_within most (drop (padded_size a) bytes)) _ (each (end - length bytes) a)
+    (first_shaped values is policy end most (drop (padded_size a) bytes) each)
+
+by_cases : (nest : Option ℕ) (f : ℕ → Option AttributeError) (g : ℕ → Bool) (flat : Option AttributeError) (has : Bool)
+    → ((policy : ℕ) → is_none (f policy) ≡ g policy) → is_none flat ≡ has
+    → is_none (by_nest nest f flat) ≡ by_nest nest g has
+by_cases None f g flat has inner outer = outer
+by_cases (Some policy) f g flat has inner outer = inner policy
+
+flat_none : (has : Bool) (error : AttributeError) → is_none (if has then None else Some error) ≡ has
+flat_none true error = refl
+flat_none false error = refl
+
+pub value_shaped : (levels : ℕ) (rows : List Row) (policy at kind : ℕ) (value : List ℕ)
+    → is_none (value_error levels rows policy at kind value) ≡ is_shaped levels rows (shape_in rows policy kind) value
+unfolding value_error is_shaped
+value_shaped zero rows policy at kind value =
+    by_cases (nest_of (shape_in rows policy kind)) _ (λ inner. false) _ _ (λ inner. refl)
+    (flat_none (has_shape (shape_in rows policy kind) value) _)
+value_shaped (suc levels) rows policy at kind value =
+    by_cases (nest_of (shape_in rows policy kind)) _
+    (λ inner. all_shaped (λ a. is_shaped levels rows (shape_in rows inner a.kind) a.value) (attributes_in value)) _ _
+    (λ inner. first_shaped (value_error levels rows inner)
+    (λ a. is_shaped levels rows (shape_in rows inner a.kind) a.value) inner
+    (at + 4 + length value) (length value) value (λ place a. value_shaped levels rows inner place a.kind a.value))
+    (flat_none (has_shape (shape_in rows policy kind) value) _)
+
+abbrev fits : List Row → Attribute → Bool
+fits rows a = fits_kind rows a.kind a.value
+
+pub block_shaped : (rows : List Row) (end : ℕ) (block : List ℕ)
+    → is_none (block_error rows end block) ≡ all_shaped (fits rows) (attributes_in block)
+block_shaped rows end block =
+    first_shaped (value_error nest_levels rows 0) (fits rows) 0 end (length block) block
+    (λ at a. value_shaped nest_levels rows 0 at a.kind a.value)
+
+-- ---- and a payload without an error is read
+
+by_kept : (rows : List Row) (a : Attribute) (rest : Option (List Attribute)) (more : List Attribute)
+    (is later : Bool) → fits rows a ≡ is → rest ≡ (if later then Some more else None)
+    → with_first (normalized (reading_by rows) a) rest ≡ (if is && later then Some (a ∷ more) else None)
+by_kept rows a rest more true true one all = rw (one, all) refl
+by_kept rows a rest more true false one all = rw (one, all) refl
+by_kept rows a rest more false later one all = rw one refl
+
+pub normalized_by_rows : (rows : List Row) (all : List Attribute)
+    → all_normalized (reading_by rows) all ≡ (if list_all (fits rows) all then Some all else None)
+unfolding all_normalized
+normalized_by_rows rows [] = refl
+normalized_by_rows rows (a ∷ more) =
+    by_kept rows a (all_normalized (reading_by rows) more) more (fits rows a)
+    (list_all (fits rows) more) refl (normalized_by_rows rows more)
+
+by_fit : (t : ℕ) (head : List ℕ) (all : List Attribute) (b : Bool) → is_none (if b then None else Some TooLong)
+    ≡ is_some (after_header t head (if b then Some all else None))
+by_fit t head all true = refl
+by_fit t head all false = refl
+
+by_list : (rows : List Row) (t : ℕ) (head : List ℕ) (all : List Attribute) (is : Bool)
+    (error : Option FamilyError) → list_all (fits rows) all ≡ is → is_none error ≡ is
+    → is_none (or_first error (too_long_error (Some all)))
+    ≡ is_some (after_header t head (keep_fit (if is then Some all else None)))
+by_list rows t head all true None good none = by_fit t head all (block_fits all)
+by_list rows t head all true (Some e) good none = absurd (cc)
+by_list rows t head all false None good none = absurd (cc)
+by_list rows t head all false (Some e) good none = refl
+
+by_attributes : (rows : List Row) (t : ℕ) (head : List ℕ) (all : Option (List Attribute))
+    (error : Option FamilyError) → is_none error ≡ all_shaped (fits rows) all
+    → is_none (or_first error (too_long_error all))
+    ≡ is_some (after_header t head (keep_fit (normalize (reading_by rows) all)))
+by_attributes rows t head None None is = absurd (cc)
+by_attributes rows t head None (Some e) is = refl
+by_attributes rows t head (Some all) error is =
+    by_list rows t head all (list_all (fits rows) all) error refl is
+    ∙ ap (λ (x : Option (List Attribute)). is_some (after_header t head (keep_fit x)))
+    (sym (normalized_by_rows rows all))
+
+none_map : (error : Option AttributeError) → is_none (option_map InvalidAttribute error) ≡ is_none error
+none_map None = refl
+none_map (Some error) = refl
+
+by_long : (long : Bool) (size : ℕ) (rows : List Row) (t : ℕ) (payload : List ℕ) (short : FamilyError)
+    → is_none (if long
+    then or_first (option_map InvalidAttribute (block_error rows (length payload) (drop size payload)))
+    (too_long_error (attributes_in (drop size payload))) else Some short) ≡ is_some (if long
+    then after_header t (take size payload) (block_reading (reading_by rows) (drop size payload)) else None)
+by_long true size rows t payload short =
+    by_attributes rows t (take size payload) (attributes_in (drop size payload))
+    (option_map InvalidAttribute (block_error rows (length payload) (drop size payload)))
+    (none_map (block_error rows (length payload) (drop size payload))
+    ∙ block_shaped rows (length payload) (drop size payload))
+by_long false size rows t payload short = refl
+
+-- a payload is read if and only if it has no error
+pub payload_complete : (size : ℕ) (rows : List Row) (t : ℕ) (payload : List ℕ)
+    → is_none (payload_error size rows payload) ≡ is_some (payload_reading size (reading_by rows) t payload)
+payload_complete size rows t payload =
+    by_long (nat_le size (length payload)) size rows t payload _
+
+pub message_complete : (is : Bool) (size : ℕ) (rows : List Row) (t : ℕ) (payload : List ℕ)
+    → is_none (message_error is size rows t payload)
+    ≡ is_some (if is then payload_reading size (reading_by rows) t payload else None)
+message_complete true size rows t payload = payload_complete size rows t payload
+message_complete false size rows t payload = refl
+
+none_read : {A E : Type 0} (error : Option E) (found : Option A) (e : E)
+    → is_none error ≡ is_some found → error ≡ Some e → found ≡ None
+none_read error None e same is = refl
+none_read error (Some a) e same is = absurd (cc)
+
+-- so a payload with an error is not read
+pub payload_rejected : (size : ℕ) (rows : List Row) (t : ℕ) (payload : List ℕ) (e : FamilyError)
+    → payload_error size rows payload ≡ Some e → payload_reading size (reading_by rows) t payload ≡ None
+payload_rejected size rows t payload e is =
+    none_read _ _ e (payload_complete size rows t payload) is

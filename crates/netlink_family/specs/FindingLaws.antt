@@ -1,0 +1,129 @@
+-- Facts about the first attribute of a kind.
+use Rattle.std.specs.Prelude.{ℕ, ◌≡◌, ◌≢◌, ◌==◌, length, IfNone, Bool, true, false, List, [], ◌∷◌, ◌++◌, Option, Some, None, refl, if◌then◌else◌}
+use Rattle.std.specs.List.{list_all}
+use Rattle.std.proofs.Common.{ap, arith, sym, ◌∙◌}
+use Rattle.std.proofs.lemmas.Bool.{and_parts, eqb-true, eq-eqb}
+use Rattle.netlink_packet_core.specs.Attribute.{Attribute}
+use Rattle.netlink_packet_core.specs.ReadingLaws.{attributes_in-walk}
+use Rattle.netlink_packet_core.specs.DecodeError.{DecodeError}
+use Rattle.netlink_packet_core.specs.Views.{masked}
+use Rattle.netlink_packet_core.specs.Walk.{Walk}
+use Rattle.netlink_family.specs.Finding.{first_in, first_of, found_in}
+use Rattle.netlink_family.specs.NestLaws.{kind_has}
+use Rattle.netlink_family.specs.Shapes.{Row, any_kind, fits_in, has_shape, is_shaped, nest_levels, or_first, row_at, shape_by, shape_in}
+use Rattle.netlink_family.specs.SortedLaws.{if_not}
+use Rattle.netlink_family.specs.Iteration.{AreShaped, fits_at}
+use Rattle.netlink_family.specs.declared.shape.Shape.{Shape}
+use Rattle.netlink_family.specs.declared.shape.Shape.TheVariants.{U8, U16, U32, U64, I32, I64, Be16, Be32, Be64}
+
+-- ---- in a list
+
+pub first_here : (kind : ℕ) (a : Attribute) (more : List Attribute) → masked a.kind ≡ kind
+    → first_of kind (a ∷ more) ≡ Some a.value
+first_here kind a more same =
+    ap (λ (b : Bool). if b then Some a.value else first_of kind more) (eq-eqb (masked a.kind) kind same)
+
+pub first_later : (kind : ℕ) (a : Attribute) (more : List Attribute) → masked a.kind ≢ kind
+    → first_of kind (a ∷ more) ≡ first_of kind more
+first_later kind a more other =
+    if_not (masked a.kind == kind) (Some a.value) (first_of kind more)
+    (λ e. other (eqb-true (masked a.kind) kind e))
+
+-- after attributes of other kinds
+after : (b : Bool) (v : List ℕ) (x y z : Option (List ℕ)) → (if b then Some v else x) ≡ None
+    → (x ≡ None → y ≡ z) → (if b then Some v else y) ≡ z
+after true v x y z none later = absurd (cc)
+after false v x y z none later = later none
+
+pub first_after : (kind : ℕ) (done more : List Attribute) → first_of kind done ≡ None
+    → first_of kind (done ++ more) ≡ first_of kind more
+first_after kind [] more none = refl
+first_after kind (a ∷ done) more none =
+    after (masked a.kind == kind) a.value (first_of kind done) (first_of kind (done ++ more))
+    (first_of kind more) none (first_after kind done more)
+
+-- ---- every attribute has the shape of its kind
+
+mask_again : (k n : ℕ) → masked k ≡ n → masked n ≡ masked k
+mask_again k n is = omega arith
+
+by_kind : (rows : List Row) (policy kind : ℕ) (a : Attribute) (v : List ℕ) (rest : Option (List ℕ))
+    (b : Bool) → (masked a.kind == kind) ≡ b → fits_at rows policy a ≡ true
+    → (rest ≡ Some v → fits_in rows policy kind v ≡ true) → (if b then Some a.value else rest) ≡ Some v
+    → fits_in rows policy kind v ≡ true
+by_kind rows policy kind a v rest true same shaped later gives =
+    let k = mask_again a.kind kind (eqb-true (masked a.kind) kind same) in
+    let w : a.value ≡ v = cc in
+    ap (λ (n : ℕ). is_shaped nest_levels rows
+    (shape_by (or_first (row_at rows policy n) (row_at rows policy any_kind))) v) k
+    ∙ ap (is_shaped nest_levels rows (shape_in rows policy a.kind)) (sym w) ∙ shaped
+by_kind rows policy kind a v rest false other shaped later gives = later gives
+
+pub first_fits : (rows : List Row) (policy kind : ℕ) (all : List Attribute) (v : List ℕ)
+    → list_all (fits_at rows policy) all ≡ true → first_of kind all ≡ Some v → fits_in rows policy kind v ≡ true
+first_fits rows policy kind [] v shaped gives = absurd (cc)
+first_fits rows policy kind (a ∷ more) v shaped gives =
+    let p = and_parts (fits_at rows policy a) (list_all (fits_at rows policy) more) shaped in
+    by_kind rows policy kind a v (first_of kind more) (masked a.kind == kind) refl p.0
+    (first_fits rows policy kind more v p.1) gives
+
+-- ---- in a block
+
+-- the first attribute of a kind in the block's only walk
+pub first_of_block : (rows : List Row) (policy : ℕ) (block : List ℕ) (kind : ℕ) (found : Option (List ℕ))
+    → AreShaped rows policy block
+    → ((all : List Attribute) (error : Option DecodeError) → Walk block all error → first_of kind all ≡ found)
+    → found_in block kind ≡ found
+first_of_block rows policy block kind found are by =
+    ap (first_in kind) (attributes_in-walk block are.all are.walk) ∙ by are.all None are.walk
+
+-- it has the shape of its kind
+pub first_shaped : (rows : List Row) (policy : ℕ) (block : List ℕ) (kind : ℕ) (v : List ℕ)
+    → AreShaped rows policy block → found_in block kind ≡ Some v → fits_in rows policy kind v ≡ true
+first_shaped rows policy block kind v are gives =
+    first_fits rows policy kind are.all v are.shaped
+    (sym (ap (first_in kind) (attributes_in-walk block are.all are.walk)) ∙ gives)
+
+-- ---- a value whose shape is known
+
+-- a value of a kind that has this shape has this size
+abbrev pub HasSize : Shape → ℕ → Type 0
+HasSize known size = (rows : List Row) (policy kind : ℕ) (value : List ℕ) (shape : Shape)
+    → shape ≡ shape_in rows policy kind → shape ≡ known → fits_in rows policy kind value ≡ true → length value ≡ size
+
+known_size : (known : Shape) (size : ℕ) → ((v : List ℕ) → has_shape known v ≡ (length v == size)) → HasSize known size
+known_size known size by rows policy kind value shape at is fit =
+    eqb-true (length value) size (sym (by value) ∙ ap (λ (s : Shape). has_shape s value) (sym is ∙ at)
+    ∙ kind_has rows policy kind value fit)
+
+pub u8_size : HasSize U8 1
+u8_size = known_size U8 1 (λ v. refl)
+
+pub u16_size : HasSize U16 2
+u16_size = known_size U16 2 (λ v. refl)
+
+pub u32_size : HasSize U32 4
+u32_size = known_size U32 4 (λ v. refl)
+
+pub u64_size : HasSize U64 8
+u64_size = known_size U64 8 (λ v. refl)
+
+pub i32_size : HasSize I32 4
+i32_size = known_size I32 4 (λ v. refl)
+
+pub i64_size : HasSize I64 8
+i64_size = known_size I64 8 (λ v. refl)
+
+pub be16_size : HasSize Be16 2
+be16_size = known_size Be16 2 (λ v. refl)
+
+pub be32_size : HasSize Be32 4
+be32_size = known_size Be32 4 (λ v. refl)
+
+pub be64_size : HasSize Be64 8
+be64_size = known_size Be64 8 (λ v. refl)
+
+-- if there is no value, what follows from it
+pub none_then : {X : Type 0} (r : Option X) {P Q : Type 0} → IfNone r P → (P → Q) → IfNone r Q
+none_then None is so = so is
+none_then (Some x) is so = is

@@ -1,0 +1,143 @@
+-- The text of an attribute and of a block, step by step.
+use Rattle.std.specs.Prelude.{ℕ, zero, suc, ◌≡◌, ◌+◌, ◌-◌, ◌<◌, ◌≤◌, Bool, List, [], ◌∷◌, ◌++◌, length, drop, codes, decimal, Option, Some, None, refl, if◌then◌else◌}
+use Rattle.std.specs.Fmt.{signed_decimal}
+use Rattle.std.proofs.Common.{ap, arith, sym, ◌∙◌, length-drop}
+use Rattle.netlink_packet_core.specs.Attribute.{Attribute, padded_size}
+use Rattle.netlink_packet_core.specs.DecodeError.{DecodeError}
+use Rattle.netlink_packet_core.specs.Reading.{starts_whole}
+use Rattle.netlink_packet_core.specs.StartLaws.{nothing_starts, starts-attribute_of, starts-length, starts-rest}
+use Rattle.netlink_packet_core.specs.Views.{attribute_of}
+use Rattle.netlink_packet_core.specs.Walk.{IsFault, Starts}
+use Rattle.netlink_family.specs.ErrorLaws.{malformed_whole, whole_starts}
+use Rattle.netlink_family.specs.Shapes.{Row, by_nest, nest_of, shape_in}
+use Rattle.netlink_family.specs.Show.{value_line, before_error, each_of, first_byte, label_text, escaped, lines_in, shaped_text, hex_text, value_lines}
+use Rattle.netlink_family.specs.Strings.{until_nul}
+use Rattle.netlink_family.specs.Values.{IsValueOf, value_shape}
+use Rattle.netlink_family.specs.declared.shape.Shape.{Shape}
+use Rattle.netlink_family.specs.declared.value.Value.{Value}
+use Rattle.netlink_family.specs.declared.value.Value.TheVariants as variant
+
+-- ---- values
+
+abbrev pub decoded_text : Value → List ℕ
+decoded_text variant.Flag = codes "set"
+decoded_text (variant.U8 n) = decimal n
+decoded_text (variant.U16 n) = decimal n
+decoded_text (variant.U32 n) = decimal n
+decoded_text (variant.U64 n) = decimal n
+decoded_text (variant.I32 n) = signed_decimal n
+decoded_text (variant.I64 n) = signed_decimal n
+decoded_text (variant.Be16 n) = decimal n
+decoded_text (variant.Be32 n) = decimal n
+decoded_text (variant.Be64 n) = decimal n
+decoded_text (variant.ExactLen b) = hex_text b.now
+decoded_text (variant.Ip b) = hex_text b.now
+decoded_text (variant.NulStr b) = each_of escaped (until_nul b.now)
+decoded_text (variant.Str b) = each_of escaped (until_nul b.now)
+decoded_text (variant.MinLen size b) = hex_text b.now
+decoded_text (variant.Nested inner) = hex_text inner.block.now
+decoded_text (variant.Bytes b) = hex_text b.now
+
+pub decoded_text_is : (v : Value) (bytes : List ℕ) → IsValueOf v bytes
+    → decoded_text v ≡ shaped_text (value_shape v) bytes
+decoded_text_is variant.Flag bytes value_is = refl
+decoded_text_is (variant.U8 n) bytes value_is = ap (λ (b : List ℕ). decimal (first_byte b)) (sym value_is)
+decoded_text_is (variant.U16 n) bytes value_is = ap decimal value_is
+decoded_text_is (variant.U32 n) bytes value_is = ap decimal value_is
+decoded_text_is (variant.U64 n) bytes value_is = ap decimal value_is
+decoded_text_is (variant.I32 n) bytes value_is = ap signed_decimal value_is
+decoded_text_is (variant.I64 n) bytes value_is = ap signed_decimal value_is
+decoded_text_is (variant.Be16 n) bytes value_is = ap decimal value_is
+decoded_text_is (variant.Be32 n) bytes value_is = ap decimal value_is
+decoded_text_is (variant.Be64 n) bytes value_is = ap decimal value_is
+decoded_text_is (variant.ExactLen b) bytes value_is = ap hex_text value_is
+decoded_text_is (variant.Ip b) bytes value_is = ap hex_text value_is
+decoded_text_is (variant.NulStr b) bytes value_is = ap (λ (x : List ℕ). each_of escaped (until_nul x)) value_is
+decoded_text_is (variant.Str b) bytes value_is = ap (λ (x : List ℕ). each_of escaped (until_nul x)) value_is
+decoded_text_is (variant.MinLen size b) bytes value_is = ap hex_text value_is
+decoded_text_is (variant.Nested inner) bytes value_is = ap hex_text value_is
+decoded_text_is (variant.Bytes b) bytes value_is = ap hex_text value_is
+
+-- ---- blocks
+
+same_fuel : (m n : ℕ) (bytes : List ℕ) → length bytes ≤ m → length bytes ≤ n
+    → before_error m bytes ≡ before_error n bytes
+unfolding before_error
+same_fuel zero zero bytes p q = refl
+same_fuel zero (suc n) [] p q = refl
+same_fuel zero (suc n) (b ∷ more) p q = absurd (omega arith)
+same_fuel (suc m) zero [] p q = refl
+same_fuel (suc m) zero (b ∷ more) p q = absurd (omega arith)
+same_fuel (suc m) (suc n) [] p q = refl
+same_fuel (suc m) (suc n) (b ∷ more) p q =
+    let bytes : List ℕ = b ∷ more in
+    let a : Attribute = attribute_of bytes in
+    let shorter = length-drop (padded_size a) bytes in
+    ap (λ (later : List Attribute). if starts_whole bytes then a ∷ later else [])
+    (same_fuel m n (drop (padded_size a) bytes) (omega arith) (omega arith))
+
+pub before_step : (bytes : List ℕ) (a : Attribute) (rest : List ℕ) → Starts bytes a rest
+    → before_error (length bytes) bytes ≡ a ∷ before_error (length rest) rest
+unfolding before_error
+before_step [] a rest starts = absurd (nothing_starts [] a rest refl starts)
+before_step (b ∷ more) a rest starts =
+    let bytes : List ℕ = b ∷ more in
+    let size = starts-length bytes a rest starts in
+    ap (λ (is : Bool). if is then attribute_of bytes
+    ∷ before_error (length more) (drop (padded_size (attribute_of bytes)) bytes)
+    else []) (whole_starts bytes a rest starts)
+    ∙ ap (λ (x : Attribute). x ∷ before_error (length more) (drop (padded_size x) bytes))
+    (starts-attribute_of bytes a rest starts)
+    ∙ ap (λ (r : List ℕ). a ∷ before_error (length more) r) (sym (starts-rest bytes a rest starts))
+    ∙ ap (λ (later : List Attribute). a ∷ later)
+    (same_fuel (length more) (length rest) rest (omega arith) (omega arith))
+
+pub before_malformed : (bytes : List ℕ) (e : DecodeError) → IsFault bytes e → before_error (length bytes) bytes ≡ []
+unfolding before_error
+before_malformed [] e is = refl
+before_malformed (b ∷ more) e is =
+    let bytes : List ℕ = b ∷ more in
+    ap (λ (w : Bool). if w then attribute_of bytes
+    ∷ before_error (length more) (drop (padded_size (attribute_of bytes)) bytes) else []) (malformed_whole bytes e is)
+
+pub before_nothing : (bytes : List ℕ) → bytes ≡ [] → before_error (length bytes) bytes ≡ []
+unfolding before_error
+before_nothing [] none = refl
+before_nothing (b ∷ more) none = absurd (cc)
+
+-- ---- attributes
+
+-- an attribute that is not a nest, or is too deep
+pub lines_flat : (levels : ℕ) (rows : List Row) (policy depth kind : ℕ) (value : List ℕ)
+    (shape : Shape) → shape ≡ shape_in rows policy kind → nest_of shape ≡ None
+    → value_lines levels rows policy depth kind value ≡ label_text rows policy depth kind ++ value_line shape value
+unfolding value_lines
+lines_flat zero rows policy depth kind value shape same flat =
+    ap (λ (s : Shape). label_text rows policy depth kind ++ value_line s value) (sym same)
+lines_flat (suc levels) rows policy depth kind value shape same flat =
+    ap (λ (n : Option ℕ). label_text rows policy depth kind ++ by_nest n
+    (λ inner. codes ":\n" ++ lines_in (value_lines levels rows inner (depth + 1)) value)
+    (value_line (shape_in rows policy kind) value)) (ap nest_of (sym same) ∙ flat)
+    ∙ ap (λ (s : Shape). label_text rows policy depth kind ++ value_line s value) (sym same)
+
+pub lines_deep : (levels : ℕ) (rows : List Row) (policy depth kind : ℕ) (value : List ℕ)
+    (shape : Shape) → shape ≡ shape_in rows policy kind → levels ≡ 0 → value_lines levels rows policy depth kind value
+    ≡ label_text rows policy depth kind ++ value_line shape value
+unfolding value_lines
+lines_deep zero rows policy depth kind value shape same deep =
+    ap (λ (s : Shape). label_text rows policy depth kind ++ value_line s value) (sym same)
+lines_deep (suc levels) rows policy depth kind value shape same deep = absurd (omega arith)
+
+pub lines_nest : (levels : ℕ) (rows : List Row) (policy depth kind : ℕ) (value : List ℕ)
+    (shape : Shape) (inner : ℕ) → shape ≡ shape_in rows policy kind → nest_of shape ≡ Some inner → 0 < levels
+    → value_lines levels rows policy depth kind value ≡ label_text rows policy depth kind
+    ++ (codes ":\n" ++ lines_in (value_lines (levels - 1) rows inner (depth + 1)) value)
+unfolding value_lines
+lines_nest zero rows policy depth kind value shape inner same nest some = absurd (omega arith)
+lines_nest (suc levels) rows policy depth kind value shape inner same nest some =
+    let e : suc levels - 1 ≡ levels = omega arith in
+    ap (λ (n : Option ℕ). label_text rows policy depth kind ++ by_nest n
+    (λ inner. codes ":\n" ++ lines_in (value_lines levels rows inner (depth + 1)) value)
+    (value_line (shape_in rows policy kind) value)) (ap nest_of (sym same) ∙ nest)
+    ∙ ap (λ (n : ℕ). label_text rows policy depth kind
+    ++ (codes ":\n" ++ lines_in (value_lines n rows inner (depth + 1)) value)) (sym e)

@@ -1,0 +1,286 @@
+//! Errors in attributes, each with its offset.
+
+ghost use Rattle.std.specs.Prelude.{◌≡◌, ◌+◌, ◌≤◌, ◌<◌, ◌^◌, Some, length, true};
+ghost use Rattle.netlink_family.specs.ErrorTexts.{attribute_error_text, reason_text};
+ghost use Rattle.netlink_family.specs.Errors.{reason_of, decode_reason, error_in, left_after, value_error};
+ghost use Rattle.netlink_family.specs.Shapes.{rows_in, are_sorted};
+
+use crate::shape::{Row, Shape, has_shape, policy_of, row_shape};
+use netlink_packet_core::{DecodeError, NlasIterator, nla_align};
+use std::fmt;
+
+/// The first error in the attributes of a payload, and its offset.
+#[derive(Clone, Copy, Debug, PartialEq, Eq)]
+pub struct AttributeError {
+    /// The offset of the attribute in bytes from the start of the payload, also inside nests.
+    pub offset: usize,
+    /// The policy that the attribute belongs to: `TOP`, or the policy of the innermost nest.
+    pub policy: u16,
+    /// What is wrong with it.
+    pub reason: Reason,
+}
+
+/// What is wrong with an attribute. Sizes are in bytes.
+#[derive(Clone, Copy, Debug, PartialEq, Eq)]
+pub enum Reason {
+    /// Fewer than 4 bytes are left, too few for an attribute.
+    Short {
+        /// The number of bytes left.
+        received: usize,
+    },
+    /// The attribute's length field is greater than the number of bytes left.
+    Truncated {
+        /// The length field.
+        expected: usize,
+        /// The number of bytes left.
+        received: usize,
+    },
+    /// The attribute's length field is less than 4.
+    InvalidLength {
+        /// The length field.
+        received: usize,
+    },
+    /// The value does not have the size that its kind requires.
+    WrongSize {
+        /// The kind of the attribute.
+        kind: u16,
+        /// The required size.
+        expected: usize,
+        /// The actual size.
+        received: usize,
+    },
+    /// The value is not a string whose only NUL is its last byte.
+    NotNulTerminated {
+        /// The kind of the attribute.
+        kind: u16,
+    },
+    /// The value is a string with a NUL before its last byte.
+    InteriorNul {
+        /// The kind of the attribute.
+        kind: u16,
+    },
+    /// The value is shorter than the minimum size of its kind.
+    TooSmall {
+        /// The kind of the attribute.
+        kind: u16,
+        /// The minimum size.
+        expected: usize,
+        /// The actual size.
+        received: usize,
+    },
+    /// The value is an IP address of neither 4 nor 16 bytes.
+    WrongAddressSize {
+        /// The kind of the attribute.
+        kind: u16,
+        /// The actual size.
+        received: usize,
+    },
+    /// The attribute is a nest inside eight others, the maximum.
+    TooDeep {
+        /// The kind of the attribute.
+        kind: u16,
+    },
+}
+
+impl fmt::Display for Reason {
+    ghost output = { λ reason. Some (reason_text reason) };
+
+    fn fmt<W: fmt::Write>(&self, f: &mut fmt::Formatter<W>) -> fmt::Result {
+        match self {
+            Reason::Short { received } => {
+                write!(f, "{received} bytes are too few for an attribute")
+            }
+            Reason::Truncated { expected, received } => write!(
+                f,
+                "an attribute of {expected} bytes is truncated to {received}"
+            ),
+            Reason::InvalidLength { received } => {
+                write!(f, "an attribute has length {received}, less than 4")
+            }
+            Reason::WrongSize {
+                kind,
+                expected,
+                received,
+            } => write!(
+                f,
+                "attribute {kind} has a value of {received} bytes instead of {expected}"
+            ),
+            Reason::NotNulTerminated { kind } => {
+                write!(
+                    f,
+                    "attribute {kind} is not a string whose only NUL is its last byte"
+                )
+            }
+            Reason::InteriorNul { kind } => {
+                write!(
+                    f,
+                    "attribute {kind} is a string with a NUL before its last byte"
+                )
+            }
+            Reason::TooSmall {
+                kind,
+                expected,
+                received,
+            } => write!(
+                f,
+                "attribute {kind} has a value of {received} bytes instead of {expected} or more"
+            ),
+            Reason::WrongAddressSize { kind, received } => write!(
+                f,
+                "attribute {kind} has an address of {received} bytes instead of 4 or 16"
+            ),
+            Reason::TooDeep { kind } => { write!(f, "attribute {kind} is nested too deeply") }
+        }
+    }
+}
+
+impl fmt::Display for AttributeError {
+    ghost output = { λ error. Some (attribute_error_text error) };
+
+    fn fmt<W: fmt::Write>(&self, f: &mut fmt::Formatter<W>) -> fmt::Result {
+        write!(
+            f,
+            "at byte {}, in policy {}: {}",
+            self.offset, self.policy, self.reason
+        )
+    }
+}
+
+/// Returns the error of the value of the attribute at offset `at`, if it has one.
+#[cycle(errors)]
+pub(crate) fn value_error(
+    levels: u8,
+    rows: &[Row],
+    policy: u16,
+    at: usize,
+    kind: u16,
+    value: &[u8],
+) -> Option<AttributeError>
+    requires sorted { are_sorted (rows_in rows.now) ≡ true }
+    requires inside { at + 4 + length value.now < 2 ^ 64 }
+    ensures { result ≡ value_error levels (rows_in rows.now) policy at kind value.now }
+{
+    let shape = row_shape(rows, policy, kind);
+    match policy_of(shape) {
+        None => {
+            if has_shape(shape, value) {
+                return None;
+            }
+            Some(AttributeError {
+                offset: at,
+                policy,
+                reason: reason_of(shape, kind, value),
+            })
+        }
+        Some(inner) => {
+            if levels == 0 {
+                return Some(AttributeError {
+                    offset: at,
+                    policy,
+                    reason: Reason::TooDeep { kind },
+                });
+            }
+            error_in(levels - 1, rows, inner, at + 4 + value.len(), value)
+        }
+    }
+}
+
+/// Returns the first error in the attributes of a block that ends at offset `end`, if there is one.
+#[cycle(errors)]
+pub(crate) fn error_in(
+    levels: u8,
+    rows: &[Row],
+    policy: u16,
+    end: usize,
+    block: &[u8],
+) -> Option<AttributeError>
+    requires sorted { are_sorted (rows_in rows.now) ≡ true }
+    requires inside { length block.now ≤ end }
+    ensures { result ≡ error_in levels (rows_in rows.now) policy end block.now }
+{
+    let mut left = block.len();
+    for item in NlasIterator::new(block) {
+        let offset = end - left;
+        match item {
+            Ok(nla) => {
+                let error = value_error(levels, rows, policy, offset, nla.raw_kind(), nla.value());
+                if error.is_some() {
+                    return error;
+                }
+                left = left_after(left, nla.length());
+            }
+            Err(malformed) => {
+                return Some(AttributeError {
+                    offset,
+                    policy,
+                    reason: decode_reason(malformed),
+                });
+            }
+        }
+    }
+    None
+}
+
+/// Returns the reason for an error of the walk.
+fn decode_reason(malformed: DecodeError) -> Reason
+    ensures { result ≡ decode_reason malformed }
+{
+    match malformed {
+        DecodeError::NlaBufferTooSmall { buffer_len, .. } => Reason::Short {
+            received: buffer_len,
+        },
+        DecodeError::NlaLengthMismatch {
+            buffer_len,
+            nla_len,
+        } => Reason::Truncated {
+            expected: nla_len,
+            received: buffer_len,
+        },
+        DecodeError::NlaInvalidLength { nla_len, .. } => Reason::InvalidLength {
+            received: nla_len,
+        },
+        _ => Reason::Short { received: 0 },
+    }
+}
+
+/// Returns the number of bytes left after an attribute with this length field.
+fn left_after(left: usize, length: u16) -> usize
+    ensures { result ≡ left_after left length }
+{
+    let size = nla_align(usize::from(length));
+    if left < size {
+        return 0;
+    }
+    left - size
+}
+
+/// Returns the reason why a value does not have the shape.
+fn reason_of(shape: Shape, kind: u16, value: &[u8]) -> Reason
+    ensures { result ≡ reason_of shape kind value.now }
+{
+    let received = value.len();
+    let expected = match shape {
+        Shape::Flag | Shape::Bytes => 0,
+        Shape::U8 => 1,
+        Shape::U16 | Shape::Be16 => 2,
+        Shape::U32 | Shape::I32 | Shape::Be32 => 4,
+        Shape::U64 | Shape::I64 | Shape::Be64 => 8,
+        Shape::ExactLen(size) => size as usize,
+        Shape::Ip => return Reason::WrongAddressSize { kind, received },
+        Shape::NulStr => return Reason::NotNulTerminated { kind },
+        Shape::Str => return Reason::InteriorNul { kind },
+        Shape::MinLen(size) => {
+            return Reason::TooSmall {
+                kind,
+                expected: size as usize,
+                received,
+            };
+        }
+        Shape::Nested(_) => return Reason::TooDeep { kind },
+    };
+    Reason::WrongSize {
+        kind,
+        expected,
+        received,
+    }
+}

@@ -1,0 +1,51 @@
+//! Iteration over the attributes of a message or a nest.
+
+ghost use Rattle.std.specs.Prelude.{◌≡◌, true};
+ghost use Rattle.std.specs.Iterator.{at_most};
+ghost use Rattle.netlink_packet_core.specs.Steps.{item_bound, unread};
+ghost use Rattle.netlink_family.specs.Shapes.{CachesOther, rows_in, are_sorted};
+ghost use Rattle.netlink_family.specs.Iteration.{AreShaped, YieldsValue};
+
+use crate::shape::{Row, Shape, cached_shape};
+use crate::value::{Value, value_in};
+use netlink_packet_core::NlasIterator;
+
+/// An iterator over the attributes of a message or a nest, in order. It yields the kind and the
+/// value of each. It does not check shapes again and does not allocate.
+#[derive(Debug, Drop)]
+pub struct Attributes<'a> {
+    /// The rest of the walk.
+    pub walk: NlasIterator<&'a [u8]>,
+    /// The rows of the family's table.
+    pub rows: &'static [Row],
+    /// The policy that the attributes belong to.
+    pub policy: u16,
+    /// The shape of the kinds without a row, once it has been looked up.
+    pub other: Option<Shape>,
+    pub ghost sorted: { are_sorted (rows_in rows.now) ≡ true },
+    pub ghost shaped: { ∥ AreShaped (rows_in rows.now) policy (unread walk) ∥₁ },
+    pub ghost kept: { CachesOther (rows_in rows.now) policy other },
+}
+
+impl<'a> Iterator for Attributes<'a> {
+    type Item = (u16, Value<'a>);
+
+    ghost next_gives = { λ before item after.
+        YieldsValue (rows_in before.rows.now) before.policy (unread before.walk) item (unread after.walk)
+        × (after.rows ≡ before.rows) × (after.policy ≡ before.policy) };
+
+    ghost remaining = { λ all. at_most (item_bound (unread all.walk)) };
+
+    #[inline(always)]
+    fn next(&mut self) -> Option<(u16, Value<'a>)> {
+        let item = self.walk.next()?;
+        match item {
+            Ok(nla) => {
+                let kind = nla.raw_kind();
+                let shape = cached_shape(self.rows, self.policy, kind, &mut self.other);
+                return Some((kind, value_in(self.rows, shape, nla.value())));
+            }
+            Err(_) => return None,
+        }
+    }
+}

@@ -1,0 +1,206 @@
+//! Appending attributes to an owned message.
+
+ghost use Rattle.std.specs.Prelude.{◌≡◌, ◌++◌, Err, None, Some, IfErr, OnOk, false, true};
+ghost use Rattle.netlink_packet_core.specs.Attribute.{padded};
+ghost use Rattle.netlink_packet_core.specs.Nla.{attribute_with};
+ghost use Rattle.netlink_packet_core.specs.Numbers.{bytes_be, bytes_le, unsigned};
+ghost use Rattle.netlink_family.specs.ErrorTexts.{wants_memory};
+ghost use Rattle.netlink_family.specs.Errors.{value_error};
+ghost use Rattle.netlink_family.specs.Pushing.{has_room, push_error, room_error};
+ghost use Rattle.netlink_family.specs.Shapes.{fits_kind, nest_levels, shape_in};
+ghost use Rattle.netlink_family.specs.Values.{is_satisfied, value_bytes, value_shape};
+ghost use Rattle.netlink_family.specs.declared.attribute_error.AttributeError.{AttributeError};
+
+use crate::attribute_error::value_error;
+use crate::error::FamilyError;
+use crate::family::{Table, rows_of};
+use crate::owned::{OwnedMessage, header_fits};
+use crate::shape::{NEST_LEVELS, TOP};
+use crate::value::Value;
+use netlink_packet_core::{
+    NLA_BLOCK_MAX, NLA_HEADER_SIZE, NLA_VALUE_MAX, append_nla, emit_i32, emit_i64, emit_u16,
+    emit_u16_be, emit_u32, emit_u32_be, emit_u64, emit_u64_be, nla_align,
+};
+use std::alloc::Global;
+
+impl<F: Table> OwnedMessage<F> {
+    /// Appends an attribute whose kind is known only at run time, or a nest. Returns
+    /// `InvalidAttribute` if the value does not have the shape of its kind, with the offset counted from the start of the new attribute; `TooLong` if the value or
+    /// the message would be too long; `OutOfMemory` if the allocation fails. After an error the
+    /// message is unchanged.
+    #[tactic(auto, using(crate::specs::PushingLaws::push_by_value, crate::specs::PushingLaws::no_error_fits))]
+    pub fn try_push(&mut self, alloc: Global, kind: u16, value: &[u8]) -> Result<(), FamilyError>
+        ensures ok { OnOk result
+            (self.new.bytes.items ≡ self.old.bytes.items ++ padded (attribute_with kind value.now)) }
+        ensures good { OnOk result (push_error (F.header_len self.old.message_type) (F.rows self.old.message_type)
+            self.old.bytes.items kind value.now ≡ None) }
+        ensures error { IfErr result (λ e. wants_memory e ≡ false
+            → push_error (F.header_len self.old.message_type) (F.rows self.old.message_type)
+            self.old.bytes.items kind value.now ≡ Some e) }
+        ensures invalid { (f : AttributeError)
+            → value_error nest_levels (F.rows self.old.message_type) 0 0 kind value.now ≡ Some f
+            → result ≡ Err (FamilyError.InvalidAttribute f) }
+        ensures unchanged { IfErr result (λ _. self.new.bytes.items ≡ self.old.bytes.items) }
+        ensures message_type { self.new.message_type ≡ self.old.message_type }
+    {
+        let rows = rows_of::<F>(self.message_type);
+        match value_error(NEST_LEVELS, rows, TOP, 0, kind, value) {
+            Some(error) => Err(FamilyError::InvalidAttribute(error)),
+            None => self.append_attribute(alloc, kind, value),
+        }
+    }
+
+    /// Appends an attribute. Requires that the table gives the kind the shape of the value, and that
+    /// the value satisfies its shape. Nests are appended by `try_push`. Returns `TooLong` if the
+    /// value or the message would be too long, and `OutOfMemory` if an allocation fails; the message
+    /// is then unchanged.
+    pub fn push(&mut self, alloc: Global, kind: u16, value: Value<'_>) -> Result<(), FamilyError>
+        requires shape { shape_in (F.rows self.old.message_type) 0 kind ≡ value_shape value }
+        requires satisfied { is_satisfied value ≡ true }
+        ensures ok { OnOk result
+            (self.new.bytes.items ≡ self.old.bytes.items ++ padded (attribute_with kind (value_bytes value.entry))) }
+        ensures room { OnOk result
+            (room_error (F.header_len self.old.message_type) self.old.bytes.items (value_bytes value.entry) ≡ None) }
+        ensures error { IfErr result (λ e. wants_memory e ≡ false
+            → room_error (F.header_len self.old.message_type) self.old.bytes.items (value_bytes value.entry) ≡ Some e) }
+        ensures unchanged { IfErr result (λ _. self.new.bytes.items ≡ self.old.bytes.items) }
+        ensures message_type { self.new.message_type ≡ self.old.message_type }
+    {
+        value_fits(self, kind, value);
+        match value {
+            Value::Flag => self.append_attribute(alloc, kind, &[]),
+            Value::U8(number) => self.append_attribute(alloc, kind, &[number]),
+            Value::U16(number) => self.append_attribute(alloc, kind, &u16_bytes(number)),
+            Value::U32(number) => self.append_attribute(alloc, kind, &u32_bytes(number)),
+            Value::U64(number) => self.append_attribute(alloc, kind, &u64_bytes(number)),
+            Value::I32(number) => self.append_attribute(alloc, kind, &i32_bytes(number)),
+            Value::I64(number) => self.append_attribute(alloc, kind, &i64_bytes(number)),
+            Value::Be16(number) => self.append_attribute(alloc, kind, &be16_bytes(number)),
+            Value::Be32(number) => self.append_attribute(alloc, kind, &be32_bytes(number)),
+            Value::Be64(number) => self.append_attribute(alloc, kind, &be64_bytes(number)),
+            Value::ExactLen(bytes)
+            | Value::Ip(bytes)
+            | Value::NulStr(bytes)
+            | Value::Str(bytes)
+            | Value::MinLen(_, bytes)
+            | Value::Bytes(bytes) => self.append_attribute(alloc, kind, bytes),
+            Value::Nested(_) => unreachable!(),
+        }
+    }
+
+    /// Appends an attribute whose value has the shape of its kind.
+    fn append_attribute(
+        &mut self,
+        alloc: Global,
+        kind: u16,
+        value: &[u8],
+    ) -> Result<(), FamilyError>
+        requires shape { fits_kind (F.rows self.old.message_type) kind value.now ≡ true }
+        ensures ok { OnOk result
+            (self.new.bytes.items ≡ self.old.bytes.items ++ padded (attribute_with kind value.now)) }
+        ensures room { OnOk result
+            (room_error (F.header_len self.old.message_type) self.old.bytes.items value.now ≡ None) }
+        ensures error { IfErr result (λ e. wants_memory e ≡ false
+            → room_error (F.header_len self.old.message_type) self.old.bytes.items value.now ≡ Some e) }
+        ensures unchanged { IfErr result (λ _. self.new.bytes.items ≡ self.old.bytes.items) }
+        ensures message_type { self.new.message_type ≡ self.old.message_type }
+    {
+        if !self.has_room(value) {
+            return Err(FamilyError::TooLong);
+        }
+        match append_nla(alloc, &mut self.bytes, kind, value) {
+            Ok(()) => Ok(()),
+            Err(_) => Err(FamilyError::OutOfMemory),
+        }
+    }
+
+    /// Returns whether an attribute with this value fits in the message.
+    fn has_room(&self, value: &[u8]) -> bool
+        ensures { result ≡ has_room (F.header_len self.now.message_type) self.now.bytes.items value.now }
+    {
+        header_fits(self);
+        let used = self.bytes.len() - F::header_len(self.message_type);
+        value.len() <= NLA_VALUE_MAX
+            && used <= NLA_BLOCK_MAX - nla_align(NLA_HEADER_SIZE + value.len())
+    }
+}
+
+/// A law: a value that satisfies the shape of its kind fits. Does nothing at run time.
+#[tactic(auto, using(crate::specs::PushingLaws::satisfied_fits))]
+fn value_fits<F: Table>(message: &OwnedMessage<F>, kind: u16, value: Value<'_>)
+    requires shape { shape_in (F.rows message.now.message_type) 0 kind ≡ value_shape value }
+    requires satisfied { is_satisfied value ≡ true }
+    ensures { fits_kind (F.rows message.now.message_type) kind (value_bytes value.entry) ≡ true }
+{}
+
+/// Encodes a `u16`.
+fn u16_bytes(value: u16) -> [u8; 2]
+    ensures { result ≡ bytes_le value 2 }
+{
+    let mut bytes = [0; 2];
+    emit_u16(&mut bytes, value).unwrap();
+    bytes
+}
+
+/// Encodes a `u32`.
+fn u32_bytes(value: u32) -> [u8; 4]
+    ensures { result ≡ bytes_le value 4 }
+{
+    let mut bytes = [0; 4];
+    emit_u32(&mut bytes, value).unwrap();
+    bytes
+}
+
+/// Encodes a `u64`.
+fn u64_bytes(value: u64) -> [u8; 8]
+    ensures { result ≡ bytes_le value 8 }
+{
+    let mut bytes = [0; 8];
+    emit_u64(&mut bytes, value).unwrap();
+    bytes
+}
+
+/// Encodes an `i32`.
+fn i32_bytes(value: i32) -> [u8; 4]
+    ensures { result ≡ bytes_le (unsigned 4 value) 4 }
+{
+    let mut bytes = [0; 4];
+    emit_i32(&mut bytes, value).unwrap();
+    bytes
+}
+
+/// Encodes an `i64`.
+fn i64_bytes(value: i64) -> [u8; 8]
+    ensures { result ≡ bytes_le (unsigned 8 value) 8 }
+{
+    let mut bytes = [0; 8];
+    emit_i64(&mut bytes, value).unwrap();
+    bytes
+}
+
+/// Encodes a big-endian `u16`.
+fn be16_bytes(value: u16) -> [u8; 2]
+    ensures { result ≡ bytes_be value 2 }
+{
+    let mut bytes = [0; 2];
+    emit_u16_be(&mut bytes, value).unwrap();
+    bytes
+}
+
+/// Encodes a big-endian `u32`.
+fn be32_bytes(value: u32) -> [u8; 4]
+    ensures { result ≡ bytes_be value 4 }
+{
+    let mut bytes = [0; 4];
+    emit_u32_be(&mut bytes, value).unwrap();
+    bytes
+}
+
+/// Encodes a big-endian `u64`.
+fn be64_bytes(value: u64) -> [u8; 8]
+    ensures { result ≡ bytes_be value 8 }
+{
+    let mut bytes = [0; 8];
+    emit_u64_be(&mut bytes, value).unwrap();
+    bytes
+}

@@ -1,0 +1,265 @@
+//! The shapes of values, and the lookup of rows.
+
+ghost use Rattle.std.specs.Prelude.{◌≡◌, ◌==◌, ◌&&◌, true, if◌then◌else◌};
+ghost use Rattle.std.specs.Option.{option_map};
+ghost use Rattle.netlink_packet_core.specs.Views.{masked};
+ghost use Rattle.netlink_family.specs.Shapes.{CachesOther, any_kind, borrowed_row, has_shape, nest_of, row_at, row_in, rows_in, shape_by, shape_in, nul_terminated, nul_only_last, are_sorted, key_before};
+
+use netlink_packet_core::NLA_TYPE_MASK;
+
+/// The shape of an attribute's value. Integers are in native byte order, except those named `Be`,
+/// which are big-endian.
+#[derive(Clone, Copy, Debug, PartialEq, Eq)]
+pub enum Shape {
+    /// No value: the attribute's presence is the information.
+    Flag,
+    /// A `u8`.
+    U8,
+    /// A `u16`.
+    U16,
+    /// A `u32`.
+    U32,
+    /// A `u64`.
+    U64,
+    /// An `i32`.
+    I32,
+    /// An `i64`.
+    I64,
+    /// A big-endian `u16`.
+    Be16,
+    /// A big-endian `u32`.
+    Be32,
+    /// A big-endian `u64`.
+    Be64,
+    /// Exactly this number of bytes.
+    ExactLen(u16),
+    /// An IP address, 4 or 16 bytes.
+    Ip,
+    /// A string with a NUL as its last byte, and no other NUL.
+    NulStr,
+    /// A string with or without a NUL as its last byte, and no other NUL.
+    Str,
+    /// At least this number of bytes.
+    MinLen(u16),
+    /// Attributes of this policy.
+    Nested(u16),
+    /// Any bytes.
+    Bytes,
+}
+
+/// A row of a table: a policy (`TOP` for the attributes of the message itself), a kind of
+/// attribute, its name, and the shape of its value.
+pub type Row = (u16, u16, &'static str, Shape);
+
+/// The policy of the attributes of the message itself, outside any nest.
+pub const TOP: u16 = 0;
+
+/// The kind of a row for every kind that has no row of its own. A policy with this row alone is a
+/// list of values of one shape.
+pub const ANY: u16 = 0xffff;
+
+/// The maximum depth of nests.
+pub(crate) const NEST_LEVELS: u8 = 8;
+
+/// Returns the shape of a kind in a policy; `Bytes` if it has no row.
+#[inline(always)]
+pub(crate) fn row_shape(rows: &[Row], policy: u16, kind: u16) -> Shape
+    requires sorted { are_sorted (rows_in rows.now) ≡ true }
+    ensures { result ≡ shape_in (rows_in rows.now) policy kind }
+{
+    match find_row(rows, policy, kind) {
+        Some(row) => row.3,
+        None => Shape::Bytes,
+    }
+}
+
+/// Like `row_shape`, for a caller that looks up many kinds of one policy: the shape of the kinds
+/// without a row is looked up once and kept in `other`.
+#[inline(always)]
+pub(crate) fn cached_shape(rows: &[Row], policy: u16, kind: u16, other: &mut Option<Shape>) -> Shape
+    requires sorted { are_sorted (rows_in rows.now) ≡ true }
+    requires other { CachesOther (rows_in rows.now) policy other.old }
+    ensures shape { result ≡ shape_in (rows_in rows.now) policy kind }
+    ensures other { CachesOther (rows_in rows.now) policy other.new }
+{
+    match own_row(rows, policy, kind) {
+        Some(row) => row.3,
+        None => {
+            let shape = match *other {
+                Some(kept) => kept,
+                None => other_shape(rows, policy),
+            };
+            *other = Some(shape);
+            shape
+        }
+    }
+}
+
+/// Returns the shape of the kinds of a policy that have no row of their own.
+fn other_shape(rows: &[Row], policy: u16) -> Shape
+    requires sorted { are_sorted (rows_in rows.now) ≡ true }
+    ensures { result ≡ shape_by (row_at (rows_in rows.now) policy any_kind) }
+{
+    match search_row(rows, policy, ANY) {
+        Some(row) => row.3,
+        None => Shape::Bytes,
+    }
+}
+
+/// Returns the row of a kind in a policy, or else the policy's row for `ANY`. Ignores the flag bits
+/// of the kind.
+#[inline(always)]
+pub(crate) fn find_row(rows: &[Row], policy: u16, kind: u16) -> Option<&Row>
+    requires sorted { are_sorted (rows_in rows.now) ≡ true }
+    ensures { option_map borrowed_row result ≡ row_in (rows_in rows.now) policy kind }
+{
+    match own_row(rows, policy, kind) {
+        Some(row) => Some(row),
+        None => search_row(rows, policy, ANY),
+    }
+}
+
+/// Returns the row of a kind in a policy. Ignores the flag bits of the kind.
+#[inline(always)]
+fn own_row(rows: &[Row], policy: u16, kind: u16) -> Option<&Row>
+    requires sorted { are_sorted (rows_in rows.now) ≡ true }
+    ensures { option_map borrowed_row result ≡ row_at (rows_in rows.now) policy (masked kind) }
+{
+    row_at(rows, policy, kind & NLA_TYPE_MASK)
+}
+
+/// Returns the row of a policy and a kind. First tries index `kind - 1`, where the row is if every
+/// smaller kind of the first policy has one.
+#[inline(always)]
+fn row_at(rows: &[Row], policy: u16, kind: u16) -> Option<&Row>
+    requires sorted { are_sorted (rows_in rows.now) ≡ true }
+    ensures { option_map borrowed_row result ≡ row_at (rows_in rows.now) policy kind }
+{
+    let at = usize::from(kind.wrapping_sub(1));
+    if at < rows.len() {
+        let row = &rows[at];
+        if is_same(row.0, row.1, policy, kind) {
+            return Some(row);
+        }
+    }
+    search_row(rows, policy, kind)
+}
+
+/// Returns the row of a policy and a kind, by binary search.
+fn search_row(rows: &[Row], policy: u16, kind: u16) -> Option<&Row>
+    requires sorted { are_sorted (rows_in rows.now) ≡ true }
+    ensures { option_map borrowed_row result ≡ row_at (rows_in rows.now) policy kind }
+{
+    let mut rest = rows;
+    while !rest.is_empty() {
+        let (front, tail) = rest.split_at(rest.len() / 2);
+        match tail {
+            [row, back @ ..] => {
+                if is_same(row.0, row.1, policy, kind) {
+                    return Some(row);
+                }
+                rest = half(front, back, is_before(row.0, row.1, policy, kind));
+            }
+            [] => return None,
+        }
+    }
+    None
+}
+
+/// Returns the rows after a row, or those before it.
+#[inline(always)]
+fn half<'a>(front: &'a [Row], back: &'a [Row], after: bool) -> &'a [Row]
+    ensures { result.now ≡ (if after then back.now else front.now) }
+{
+    if after { back } else { front }
+}
+
+/// Returns whether a policy and a kind are equal to another pair.
+#[inline(always)]
+fn is_same(policy: u16, kind: u16, other: u16, than: u16) -> bool
+    ensures { result ≡ (policy == other && kind == than) }
+{
+    policy == other && kind == than
+}
+
+/// Returns whether a policy and a kind precede another pair.
+#[inline(always)]
+fn is_before(policy: u16, kind: u16, other: u16, than: u16) -> bool
+    ensures { result ≡ key_before policy kind other than }
+{
+    policy < other || (policy == other && kind < than)
+}
+
+/// Returns the policy of a nest, or `None` for any other shape.
+#[inline(always)]
+pub(crate) fn policy_of(shape: Shape) -> Option<u16>
+    ensures { result ≡ nest_of shape }
+{
+    match shape {
+        Shape::Nested(policy) => Some(policy),
+        Shape::Flag
+        | Shape::U8
+        | Shape::U16
+        | Shape::U32
+        | Shape::U64
+        | Shape::I32
+        | Shape::I64
+        | Shape::Be16
+        | Shape::Be32
+        | Shape::Be64
+        | Shape::ExactLen(_)
+        | Shape::Ip
+        | Shape::NulStr
+        | Shape::Str
+        | Shape::MinLen(_)
+        | Shape::Bytes => None,
+    }
+}
+
+/// Returns whether the last byte is the only NUL.
+fn is_nul_terminated(bytes: &[u8]) -> bool
+    ensures { result ≡ nul_terminated bytes.now }
+{
+    let mut rest = bytes;
+    while let [first, more @ ..] = rest {
+        if *first == 0 {
+            return more.is_empty();
+        }
+        rest = more;
+    }
+    false
+}
+
+/// Returns whether no byte but the last may be NUL.
+fn has_nul_only_last(bytes: &[u8]) -> bool
+    ensures { result ≡ nul_only_last bytes.now }
+{
+    let mut rest = bytes;
+    while let [first, more @ ..] = rest {
+        if *first == 0 {
+            return more.is_empty();
+        }
+        rest = more;
+    }
+    true
+}
+
+/// Returns whether a value has a shape. The attributes inside a nest are ignored.
+#[inline(always)]
+pub(crate) fn has_shape(shape: Shape, value: &[u8]) -> bool
+    ensures { result ≡ has_shape shape value.now }
+{
+    match shape {
+        Shape::Flag => value.len() == 0,
+        Shape::U8 => value.len() == 1,
+        Shape::U16 | Shape::Be16 => value.len() == 2,
+        Shape::U32 | Shape::I32 | Shape::Be32 => value.len() == 4,
+        Shape::U64 | Shape::I64 | Shape::Be64 => value.len() == 8,
+        Shape::ExactLen(size) => value.len() == size as usize,
+        Shape::Ip => value.len() == 4 || value.len() == 16,
+        Shape::NulStr => is_nul_terminated(value),
+        Shape::Str => has_nul_only_last(value),
+        Shape::MinLen(size) => value.len() >= size as usize,
+        Shape::Nested(_) | Shape::Bytes => true,
+    }
+}

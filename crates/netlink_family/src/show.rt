@@ -1,0 +1,331 @@
+//! Messages as text.
+
+ghost use Rattle.std.specs.Prelude.{◌≡◌, ◌+◌, ◌<◌, ◌++◌, [], ◌∷◌, IfOk, OnOk, decimal, drop, string_bytes, take, true};
+ghost use Rattle.std.specs.Fmt.{signed_decimal};
+ghost use Rattle.netlink_family.specs.Shapes.{fields_in, rows_in, are_sorted};
+ghost use Rattle.netlink_family.specs.Show.{value_line, each_of, field_lines, fixed_size, label_text, hex_digit, hex_pair, indent, escaped, lines_in, message_text, name_in, hex_text, value_lines, value_text};
+ghost use Rattle.netlink_family.specs.ShowLaws.{decoded_text};
+
+use crate::family::{Table, rows_of};
+use crate::header_view::Field;
+use crate::shape::{NEST_LEVELS, Row, Shape, TOP, find_row, has_shape, policy_of, row_shape};
+use crate::value::{Value, bytes_until_nul, value_in};
+use crate::view::MessageView;
+use netlink_packet_core::NlasIterator;
+use std::alloc::{AllocError, Global};
+use std::fmt::Write;
+
+impl<F: Table> MessageView<'_, F> {
+    /// Returns the message as text: its type, one line per field of its header, and one line per
+    /// attribute, each with its name and its value. The attributes of a nest follow it, indented.
+    /// Returns an error if an allocation fails.
+    pub fn show(&self, alloc: Global) -> Result<String, AllocError>
+        ensures { IfOk result (λ text. string_bytes text
+            ≡ message_text (F.header_len self.now.message_type) (F.fields self.now.message_type)
+            (F.rows self.now.message_type) self.now.message_type self.now.payload.now) }
+    {
+        let mut text = String::new(alloc);
+        text.push_str("type ")?;
+        push_number(&mut text, u64::from(self.message_type))?;
+        text.push_str("\n")?;
+        push_fields(&mut text, F::fields(self.message_type), self.header().bytes)?;
+        let rows = rows_of::<F>(self.message_type);
+        push_block(&mut text, NEST_LEVELS, rows, TOP, 0, self.block())?;
+        Ok(text)
+    }
+}
+
+/// Appends the lines of the fields of a header.
+fn push_fields(text: &mut String, fields: &[Field], header: &[u8]) -> Result<(), AllocError>
+    ensures { OnOk result (string_bytes text.new
+        ≡ string_bytes text.old ++ field_lines (fields_in fields.now) header.now) }
+{
+    let mut rest = fields;
+    while let [field, more @ ..] = rest {
+        text.push_str(field.0)?;
+        push_value_line(
+            text,
+            field.2,
+            field_bytes(header, field.1, fixed_size(field.2)),
+        )?;
+        rest = more;
+    }
+    Ok(())
+}
+
+/// Returns this number of bytes of a header at an offset, or those that the header has there.
+fn field_bytes(header: &[u8], offset: usize, size: usize) -> &[u8]
+    ensures { result.now ≡ take size (drop offset header.now) }
+{
+    if header.len() <= offset {
+        return &[];
+    }
+    let rest = &header[offset..];
+    if rest.len() <= size {
+        rest
+    } else {
+        &rest[..size]
+    }
+}
+
+/// Returns the size of values of a shape; 0 if it is not fixed.
+fn fixed_size(shape: Shape) -> usize
+    ensures { result ≡ fixed_size shape }
+{
+    match shape {
+        Shape::U8 => 1,
+        Shape::U16 | Shape::Be16 => 2,
+        Shape::U32 | Shape::I32 | Shape::Be32 => 4,
+        Shape::U64 | Shape::I64 | Shape::Be64 => 8,
+        Shape::ExactLen(size) => usize::from(size),
+        _ => 0,
+    }
+}
+
+/// Returns the name that a family's table gives a kind in a policy, such as those of an
+/// `AttributeError`; empty if it has no row.
+pub fn name_of<F: Table>(message_type: u16, policy: u16, kind: u16) -> &'static str
+    ensures { result.now ≡ name_in (F.rows message_type) policy kind }
+{
+    row_name(rows_of::<F>(message_type), policy, kind)
+}
+
+/// Appends the lines of the attributes of a block.
+#[cycle(lines)]
+fn push_block(
+    text: &mut String,
+    levels: u8,
+    rows: &[Row],
+    policy: u16,
+    depth: u8,
+    block: &[u8],
+) -> Result<(), AllocError>
+    requires sorted { are_sorted (rows_in rows.now) ≡ true }
+    requires room { depth + levels < 256 }
+    ensures { OnOk result (string_bytes text.new ≡ string_bytes text.old
+        ++ lines_in (value_lines levels (rows_in rows.now) policy depth) block.now) }
+{
+    for item in NlasIterator::new(block) {
+        match item {
+            Ok(nla) => {
+                push_attribute(
+                    text,
+                    levels,
+                    rows,
+                    policy,
+                    depth,
+                    nla.raw_kind(),
+                    nla.value(),
+                )?;
+            }
+            Err(_) => return Ok(()),
+        }
+    }
+    Ok(())
+}
+
+/// Appends the lines of an attribute.
+#[cycle(lines)]
+fn push_attribute(
+    text: &mut String,
+    levels: u8,
+    rows: &[Row],
+    policy: u16,
+    depth: u8,
+    kind: u16,
+    value: &[u8],
+) -> Result<(), AllocError>
+    requires sorted { are_sorted (rows_in rows.now) ≡ true }
+    requires room { depth + levels < 256 }
+    ensures { OnOk result (string_bytes text.new ≡ string_bytes text.old
+        ++ value_lines levels (rows_in rows.now) policy depth kind value.now) }
+{
+    push_label(text, rows, policy, depth, kind)?;
+    let shape = row_shape(rows, policy, kind);
+    match policy_of(shape) {
+        None => {
+            push_value_line(text, shape, value)?;
+            Ok(())
+        }
+        Some(inner) => {
+            if levels == 0 {
+                push_value_line(text, shape, value)?;
+                return Ok(());
+            }
+            text.push_str(":\n")?;
+            push_block(text, levels - 1, rows, inner, depth + 1, value)?;
+            Ok(())
+        }
+    }
+}
+
+/// Appends the name of a kind, indented; its number if it has no name.
+fn push_label(
+    text: &mut String,
+    rows: &[Row],
+    policy: u16,
+    depth: u8,
+    kind: u16,
+) -> Result<(), AllocError>
+    requires sorted { are_sorted (rows_in rows.now) ≡ true }
+    ensures { OnOk result (string_bytes text.new
+        ≡ string_bytes text.old ++ label_text (rows_in rows.now) policy depth kind) }
+{
+    push_indent(text, depth)?;
+    let name = row_name(rows, policy, kind);
+    if name.is_empty() {
+        push_number(text, u64::from(kind))?;
+        return Ok(());
+    }
+    text.push_str(name)?;
+    Ok(())
+}
+
+/// Appends the value of an attribute that is not a nest, and ends the line.
+fn push_value_line(text: &mut String, shape: Shape, value: &[u8]) -> Result<(), AllocError>
+    ensures { OnOk result (string_bytes text.new ≡ string_bytes text.old ++ value_line shape value.now) }
+{
+    text.push_str(": ")?;
+    push_value(text, shape, value)?;
+    text.push_str("\n")?;
+    Ok(())
+}
+
+/// Returns the name of a kind in a policy; empty if it has no row.
+fn row_name(rows: &[Row], policy: u16, kind: u16) -> &'static str
+    requires sorted { are_sorted (rows_in rows.now) ≡ true }
+    ensures { result.now ≡ name_in (rows_in rows.now) policy kind }
+{
+    match find_row(rows, policy, kind) {
+        Some(row) => row.2,
+        None => "",
+    }
+}
+
+/// Appends two spaces for each level.
+fn push_indent(text: &mut String, depth: u8) -> Result<(), AllocError>
+    ensures { OnOk result (string_bytes text.new ≡ string_bytes text.old ++ indent depth) }
+{
+    for _level in 0..depth {
+        text.push_str("  ")?;
+    }
+    Ok(())
+}
+
+/// Appends a value according to its shape.
+fn push_value(text: &mut String, shape: Shape, value: &[u8]) -> Result<(), AllocError>
+    ensures { OnOk result (string_bytes text.new ≡ string_bytes text.old ++ value_text shape value.now) }
+{
+    if !has_shape(shape, value) {
+        return push_hex(text, value);
+    }
+    match shape {
+        Shape::Nested(_) => push_hex(text, value),
+        _ => push_decoded(text, value_in(&[], shape, value)),
+    }
+}
+
+/// Appends a decoded value.
+fn push_decoded(text: &mut String, value: Value<'_>) -> Result<(), AllocError>
+    ensures { OnOk result (string_bytes text.new ≡ string_bytes text.old ++ decoded_text value.entry) }
+{
+    match value {
+        Value::Flag => text.push_str("set"),
+        Value::U8(number) => push_number(text, u64::from(number)),
+        Value::U16(number) => push_number(text, u64::from(number)),
+        Value::U32(number) => push_number(text, u64::from(number)),
+        Value::U64(number) => push_number(text, number),
+        Value::I32(number) => push_signed(text, i64::from(number)),
+        Value::I64(number) => push_signed(text, number),
+        Value::Be16(number) => push_number(text, u64::from(number)),
+        Value::Be32(number) => push_number(text, u64::from(number)),
+        Value::Be64(number) => push_number(text, number),
+        Value::ExactLen(bytes) => push_hex(text, bytes),
+        Value::Ip(bytes) => push_hex(text, bytes),
+        Value::NulStr(bytes) => push_escaped_bytes(text, bytes_until_nul(bytes)),
+        Value::Str(bytes) => push_escaped_bytes(text, bytes_until_nul(bytes)),
+        Value::MinLen(_, bytes) => push_hex(text, bytes),
+        Value::Nested(inner) => push_hex(text, inner.block),
+        Value::Bytes(bytes) => push_hex(text, bytes),
+    }
+}
+
+/// Appends an integer in decimal.
+fn push_number(text: &mut String, number: u64) -> Result<(), AllocError>
+    ensures { OnOk result (string_bytes text.new ≡ string_bytes text.old ++ decimal number) }
+{
+    match write!(text, "{number}") {
+        Ok(()) => Ok(()),
+        Err(_) => Err(AllocError),
+    }
+}
+
+/// Appends a signed integer in decimal.
+fn push_signed(text: &mut String, number: i64) -> Result<(), AllocError>
+    ensures { OnOk result (string_bytes text.new ≡ string_bytes text.old ++ signed_decimal number) }
+{
+    match write!(text, "{number}") {
+        Ok(()) => Ok(()),
+        Err(_) => Err(AllocError),
+    }
+}
+
+/// Appends bytes as two hexadecimal digits each, or `-` if there are none.
+fn push_hex(text: &mut String, bytes: &[u8]) -> Result<(), AllocError>
+    ensures { OnOk result (string_bytes text.new ≡ string_bytes text.old ++ hex_text bytes.now) }
+{
+    if bytes.is_empty() {
+        return text.push_str("-");
+    }
+    push_hex_pairs(text, bytes)
+}
+
+/// Appends bytes as two hexadecimal digits each.
+fn push_hex_pairs(text: &mut String, bytes: &[u8]) -> Result<(), AllocError>
+    ensures { OnOk result (string_bytes text.new ≡ string_bytes text.old ++ each_of hex_pair bytes.now) }
+{
+    for byte in bytes {
+        push_hex_pair(text, *byte)?;
+    }
+    Ok(())
+}
+
+/// Appends the bytes of a string, each as a printable character or escaped.
+fn push_escaped_bytes(text: &mut String, bytes: &[u8]) -> Result<(), AllocError>
+    ensures { OnOk result (string_bytes text.new ≡ string_bytes text.old ++ each_of escaped bytes.now) }
+{
+    for byte in bytes {
+        push_escaped(text, *byte)?;
+    }
+    Ok(())
+}
+
+/// Appends a byte as a printable character, or as a backslash and two hexadecimal digits.
+fn push_escaped(text: &mut String, byte: u8) -> Result<(), AllocError>
+    ensures { OnOk result (string_bytes text.new ≡ string_bytes text.old ++ escaped byte) }
+{
+    if byte >= 32 && byte < 127 && byte != b'\\' {
+        return text.push(char::from(byte));
+    }
+    text.push_str("\\")?;
+    push_hex_pair(text, byte)?;
+    Ok(())
+}
+
+/// Appends a byte as two hexadecimal digits.
+fn push_hex_pair(text: &mut String, byte: u8) -> Result<(), AllocError>
+    ensures { OnOk result (string_bytes text.new ≡ string_bytes text.old ++ hex_pair byte) }
+{
+    push_hex_digit(text, byte / 16)?;
+    push_hex_digit(text, byte % 16)?;
+    Ok(())
+}
+
+/// Appends a hexadecimal digit.
+fn push_hex_digit(text: &mut String, digit: u8) -> Result<(), AllocError>
+    requires small { digit < 16 }
+    ensures { OnOk result (string_bytes text.new ≡ string_bytes text.old ++ (hex_digit digit ∷ [])) }
+{
+    let escaped = if digit < 10 { 48 + digit } else { 87 + digit };
+    text.push(char::from(escaped))
+}

@@ -1,0 +1,204 @@
+//! Decoded values.
+
+ghost use Rattle.std.specs.Prelude.{◌≡◌, ◌≤◌, ◌⊎◌, ◌↔◌, [], ◌∷◌, ◌++◌, IfSome, IsSome, length, true};
+ghost use Rattle.std.specs.Str.{IsUtf8};
+ghost use Rattle.netlink_packet_core.specs.Numbers.{number_be, number_le, signed};
+ghost use Rattle.netlink_family.specs.Shapes.{has_shape, is_block_shaped, nest_fits, nest_levels, rows_in, nul_only_last, are_sorted};
+ghost use Rattle.netlink_family.specs.declared.shape.Shape.TheVariants.{Nested};
+ghost use Rattle.netlink_family.specs.Strings.{until_nul, nul_offset, has_no_nul};
+ghost use Rattle.netlink_family.specs.Values.{NestHasRows, IsValueOf, value_shape};
+
+use crate::block_view::BlockView;
+use crate::shape::{Row, Shape};
+use netlink_packet_core::{
+    parse_i32, parse_i64, parse_u16, parse_u16_be, parse_u32, parse_u32_be, parse_u64, parse_u64_be,
+};
+
+/// A decoded value, one variant per shape.
+#[derive(Clone, Copy, Debug, PartialEq, Eq)]
+pub enum Value<'a> {
+    /// The attribute is present.
+    Flag,
+    /// A `u8`.
+    U8(u8),
+    /// A `u16`.
+    U16(u16),
+    /// A `u32`.
+    U32(u32),
+    /// A `u64`.
+    U64(u64),
+    /// An `i32`.
+    I32(i32),
+    /// An `i64`.
+    I64(i64),
+    /// A big-endian `u16`.
+    Be16(u16),
+    /// A big-endian `u32`.
+    Be32(u32),
+    /// A big-endian `u64`.
+    Be64(u64),
+    /// The number of bytes that the shape requires.
+    ExactLen(&'a [u8]),
+    /// An IP address, 4 or 16 bytes.
+    Ip(&'a [u8]),
+    /// A string with its NUL.
+    NulStr(&'a [u8]),
+    /// A string with or without a NUL at its end.
+    Str(&'a [u8]),
+    /// Bytes with this minimum size.
+    MinLen(u16, &'a [u8]),
+    /// A nest: a view of its attributes.
+    Nested(BlockView<'a>),
+    /// Any bytes.
+    Bytes(&'a [u8]),
+}
+
+/// Decodes bytes that have a shape.
+#[inline(always)]
+pub(crate) fn value_in<'a>(rows: &'static [Row], shape: Shape, bytes: &'a [u8]) -> Value<'a>
+    requires sorted { are_sorted (rows_in rows.now) ≡ true }
+    requires shape { has_shape shape bytes.now ≡ true }
+    requires nest { nest_fits (rows_in rows.now) shape bytes.now ≡ true }
+    ensures value_is { IsValueOf result bytes.now }
+    ensures shape { value_shape result ≡ shape }
+    ensures nest { NestHasRows (rows_in rows.now) result }
+{
+    match shape {
+        Shape::Flag => Value::Flag,
+        Shape::U8 => Value::U8(bytes[0]),
+        Shape::U16 => Value::U16(u16_in(bytes)),
+        Shape::U32 => Value::U32(u32_in(bytes)),
+        Shape::U64 => Value::U64(u64_in(bytes)),
+        Shape::I32 => Value::I32(i32_in(bytes)),
+        Shape::I64 => Value::I64(i64_in(bytes)),
+        Shape::Be16 => Value::Be16(be16_in(bytes)),
+        Shape::Be32 => Value::Be32(be32_in(bytes)),
+        Shape::Be64 => Value::Be64(be64_in(bytes)),
+        Shape::ExactLen(_) => Value::ExactLen(bytes),
+        Shape::Ip => Value::Ip(bytes),
+        Shape::NulStr => Value::NulStr(bytes),
+        Shape::Str => Value::Str(bytes),
+        Shape::MinLen(size) => Value::MinLen(size, bytes),
+        Shape::Nested(policy) => nest_in(rows, policy, bytes),
+        Shape::Bytes => Value::Bytes(bytes),
+    }
+}
+
+/// Decodes a nest. It is a separate function so that other values do not initialize the space for
+/// it.
+#[inline(always)]
+fn nest_in<'a>(rows: &'static [Row], policy: u16, bytes: &'a [u8]) -> Value<'a>
+    requires sorted { are_sorted (rows_in rows.now) ≡ true }
+    requires nest { is_block_shaped nest_levels (rows_in rows.now) policy bytes.now ≡ true }
+    ensures value_is { IsValueOf result bytes.now }
+    ensures shape { value_shape result ≡ Nested policy }
+    ensures nest { NestHasRows (rows_in rows.now) result }
+{
+    Value::Nested(BlockView {
+        rows,
+        policy,
+        block: bytes,
+    })
+}
+
+/// Returns the bytes before the first NUL: the string in a value of shape `Str` or `NulStr`.
+#[tactic(auto, using(crate::specs::Strings::until_nul_whole, crate::specs::Strings::until_nul_has_none))]
+pub fn bytes_until_nul(value: &[u8]) -> &[u8]
+    ensures text { result.now ≡ until_nul value.now }
+    ensures whole { nul_only_last value.now ≡ true → (value.now ≡ result.now) ⊎ (value.now ≡ result.now ++ (0 ∷ [])) }
+    ensures has_no_nul { has_no_nul result.now ≡ true }
+{
+    &value[..nul_offset(value)]
+}
+
+/// Like `bytes_until_nul`, but as a `str`. Returns `None` if it is not UTF-8.
+pub fn str_until_nul(value: &[u8]) -> Option<&str>
+    ensures text { IfSome result (λ s. s.now ≡ until_nul value.now) }
+    ensures utf8 { IsSome result ↔ IsUtf8 (until_nul value.now) }
+{
+    match str::from_utf8(bytes_until_nul(value)) {
+        Ok(text) => Some(text),
+        Err(_) => None,
+    }
+}
+
+/// Returns the offset of the first NUL, or the length if there is none.
+fn nul_offset(value: &[u8]) -> usize
+    ensures size { result ≡ nul_offset value.now }
+    ensures inside { result ≤ length value.now }
+{
+    let mut size = 0;
+    let mut rest = value;
+    while let [first, more @ ..] = rest {
+        if *first == 0 {
+            return size;
+        }
+        size += 1;
+        rest = more;
+    }
+    size
+}
+
+/// Decodes an integer of 2 bytes.
+pub(crate) fn u16_in(bytes: &[u8]) -> u16
+    requires { length bytes.now ≡ 2 }
+    ensures { result ≡ number_le bytes.now }
+{
+    parse_u16(bytes).unwrap()
+}
+
+/// Decodes an integer of 4 bytes.
+pub(crate) fn u32_in(bytes: &[u8]) -> u32
+    requires { length bytes.now ≡ 4 }
+    ensures { result ≡ number_le bytes.now }
+{
+    parse_u32(bytes).unwrap()
+}
+
+/// Decodes an integer of 8 bytes.
+pub(crate) fn u64_in(bytes: &[u8]) -> u64
+    requires { length bytes.now ≡ 8 }
+    ensures { result ≡ number_le bytes.now }
+{
+    parse_u64(bytes).unwrap()
+}
+
+/// Decodes an integer of 4 bytes.
+pub(crate) fn i32_in(bytes: &[u8]) -> i32
+    requires { length bytes.now ≡ 4 }
+    ensures { result ≡ signed 4 (number_le bytes.now) }
+{
+    parse_i32(bytes).unwrap()
+}
+
+/// Decodes an integer of 8 bytes.
+pub(crate) fn i64_in(bytes: &[u8]) -> i64
+    requires { length bytes.now ≡ 8 }
+    ensures { result ≡ signed 8 (number_le bytes.now) }
+{
+    parse_i64(bytes).unwrap()
+}
+
+/// Decodes an integer of 2 bytes.
+pub(crate) fn be16_in(bytes: &[u8]) -> u16
+    requires { length bytes.now ≡ 2 }
+    ensures { result ≡ number_be bytes.now }
+{
+    parse_u16_be(bytes).unwrap()
+}
+
+/// Decodes an integer of 4 bytes.
+pub(crate) fn be32_in(bytes: &[u8]) -> u32
+    requires { length bytes.now ≡ 4 }
+    ensures { result ≡ number_be bytes.now }
+{
+    parse_u32_be(bytes).unwrap()
+}
+
+/// Decodes an integer of 8 bytes.
+pub(crate) fn be64_in(bytes: &[u8]) -> u64
+    requires { length bytes.now ≡ 8 }
+    ensures { result ≡ number_be bytes.now }
+{
+    parse_u64_be(bytes).unwrap()
+}

@@ -1,0 +1,180 @@
+//! A message read in place, without a copy.
+
+ghost use Rattle.std.specs.Prelude.{◌≡◌, ◌+◌, ◌≤◌, ◌++◌, ℕ, List, Option, None, OnOk, Some, IfErr, IfOk, drop, length, take, ⊤};
+ghost use Rattle.netlink_packet_core.specs.Attribute.{Attribute};
+ghost use Rattle.netlink_packet_core.specs.Block.{canonical_block};
+ghost use Rattle.netlink_packet_core.specs.DecodeError.{DecodeError};
+ghost use Rattle.netlink_packet_core.specs.Frame.{Begins, Frame};
+ghost use Rattle.netlink_packet_core.specs.Walk.{Walk};
+ghost use Rattle.netlink_family.specs.PayloadReading.{payload_reading};
+ghost use Rattle.netlink_family.specs.Errors.{family_error};
+ghost use Rattle.netlink_family.specs.Shapes.{reading_by, rows_in};
+
+use crate::block::{append_attributes, has_shapes};
+use crate::block_view::BlockView;
+use crate::checked::CheckedAttributes;
+use crate::error::FamilyError;
+use crate::family::{Family, Table, rows_of};
+use crate::header_view::HeaderView;
+use crate::owned::OwnedMessage;
+use crate::shape::TOP;
+use netlink_packet_core::{
+    NetlinkDeserializable, NetlinkHeader, NetlinkMessage, NetlinkPayload, is_canonical_nlas,
+};
+use std::alloc::{AllocError, Global};
+use std::marker::PhantomData;
+
+/// A view of a message in the received bytes: its type, and a payload without errors. The padding
+/// of the attributes may be any bytes. Only `to_owned`, `to_message` and `show` allocate.
+#[derive(Debug)]
+pub struct MessageView<'a, F: Table> {
+    /// The message type, which is one of the family's.
+    pub message_type: u16,
+    /// The fixed header and the attributes, as received.
+    pub payload: &'a [u8],
+    /// The family of the message.
+    pub family: PhantomData<F>,
+    pub ghost good: { family_error F.types F.header_len F.rows message_type payload.now ≡ None },
+}
+
+impl<'a, F: Table> Clone for MessageView<'a, F> {
+    ghost is_clone = { λ view copy. copy ≡ view };
+
+    ghost is_infallible = { λ _. ⊤ };
+
+    fn clone(&self) -> Result<Self, AllocError> {
+        Ok(*self)
+    }
+}
+
+impl<'a, F: Table> Copy for MessageView<'a, F> {}
+
+impl<'a, F: Table> MessageView<'a, F> {
+    /// Checks a payload of this message type. Returns the payload's error if it has one.
+    #[tactic(auto, using(crate::specs::ErrorLaws::block_shaped, crate::proofs::Checking::has_no_error))]
+    pub fn new(message_type: u16, payload: &'a [u8]) -> Result<Self, FamilyError>
+        ensures message_type { IfOk result (λ v. v.message_type ≡ message_type) }
+        ensures payload { IfOk result (λ v. v.payload.now ≡ payload.now) }
+        ensures good { IfOk result (λ _. family_error F.types F.header_len F.rows message_type payload.now ≡ None) }
+        ensures error { IfErr result (λ e. family_error F.types F.header_len F.rows message_type payload.now ≡ Some e) }
+    {
+        let mut all = CheckedAttributes::<F>::new(message_type, payload)?;
+        if !has_shapes(all.rows, all.walk) {
+            return Err(FamilyError::InvalidAttribute(all.stop()));
+        }
+        Ok(MessageView {
+            message_type,
+            payload,
+            family: PhantomData,
+        })
+    }
+
+    /// Returns the fixed header, with getters by field.
+    pub fn header(&self) -> HeaderView<'a>
+        ensures bytes { result.bytes.now ≡ take (F.header_len self.now.message_type) self.now.payload.now }
+        ensures size { length result.bytes.now ≡ F.header_len self.now.message_type }
+    {
+        header_fits(self);
+        HeaderView {
+            bytes: &self.payload[..F::header_len(self.message_type)],
+        }
+    }
+
+    /// Returns the attributes, as a block that `NlasIterator` walks.
+    pub fn block(&self) -> &'a [u8]
+        ensures { result.now ≡ drop (F.header_len self.now.message_type) self.now.payload.now }
+    {
+        header_fits(self);
+        &self.payload[F::header_len(self.message_type)..]
+    }
+
+    /// Returns a view of the attributes, with getters by kind and an iterator.
+    pub fn view(&self) -> BlockView<'a>
+        ensures rows { rows_in result.rows.now ≡ F.rows self.now.message_type }
+        ensures policy { result.policy ≡ 0 }
+        ensures block { result.block.now ≡ drop (F.header_len self.now.message_type) self.now.payload.now }
+    {
+        BlockView {
+            rows: rows_of::<F>(self.message_type),
+            policy: TOP,
+            block: self.block(),
+        }
+    }
+
+    /// Copies the message, in the form that `deserialize` returns, without checking it again.
+    /// Returns an error if an allocation fails.
+    pub fn to_owned(&self, alloc: Global) -> Result<OwnedMessage<F>, AllocError>
+        ensures message_type { IfOk result (λ m. m.message_type ≡ self.now.message_type) }
+        ensures reads { IfOk result (λ m. (t : ℕ) → payload_reading (F.header_len self.now.message_type)
+            (reading_by (F.rows self.now.message_type)) t self.now.payload.now ≡ Some (t, m.bytes.items)) }
+    {
+        let mut bytes = Vec::with_capacity(alloc, self.payload.len())?;
+        bytes.extend_from_slice(self.header().bytes)?;
+        copy_block(alloc, &mut bytes, self.block())?;
+        Ok(OwnedMessage {
+            message_type: self.message_type,
+            bytes,
+            family: PhantomData,
+        })
+    }
+}
+
+impl<'a, F: Family> MessageView<'a, F> {
+    /// Copies the message of a frame whose header is `header` and whose payload is the view's: the
+    /// message that `NetlinkMessage::deserialize` returns for it. Requires that the header has the
+    /// view's message type. Returns an error if an allocation fails.
+    pub fn to_message(
+        &self,
+        alloc: Global,
+        header: NetlinkHeader,
+    ) -> Result<NetlinkMessage<OwnedMessage<F>>, AllocError>
+        requires message_type { header.message_type ≡ self.now.message_type }
+        ensures header { IfOk result (λ m. m.header ≡ header) }
+        ensures frame { IfOk result (λ m. (bytes : List ℕ) → Begins bytes header self.now.payload.now
+            → Frame ⟦<OwnedMessage<F> as NetlinkDeserializable>⟧.decoding bytes m) }
+    {
+        let message = self.to_owned(alloc)?;
+        Ok(NetlinkMessage::new(header, NetlinkPayload::InnerMessage(message)))
+    }
+}
+
+/// Appends the attributes of a block in canonical form; if the walk has an error, those before it.
+fn copy_block(alloc: Global, bytes: &mut Vec<u8>, block: &[u8]) -> Result<(), AllocError>
+    ensures ok { OnOk result
+        ((all : List Attribute) × (error : Option DecodeError) × Walk block.now all error
+        × (bytes.new.items ≡ bytes.old.items ++ canonical_block all)) }
+{
+    if is_canonical_nlas(block) {
+        bytes.extend_from_slice(block)?;
+        return Ok(());
+    }
+    append_attributes(alloc, bytes, block)
+}
+
+/// A law: a payload contains its header. Does nothing at run time.
+fn header_fits<F: Table>(view: &MessageView<'_, F>)
+    ensures { F.header_len view.now.message_type ≤ length view.now.payload.now }
+{}
+
+impl<F: Table> OwnedMessage<F> {
+    /// Returns a view of the message.
+    pub fn message_view(&self) -> MessageView<'_, F>
+        ensures message_type { result.message_type ≡ self.now.message_type }
+        ensures payload { result.payload.now ≡ self.now.bytes.items }
+    {
+        MessageView {
+            message_type: self.message_type,
+            payload: self.bytes.as_slice(),
+            family: PhantomData,
+        }
+    }
+
+    /// Returns a view of the attributes, with getters by kind and an iterator.
+    pub fn view(&self) -> BlockView<'_>
+        ensures rows { rows_in result.rows.now ≡ F.rows self.now.message_type }
+        ensures policy { result.policy ≡ 0 }
+        ensures block { result.block.now ≡ drop (F.header_len self.now.message_type) self.now.bytes.items }
+    {
+        self.message_view().view()
+    }
+}

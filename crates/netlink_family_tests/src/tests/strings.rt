@@ -1,0 +1,93 @@
+//! Strings with and without a NUL, lists of nests, and minimum sizes.
+
+use crate::route::Route;
+use crate::rules::{FRA_IIFNAME, MARK, MARK_REST, RTM_NEWRULE};
+use netlink_family::{AttributeError, FamilyError, Reason, Value, str_until_nul};
+use netlink_packet_core::{NetlinkDeserializable, NetlinkHeader};
+use std::test::Fail;
+
+/// The header of a new rule.
+fn rule() -> NetlinkHeader {
+    NetlinkHeader {
+        message_type: RTM_NEWRULE,
+        ..NetlinkHeader::default()
+    }
+}
+
+#[test]
+fn strings_need_no_nul(rt: HostRuntime) -> Result<(), Fail> {
+    let alloc = rt.alloc();
+    let rows: [(&[u8], Option<&str>); 4] = [
+        (
+            &[
+                2, 0, 0, 0, 0, 0, 0, 0, 0, 0, 0, 0, 7, 0, 3, 0, b'e', b't', b'h', 0,
+            ],
+            Some("eth"),
+        ),
+        (
+            &[
+                2, 0, 0, 0, 0, 0, 0, 0, 0, 0, 0, 0, 8, 0, 3, 0, b'e', b't', b'h', 0,
+            ],
+            Some("eth"),
+        ),
+        (&[2, 0, 0, 0, 0, 0, 0, 0, 0, 0, 0, 0, 4, 0, 3, 0], Some("")),
+        (
+            &[
+                2, 0, 0, 0, 0, 0, 0, 0, 0, 0, 0, 0, 6, 0, 3, 0, 0xff, 0xfe, 0, 0,
+            ],
+            None,
+        ),
+    ];
+    for (payload, text) in rows.iter() {
+        let message = Route::deserialize(alloc, &rule(), payload)?;
+        assert_eq!(rt; message.bytes.as_slice(), *payload);
+        match message.view().value(FRA_IIFNAME) {
+            Some(Value::Str(bytes)) => assert!(rt; str_until_nul(bytes) == *text),
+            _ => assert!(rt; false),
+        }
+    }
+    Ok(())
+}
+
+#[test]
+fn a_nul_inside_a_string_is_rejected(rt: HostRuntime) -> Result<(), Fail> {
+    let payload = [
+        2, 0, 0, 0, 0, 0, 0, 0, 0, 0, 0, 0, 7, 0, 3, 0, b'e', 0, b'h', 0,
+    ];
+    let found = Route::deserialize(rt.alloc(), &rule(), &payload).err();
+    assert!(rt;
+        found
+            == Some(FamilyError::InvalidAttribute(AttributeError {
+                offset: 12,
+                policy: 0,
+                reason: Reason::InteriorNul { kind: FRA_IIFNAME },
+            }))
+    );
+    Ok(())
+}
+
+#[test]
+fn errors_in_lists_have_their_offset(rt: HostRuntime) -> Result<(), Fail> {
+    let payload = [
+        2, 0, 0, 0, 0, 0, 0, 0, 0, 0, 0, 0, // header
+        32, 0, 0, 0x30, // FRA_MARKS
+        12, 0, 0, 0, 8, 0, 1, 0, 7, 0, 0, 0, // the first: MARK_VALUE
+        16, 0, 1, 0, // the second
+        6, 0, 2, 0, 1, 2, 0, 0, // MARK_REST
+        4, 0, 2, 0, // MARK_REST, too short
+    ];
+    let found = Route::deserialize(rt.alloc(), &rule(), &payload).err();
+    assert!(rt;
+        found
+            == Some(FamilyError::InvalidAttribute(AttributeError {
+                offset: 40,
+                policy: MARK,
+                reason: Reason::TooSmall {
+                    kind: MARK_REST,
+                    expected: 2,
+                    received: 0,
+                },
+            }))
+    );
+    Ok(())
+}

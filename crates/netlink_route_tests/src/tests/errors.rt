@@ -1,0 +1,94 @@
+//! Each error of a payload, with the offset of its attribute.
+
+use crate::tests::samples::{decoded, invalid, wrong_size};
+use netlink_family::{AttributeError, FamilyError, Reason};
+use netlink_route::links::{IFLA_CARRIER, IFLA_IFNAME, IFLA_INFO_KIND, IFLA_MTU, INFO};
+use std::test::Fail;
+
+/// Returns the error of a payload of this message type: a header of 16 zeros and an attribute.
+fn error_of(
+    rt: &HostRuntime,
+    message_type: u16,
+    attribute: &[u8],
+) -> Result<Option<FamilyError>, Fail> {
+    let mut payload = vec![in rt.alloc(); 0u8; 16]?;
+    payload.extend_from_slice(attribute)?;
+    Ok(decoded(rt.alloc(), message_type, &payload).err())
+}
+
+#[test]
+fn each_invalid_attribute_has_its_error(rt: HostRuntime) -> Result<(), Fail> {
+    let truncated = Reason::Truncated {
+        expected: 9,
+        received: 8,
+    };
+    let in_nest = AttributeError {
+        offset: 20,
+        policy: INFO,
+        reason: Reason::InteriorNul {
+            kind: IFLA_INFO_KIND,
+        },
+    };
+    let rows: [(&[u8], Option<FamilyError>); 12] = [
+        (&[], None),
+        (&[8, 0, 4, 0, 0, 0, 0, 0], None),
+        (&[7, 0, 4, 0, 1, 2, 3, 0], wrong_size(16, IFLA_MTU, 4, 3)),
+        (&[4, 0, 4, 0], wrong_size(16, IFLA_MTU, 4, 0)),
+        (
+            &[9, 0, 4, 0, 1, 2, 3, 4, 5, 0, 0, 0],
+            wrong_size(16, IFLA_MTU, 4, 5),
+        ),
+        (&[4, 0, 33, 0], wrong_size(16, IFLA_CARRIER, 1, 0)),
+        (&[6, 0, 3, 0, b'l', b'o', 0, 0], None),
+        (
+            &[8, 0, 3, 0, b'l', b'o', 0, 0],
+            invalid(16, Reason::InteriorNul { kind: IFLA_IFNAME }),
+        ),
+        (&[6, 0, 3, 0, 0xff, 0, 0, 0], None),
+        (&[4, 0, 3, 0], None),
+        (
+            &[12, 0, 18, 0, 7, 0, 1, 0, b'a', 0, b'b', 0],
+            Some(FamilyError::InvalidAttribute(in_nest)),
+        ),
+        (&[9, 0, 4, 0, 0, 0, 0, 0], invalid(16, truncated)),
+    ];
+    for (attribute, expected) in rows.iter() {
+        assert!(rt; error_of(&rt, 16, attribute)? == *expected);
+    }
+    Ok(())
+}
+
+#[test]
+fn other_payloads_have_their_error(rt: HostRuntime) -> Result<(), Fail> {
+    let alloc = rt.alloc();
+    let unknown = FamilyError::UnknownType { message_type: 31 };
+    assert!(rt; error_of(&rt, 31, &[])? == Some(unknown));
+    let rows: [(u16, usize, usize); 3] = [(19, 16, 15), (22, 8, 7), (30, 12, 11)];
+    for (message_type, expected, received) in rows.iter() {
+        let error = FamilyError::HeaderShort {
+            expected: *expected,
+            received: *received,
+        };
+        let zeros = vec![in alloc; 0u8; *received]?;
+        assert!(rt; decoded(alloc, *message_type, &zeros).err() == Some(error));
+    }
+    Ok(())
+}
+
+#[test]
+fn errors_have_a_text(rt: HostRuntime) -> Result<(), Fail> {
+    let alloc = rt.alloc();
+    let unknown = FamilyError::UnknownType { message_type: 31 };
+    assert_eq!(rt;
+        unknown.to_string(alloc)?.as_str(),
+        "message type 31 is not known"
+    );
+    match wrong_size(16, IFLA_MTU, 4, 5) {
+        Some(error) => assert_eq!(rt;
+            error.to_string(alloc)?.as_str(),
+            "at byte 16, in policy 0: attribute 4 has a value of 5 bytes instead of 4"
+        ),
+        None => assert!(rt; false),
+    }
+    Ok(())
+}
