@@ -25,8 +25,10 @@ def attributes(count, sizes, padding=b"\0"):
 
 
 def generic(size):
-    """Returns a message of generic netlink with this number of bytes after its fixed header."""
-    return frame(18, b"\1\1\0\0" + bytes(size))
+    """Returns a message of generic netlink's controller with this number of bytes after its fixed header: attributes of
+    at most 32,768 bytes and of a kind that the controller's table does not have."""
+    sizes = [min(size - at, 32768) for at in range(0, size, 32768)]
+    return frame(16, b"\1\1\0\0" + b"".join(attribute(11, bytes(it - 4)) for it in sizes))
 
 
 def tree():

@@ -1,11 +1,14 @@
 #!/usr/bin/env python3
-"""Decodes each frame of examples/captured by netlink_route, and checks the result.
+"""Decodes each frame of examples/captured by netlink_route or netlink_generic, and checks the result. Finds each family
+in a dump of all families of generic netlink by its name.
 
-The script passes the frame on standard input to a test of the crate, which writes its canonical form or the error text.
-The kernel sent the frames of links, addresses, neighbours and the core's own message types in canonical form, so the
-test must write these unchanged. Frames of generic netlink have the message type of a link, so the test must decode them
-as one, which fails unless there is nothing after the header. It must reject any other frame. This script computes the
-error texts.
+The script passes a frame on standard input to a test of the crate of the frame's protocol, which writes its canonical
+form or the error text. The kernel sent the frames of links, addresses, neighbours, generic netlink's controller and the
+core's own message types in canonical form, so the test must write these unchanged. It must reject any other frame,
+because the crate does not have its message type.
+
+A second test of netlink_generic gets a name and the dump, and writes the id and the multicast groups of the family with
+this name. This script reads the dump itself to check them.
 """
 
 import csv
@@ -15,20 +18,29 @@ import struct
 from built import TOP, built, in_parallel, run, tally
 from expected import Expected, differs
 
-TEST = "tests::captured::standard_input_is_normalized"
+NORMALIZES = "tests::captured::standard_input_is_normalized"
+FINDS = "tests::captured::a_family_of_standard_input_is_found"
 RESULT = b"\ntest result: ok\n"
 CAPTURED = os.path.join(TOP, "examples", "captured")
 
-# The number of datagrams. tests/expected.txt states how many frames they have.
+# The number of datagrams. tests/expected.txt states how many frames and searches for families they have.
 DATAGRAMS = 44
 
 OWN_TYPES = range(1, 5)  # NLMSG_NOOP to NLMSG_OVERRUN of linux/netlink.h
-FAMILIES = [*range(16, 23), *range(28, 31)]  # RTM_NEWLINK to RTM_GETADDR, RTM_NEWNEIGH to RTM_GETNEIGH
-ROUTE = "0"  # NETLINK_ROUTE
-IFLA_IFNAME = 3
+# The crate of each protocol, and its message types: NETLINK_ROUTE, with RTM_NEWLINK to RTM_GETADDR and RTM_NEWNEIGH to
+# RTM_GETNEIGH; and NETLINK_GENERIC, with GENL_ID_CTRL.
+CRATES = {"0": "netlink_route_tests", "16": "netlink_generic_tests"}
+FAMILIES = {"0": [*range(16, 23), *range(28, 31)], "16": [16]}
 
 HEADER_SIZE = 16
-LINK_HEADER_SIZE = 16  # of struct ifinfomsg
+GENERIC_HEADER_SIZE = 4  # of struct genlmsghdr
+# CTRL_ATTR_FAMILY_ID, CTRL_ATTR_FAMILY_NAME, CTRL_ATTR_MCAST_GROUPS, CTRL_ATTR_MCAST_GRP_NAME, CTRL_ATTR_MCAST_GRP_ID
+FAMILY_ID, FAMILY_NAME, GROUPS, GROUP_NAME, GROUP_ID = 1, 2, 7, 1, 2
+
+
+def read(name):
+    with open(os.path.join(CAPTURED, name + ".bin"), "rb") as file:
+        return file.read()
 
 
 def frames_of(datagram):
@@ -40,61 +52,55 @@ def frames_of(datagram):
         at += size + -size % 4
 
 
-def link_error(payload):
-    """Returns the error text of a payload that is decoded as a link, or None.
-
-    It is that of the first invalid attribute after the header. Of the kinds in these payloads, only the value of
-    IFLA_IFNAME must have a certain form before that attribute: its only NUL may be its last byte.
-    """
-    if len(payload) < LINK_HEADER_SIZE:
-        return f"the payload has {len(payload)} bytes, fewer than its header of {LINK_HEADER_SIZE}"
-    at = LINK_HEADER_SIZE
-    while left := len(payload) - at:
-        why = attribute_error(payload[at:])
-        if why:
-            return f"at byte {at}, in policy 0: {why}"
-        size = struct.unpack_from("<H", payload, at)[0]
-        at += min(left, size + -size % 4)
-    return None
+def attributes_of(block):
+    """Yields the kind and the value of each attribute of a block."""
+    at = 0
+    while at < len(block):
+        size, kind = struct.unpack_from("<HH", block, at)
+        yield kind, block[at + 4 : at + size]
+        at += size + -size % 4
 
 
-def attribute_error(rest):
-    """Returns why the attribute that the bytes start with is invalid, or None."""
-    if len(rest) < 4:
-        return f"{len(rest)} bytes are too few for an attribute"
-    size, kind = struct.unpack_from("<HH", rest)
-    if size > len(rest):
-        return f"an attribute of {size} bytes is truncated to {len(rest)}"
-    if size < 4:
-        return f"an attribute has length {size}, less than 4"
-    if kind == IFLA_IFNAME and 0 in rest[4 : size - 1]:
-        return f"attribute {kind} is a string with a NUL before its last byte"
-    return None
+def families_of(datagram):
+    """Yields the name of each family in a dump, and the lines of its id and its groups."""
+    for frame in frames_of(datagram):
+        if struct.unpack_from("<H", frame, 4)[0] == 16:
+            values = dict(attributes_of(frame[HEADER_SIZE + GENERIC_HEADER_SIZE :]))
+            text = b"%d\n" % struct.unpack("<H", values[FAMILY_ID])
+            for _, group in attributes_of(values.get(GROUPS, b"")):
+                it = dict(attributes_of(group))
+                text += b"%s %d\n" % (it[GROUP_NAME].removesuffix(b"\0"), *struct.unpack("<I", it[GROUP_ID]))
+            yield values[FAMILY_NAME].removesuffix(b"\0"), text
 
 
 def wanted(protocol, frame):
     """Returns what the test must write for the frame."""
-    kind, payload = struct.unpack_from("<H", frame, 4)[0], frame[HEADER_SIZE:]
-    if kind in OWN_TYPES or (protocol == ROUTE and kind in FAMILIES):
+    kind = struct.unpack_from("<H", frame, 4)[0]
+    if kind in OWN_TYPES or kind in FAMILIES[protocol]:
         return frame
-    why = link_error(payload) if kind in FAMILIES else f"message type {kind} is not known"
-    return f"Failed to parse message with type {kind}: {why}".encode() if why else frame
+    return b"Failed to parse message with type %d: message type %d is not known" % (kind, kind)
 
 
 def main():
-    program = built("netlink_route_tests_tests", "netlink_route_tests")
-    rows = []
+    programs = {it: built(f"{crate}_tests", crate) for it, crate in CRATES.items()}
     with open(os.path.join(CAPTURED, "INDEX.tsv"), encoding="utf-8") as file:
         datagrams = [row for row in csv.reader(file, delimiter="\t") if not row[0].startswith("#")]
+    # Each row has a name, the words of a command, its input, and what it must write.
+    rows, own = [], 0
     for name, protocol, *_ in datagrams:
-        with open(os.path.join(CAPTURED, name + ".bin"), "rb") as file:
-            rows += [(f"{name}, frame {at}", protocol, it) for at, it in enumerate(frames_of(file.read()))]
+        for at, frame in enumerate(frames_of(read(name))):
+            text = wanted(protocol, frame)
+            own += text == frame
+            rows.append((f"{name}, frame {at}", [programs[protocol], NORMALIZES], frame, text))
+    frames, dump = len(rows), read("families-0")
+    for family, text in [*families_of(dump), (b"no-such-family", b"none\n"), (b"nlctr", b"none\n")]:
+        rows.append((f"family {family.decode()}", [programs["16"], FINDS], family + b"\0" + dump, text))
 
     def difference(row):
-        name, protocol, frame = row
-        result = run([program, TEST], frame)
-        is_right = result == (0, wanted(protocol, frame) + RESULT, b"")
-        return None if is_right else f"{name}: {frame.hex()}\n  returned {result}"
+        name, words, data, text = row
+        result = run(words, data)
+        is_right = result == (0, text + RESULT, b"")
+        return None if is_right else f"{name}: {data.hex()}\n  returned {result}"
 
     failures = [it for it in in_parallel(difference, rows) if it]
     passed = len(rows) - len(failures)
@@ -102,8 +108,8 @@ def main():
         failures.append(f"{len(datagrams)} datagrams, not {DATAGRAMS}")
     why = differs("captured frames", len(rows), Expected().lines["passes"].get("tests/captured.py", 0))
     failures += [why] * bool(why)
-    own = sum(wanted(protocol, frame) == frame for _, protocol, frame in rows)
-    print(f"{own} captured frames are their own canonical form, and {len(rows) - own} are rejected")
+    print(f"{own} captured frames are their own canonical form, and {frames - own} are rejected")
+    print(f"{len(rows) - frames} families are searched for in a dump")
     tally("captured", failures, passed)
 
 

@@ -1,6 +1,6 @@
-//! Messages of generic netlink, and Ethernet protocols.
+//! Messages of the controller of generic netlink, and Ethernet protocols.
 
-use netlink_example::GenericMessage;
+use netlink_generic::ControllerMessage;
 use netlink_packet_core::{
     EthernetProtocol, NetlinkMessage, is_canonical_frame, normalize, u16_at,
 };
@@ -9,7 +9,7 @@ use std::alloc::Global;
 /// Decodes a message and drops it. Returns its length field, or the number of the error.
 #[unsafe(no_mangle)]
 pub extern "C" fn message_read(alloc: Global, frame: &[u8]) -> usize {
-    match NetlinkMessage::<GenericMessage>::deserialize(alloc, frame) {
+    match NetlinkMessage::<ControllerMessage>::deserialize(alloc, frame) {
         Ok(message) => message.header.length as usize,
         Err(error) => error.number() as usize,
     }
@@ -18,7 +18,7 @@ pub extern "C" fn message_read(alloc: Global, frame: &[u8]) -> usize {
 /// Decodes a message, finalizes it and serializes it into `buffer`. Returns its size.
 #[unsafe(no_mangle)]
 pub extern "C" fn message_rewrite(alloc: Global, frame: &[u8], buffer: &mut [u8]) -> usize {
-    match NetlinkMessage::<GenericMessage>::deserialize(alloc, frame) {
+    match NetlinkMessage::<ControllerMessage>::deserialize(alloc, frame) {
         Ok(mut message) => {
             if !message.fits() {
                 return 0;
@@ -38,13 +38,13 @@ pub extern "C" fn message_rewrite(alloc: Global, frame: &[u8], buffer: &mut [u8]
 /// Returns the size of the canonical frame.
 #[unsafe(no_mangle)]
 pub extern "C" fn message_normalize(alloc: Global, frame: &[u8]) -> usize {
-    normalize::<GenericMessage>(alloc, frame).map_or(0, |bytes| bytes.len())
+    normalize::<ControllerMessage>(alloc, frame).map_or(0, |bytes| bytes.len())
 }
 
 /// Returns 1 if the frame is canonical.
 #[unsafe(no_mangle)]
 pub extern "C" fn message_is_canonical(alloc: Global, frame: &[u8]) -> usize {
-    match is_canonical_frame::<GenericMessage>(alloc, frame) {
+    match is_canonical_frame::<ControllerMessage>(alloc, frame) {
         Ok(true) => 1,
         _ => 0,
     }
