@@ -1,0 +1,6 @@
+pub mod ReadLemmas
+pub mod Readings
+pub mod Grouping
+pub mod Ending
+pub mod Values
+pub mod PathLemmas

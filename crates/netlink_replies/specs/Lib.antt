@@ -1,0 +1,13 @@
+pub mod Headers
+pub mod Bodies
+pub mod Meaning
+pub mod Answers
+pub mod Reads
+pub mod ReadingSteps
+pub mod Sequence
+pub mod Endings
+pub mod Groups
+pub mod AckValues
+pub mod Paths
+pub mod PathSteps
+pub mod FoundAttributes
