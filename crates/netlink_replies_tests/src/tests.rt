@@ -2,6 +2,7 @@
 //! written by hand from linux/netlink.h. The expected items are written by hand.
 
 mod acks;
+mod calling;
 mod captured;
 mod dumps;
 mod helpers;
