@@ -7,6 +7,8 @@ mod captured;
 mod dumps;
 mod helpers;
 mod malformed;
+mod mark;
+mod memory_not_asked;
 mod paths;
 mod sequence;
 mod shared;

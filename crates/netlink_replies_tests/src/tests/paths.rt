@@ -30,7 +30,7 @@ fn has_kinds(path: Path<'_>, expected: &[u16]) -> bool {
 }
 
 /// Whether the path to this offset of `BRIDGE` has exactly these kinds.
-fn leads(offset: u8, expected: &[u16]) -> bool {
+pub fn leads(offset: u8, expected: &[u16]) -> bool {
     let attributes = [8, 0, 2, 0, offset, 0, 0, 0];
     let ack = ExtendedAck {
         attributes: &attributes,
