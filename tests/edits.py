@@ -14,13 +14,17 @@ check does not show that an edit is rejected, the edit is tried alone.
     tests/edits.py [--over FOLDER] [--follow] [--lanes N] [--log FOLDER] [CRATE..]
 
 Uses the libraries that `rt ci` or `rt check` left in the folders out/ of FOLDER, a copy of this repository (default:
-this one). First proves each crate as it is; an edit counts only if the crate is proved without it. With --follow, reads
-the names of proved libraries from standard input, one per line, and starts a crate once the libraries below it are
-proved. Runs N checks in parallel (default: one per processor). --log keeps what each check prints. If no crate is
-named, also tries the edits of tests/edits/, each of which states what this script must print for it.
+this one). An edit counts only if the crate is proved without it, so first proves each crate as it is. With --follow,
+`./check` proves the crates and writes to standard input, for each one that is proved, lines `fn PATH` with the paths of
+its proved functions and then its name. A crate is started once it and the libraries below it are proved, and is proved
+again only if no function was named, because `rt ci` took it from an earlier run. The first check of a crate that is not
+proved here runs alone, and the work that it keeps serves the others. Runs N checks in parallel (default: one per
+processor). --log keeps what each check prints. If no crate is named, also tries the edits of tests/edits/, each of
+which states what this script must print for it.
 """
 
 import argparse
+import contextlib
 import itertools
 import os
 import re
@@ -67,24 +71,61 @@ def texts_of(crate):
     return texts
 
 
-class Checked:
-    """A check of the crate with these texts, of all its functions or only of some, that starts from a copy of the work
-    that another check kept: its status and what it printed."""
+def link_or_copy(path, to):
+    """Links a checked module, which the prover replaces but never changes, and copies any other file."""
+    if path.endswith(".oantt"):
+        with contextlib.suppress(OSError):
+            return os.link(path, to)
+    return shutil.copy2(path, to)
 
-    def __init__(self, words, texts, kept, only=(), keep=False):
+
+class Kept:
+    """The work that the checks of a crate keep for later ones: a folder with a file for each module that the prover
+    checked. The prover takes a module from there only if nothing that it was made from has changed."""
+
+    def __init__(self, folder):
+        self.folder = folder
+        os.makedirs(folder)
+
+    def begin(self, earlier):
+        """Begins with the work in this folder, if it exists."""
+        if os.path.isdir(earlier):
+            shutil.copytree(earlier, self.folder, dirs_exist_ok=True)
+
+    def lend(self, own):
+        """Makes a folder with the kept work, for a check."""
+        shutil.copytree(self.folder, own, copy_function=link_or_copy)
+
+    def add(self, own):
+        """Keeps the modules that a check added. Modules that are kept already stay."""
+        for at, _, names in os.walk(own):
+            to = os.path.join(self.folder, os.path.relpath(at, own))
+            os.makedirs(to, exist_ok=True)
+            for name in names:
+                if not os.path.exists(os.path.join(to, name)):
+                    link_or_copy(os.path.join(at, name), os.path.join(to, name))
+
+
+class Checked:
+    """A check of the crate with these texts, of all its functions or only of some, that starts from the kept work, if
+    it is given, and adds to it: its status and what it printed."""
+
+    def __init__(self, words, texts, kept, only=()):
         self.texts = texts
         with tempfile.TemporaryDirectory(prefix="edits-") as room:
             for path, text in texts.items():
                 os.makedirs(os.path.dirname(os.path.join(room, "crate", path)), exist_ok=True)
                 with open(os.path.join(room, "crate", path), "w", encoding="utf-8") as file:
                     file.write(text)
-            own = kept if keep else os.path.join(room, "kept")
-            if kept and not keep:
-                shutil.copytree(kept, own)
+            own = os.path.join(room, "kept")
+            if kept:
+                kept.lend(own)
             words = [*words, "--jobs", "1", *(["--incremental", own] if kept else [])]
             words += [word for path in only for word in ("--only", path)]
             how = {"cwd": os.path.join(room, "crate"), "stdin": subprocess.DEVNULL, "stdout": subprocess.PIPE}
             ran = subprocess.run(words, **how, stderr=subprocess.STDOUT, text=True, errors="replace")
+            if kept:
+                kept.add(own)
         self.status, self.output = ran.returncode, ran.stdout.rstrip("\n")
 
     def last(self):
@@ -166,19 +207,21 @@ class Crate:
 
     def __init__(self, name, top, folder, log=None):
         self.name, self.words, self.texts = name, words_over_rlibs(name, "check", top), texts_of(name)
-        self.kept, self.earlier = os.path.join(folder, name), os.path.join(folder_of(name, top), "out", "incremental")
+        self.earlier, self.kept = os.path.join(folder_of(name, top), "out", "incremental"), Kept(os.path.join(folder, name))
         self.edits = edits_of(name, os.path.join(folder_of(name), "must-fail"))
         self.log, self.proved, self.functions = log, [], {}
 
     def is_proved(self):
-        """Proves the crate as it is, and returns whether it is proved. Starts from the work that an earlier check kept,
-        if there is any, and keeps the work of this proof."""
-        if os.path.isdir(self.earlier):
-            shutil.copytree(self.earlier, self.kept)
-        os.makedirs(self.kept, exist_ok=True)
-        checked = Checked(self.words, self.texts, self.kept, keep=True)
-        self.proved = [it.partition("::")[2] for it in PROVED.findall(checked.output)]
+        """Proves the crate as it is, and returns whether it is proved. Starts from the work that an earlier `rt check`
+        kept, if there is any."""
+        self.kept.begin(self.earlier)
+        checked = Checked(self.words, self.texts, self.kept)
+        self.set_proved(PROVED.findall(checked.output))
         return checked.is_proved()
+
+    def set_proved(self, paths):
+        """Sets the paths of the proved functions, without the crate's name."""
+        self.proved = list(dict.fromkeys(it.partition("::")[2] for it in paths))
 
     def targets(self, edit):
         """Returns the paths of each function whose contract must reject the edit. Several paths match one function if
@@ -289,8 +332,8 @@ class SelfTest(Crate):
 
 
 class Lanes:
-    """Threads that run the waiting tasks, the lowest rank first: the proof of a crate as it is, because its tries wait
-    for that, and then the tries."""
+    """Threads that run the waiting tasks, the lowest rank first: the first check of a crate, because its other tries
+    wait for that, and then these."""
 
     def __init__(self, number):
         self.waiting, self.turns = PriorityQueue(), itertools.count()
@@ -312,9 +355,27 @@ class Lanes:
                 future.set_exception(why)
 
 
-def begun(crate, lanes):
-    """Starts the tries of a crate if it is proved as it is, and returns them. Otherwise returns None."""
-    return [lanes.submit(1, lambda it=it: run_try(it)) for it in crate.tries()] if crate.is_proved() else None
+def begun(crate, paths, lanes):
+    """Starts the tries of a crate whose proved functions these are, and returns the results that are known and the
+    futures of the others. The first try runs before the others, which begin with the work that it keeps. If no function
+    is given, proves the crate instead, and returns None if it is not proved as it is."""
+    crate.set_proved(paths)
+    if not paths and not crate.is_proved():
+        return None
+    tries = crate.tries()
+    known = [run_try(tries.pop(0))] if paths else []
+    return known, [lanes.submit(1, lambda it=it: run_try(it)) for it in tries]
+
+
+def told_proofs(lines):
+    """Yields each crate that these lines name, with the paths of its proved functions, which come before it."""
+    paths = []
+    for line in map(str.strip, lines):
+        if line.startswith("fn "):
+            paths.append(line.removeprefix("fn "))
+        else:
+            yield line, paths
+            paths = []
 
 
 def run_try(try_edits):
@@ -330,7 +391,7 @@ def options(words):
     """Returns the options of the command line."""
     parser = argparse.ArgumentParser(description="Tries the must-fail edits: a contract must reject each.")
     parser.add_argument("--over", default=TOP, help="use the libraries built in this copy of the repository")
-    parser.add_argument("--follow", action="store_true", help="read the names of proved libraries from standard input")
+    parser.add_argument("--follow", action="store_true", help="read what is proved from standard input")
     parser.add_argument(
         "--lanes", type=int, default=len(os.sched_getaffinity(0)), help="number of checks to run in parallel"
     )
@@ -343,23 +404,24 @@ def main(words):
     how, names = options(words), dependencies()
     if how.log:
         os.makedirs(how.log, exist_ok=True)
-    top, lanes, bases, proved = os.path.abspath(how.over), Lanes(how.lanes), {}, set() if how.follow else {*names}
+    top, lanes, proved, bases = os.path.abspath(how.over), Lanes(how.lanes), {}, {}
     with tempfile.TemporaryDirectory(prefix="edits-kept-") as folder:
         kinds = [Crate] if how.crates else [Crate, SelfTest]
         crates = [kind(name, top, folder, how.log) for kind in kinds for name in how.crates or names]
         crates = [it for it in crates if it.edits]
-        for library in itertools.chain([""], map(str.strip, sys.stdin) if how.follow else []):
-            proved.add(library)
+        for name, paths in told_proofs(sys.stdin) if how.follow else [(it, []) for it in names]:
+            proved[name] = paths
             for crate in crates:
-                if crate not in bases and proved.issuperset(below(crate.name, names)):
-                    bases[crate] = lanes.submit(0, lambda it=crate: begun(it, lanes))
+                if crate not in bases and proved.keys() >= {crate.name, *below(crate.name, names)}:
+                    bases[crate] = lanes.submit(0, lambda it=crate: begun(it, proved[it.name], lanes))
         counts = []
         for crate in crates:
             tries = bases[crate].result() if crate in bases else None
             if tries is None:
-                why = "is not proved without an edit" if crate in bases else "lacks a library"
-                print(f"FAILED: {crate.name} {why}, so none of its edits was tried")
-            counts += [(0, 1)] if tries is None else [it.result() for it in tries]
+                print(f"FAILED: {crate.name} or a library below it is not proved, so none of its edits was tried")
+                counts.append((0, 1))
+            else:
+                counts += [*tries[0], *[it.result() for it in tries[1]]]
     passed, failed = map(sum, zip(*counts)) if counts else (0, 0)
     print(f"edits: {passed} passed, {failed} failed", flush=True)
     return 1 if failed else 0
