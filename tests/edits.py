@@ -207,7 +207,8 @@ class Crate:
 
     def __init__(self, name, top, folder, log=None):
         self.name, self.words, self.texts = name, words_over_rlibs(name, "check", top), texts_of(name)
-        self.earlier, self.kept = os.path.join(folder_of(name, top), "out", "incremental"), Kept(os.path.join(folder, name))
+        self.earlier = os.path.join(folder_of(name, top), "out", "incremental")
+        self.kept = Kept(os.path.join(folder, name))
         self.edits = edits_of(name, os.path.join(folder_of(name), "must-fail"))
         self.log, self.proved, self.functions = log, [], {}
 
