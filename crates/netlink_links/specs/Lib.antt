@@ -1,3 +1,4 @@
+pub mod Ack
 pub mod Address
 pub mod Ending
 pub mod Flags

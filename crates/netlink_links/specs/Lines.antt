@@ -8,6 +8,7 @@ use Rattle.netlink_packet_core.specs.Protocol.{Decoding}
 use Rattle.netlink_packet_core.specs.declared.message.NetlinkMessage.{NetlinkMessage}
 use Rattle.netlink_packet_core.specs.declared.payload.NetlinkPayload.{NetlinkPayload}
 use Rattle.netlink_packet_core.specs.declared.payload.NetlinkPayload.TheVariants.{Done, Error, Noop, Overrun, InnerMessage}
+use Rattle.netlink_links.specs.Ack.{marked_if, text_words}
 use Rattle.netlink_links.specs.Address.{address_line}
 use Rattle.netlink_links.specs.Link.{link_line}
 
@@ -34,16 +35,22 @@ route_line (t, payload) =
     else if has_type address_types t then Some (address_line t payload)
     else None
 
-abbrev pub payload_line : {I : Type 0} → Decoding I → NetlinkPayload I → Option (List ℕ)
-payload_line d Noop = Some (codes "noop\n")
-payload_line d (Overrun bytes) = Some (codes "overrun\n")
-payload_line d (Done m) = Some (codes "done" ++ (code_words m.code ++ codes "\n"))
-payload_line d (Error m) = Some (error_words (raw_code m.code) ++ codes "\n")
-payload_line d (InnerMessage m) = route_line (d.stands_for m)
+-- the line of a payload, if it has one, by the kernel's text, which only done and error messages have
+abbrev pub payload_line : {I : Type 0} → Decoding I → Option (List ℕ) → NetlinkPayload I
+    → Option (List ℕ)
+payload_line d text Noop = Some (codes "noop\n")
+payload_line d text (Overrun bytes) = Some (codes "overrun\n")
+payload_line d text (Done m) =
+    Some (codes "done" ++ (code_words m.code ++ (text_words text ++ codes "\n")))
+payload_line d text (Error m) =
+    Some (error_words (raw_code m.code) ++ (text_words text ++ codes "\n"))
+payload_line d text (InnerMessage m) = route_line (d.stands_for m)
 
--- the line of a message, if it has one
-abbrev pub message_line : {I : Type 0} → Decoding I → NetlinkMessage I → Option (List ℕ)
-message_line d m = payload_line d m.payload
+-- the line of a message, if it has one; a line that says so is in front of it if the message is of
+-- an interrupted dump
+abbrev pub message_line : {I : Type 0} → Decoding I → Option (List ℕ) → NetlinkMessage I
+    → Option (List ℕ)
+message_line d text m = marked_if m.header.flags (payload_line d text m.payload)
 
 -- lines, one after another
 abbrev pub joined : List (List ℕ) → List ℕ

@@ -9,14 +9,22 @@ use Rattle.netlink_packet_core.specs.Protocol.{Decoding}
 use Rattle.netlink_packet_core.specs.Refusal.{IsRefusal, SameRefusal}
 use Rattle.netlink_packet_core.specs.Walks.{WalksAs}
 use Rattle.netlink_packet_core.specs.declared.message.NetlinkMessage.{NetlinkMessage}
+use Rattle.netlink_links.specs.Ack.{HasText}
 use Rattle.netlink_links.specs.Lines.{joined, message_line}
 use Rattle.netlink_links.specs.declared.messages.Cause.{Cause}
 use Rattle.netlink_links.specs.declared.messages.Cause.TheVariants.{NoLine, Rejected}
 use Rattle.netlink_links.specs.declared.messages.Stop.{Stop}
 
+-- the bytes start with this message, and this is its line, if it has one
+abbrev pub IsLine : {I : Type 0} → Decoding I → List ℕ → NetlinkMessage I → Option (List ℕ)
+    → Type 0
+IsLine d bytes m line =
+    (text : Option (List ℕ)) × Frame d bytes m × HasText bytes text
+    × (message_line d text m ≡ line)
+
 -- the bytes start with a message that has this line
 abbrev pub HasLine : {I : Type 0} → Decoding I → List ℕ → List ℕ → Type 0
-HasLine {I} d bytes line = (m : NetlinkMessage I) × Frame d bytes m × (message_line d m ≡ Some line)
+HasLine {I} d bytes line = (m : NetlinkMessage I) × IsLine d bytes m (Some line)
 
 -- and the rest follows its frame and padding
 abbrev pub StartsLine : {I : Type 0} → Decoding I → List ℕ → List ℕ → List ℕ → Type 0
@@ -27,8 +35,7 @@ StartsLine d bytes line rest =
 abbrev pub IsCause : {I E : Type 0} → Decoding I → (E → Bool) → List ℕ → Cause → Type 0
 IsCause d wants_memory bytes (Rejected e) = IsRefusal d wants_memory bytes e × (e ≢ OutOfMemory)
 IsCause {I} d wants_memory bytes (NoLine t) =
-    (m : NetlinkMessage I)
-    × Frame d bytes m × (message_line d m ≡ None) × (t ≡ m.header.message_type)
+    (m : NetlinkMessage I) × IsLine d bytes m None × (t ≡ m.header.message_type)
 
 -- the bytes are the input from this offset on, and the lines end there for this cause
 pub record IsStop {I E : Type 0} (d : Decoding I) (wants_memory : E → Bool) (input bytes : List ℕ)

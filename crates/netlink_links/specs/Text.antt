@@ -1,5 +1,5 @@
 -- Bytes as text.
-use Rattle.std.specs.Prelude.{ℕ, ◌≡◌, ◌<◌, true, ◌==◌, ◌/◌, ◌%◌, ◌&&◌, Bool, false, List, [], ◌∷◌, ◌++◌, codes, length, nat_lt, if◌then◌else◌}
+use Rattle.std.specs.Prelude.{ℕ, ◌≡◌, ◌<◌, true, ◌==◌, ◌/◌, ◌%◌, ◌&&◌, Bool, false, List, [], ◌∷◌, ◌++◌, codes, length, nat_le, nat_lt, if◌then◌else◌}
 use Rattle.std.specs.Fmt.{digits}
 use Rattle.std.specs.List.{fold, list_all}
 use Rattle.std.specs.Net.Addr.{segments_of}
@@ -27,13 +27,21 @@ with_byte text byte = separated (codes ":") text (two_digits byte)
 abbrev pub bytes_text : List ℕ → List ℕ
 bytes_text bytes = fold with_byte [] bytes
 
--- printable ASCII other than a space
-abbrev pub is_printable : ℕ → Bool
-is_printable byte = nat_lt 32 byte && nat_lt byte 127
+-- printable ASCII, from a least byte on
+abbrev pub is_printable : ℕ → ℕ → Bool
+is_printable least byte = nat_le least byte && nat_lt byte 127
 
--- a name as it is, or as hexadecimal digits
-unfoldable pub name_text : List ℕ → List ℕ
-name_text name = if list_all is_printable name then name else bytes_text name
+-- bytes as they are, if all are printable, or as hexadecimal digits
+unfoldable pub printable_text : ℕ → List ℕ → List ℕ
+printable_text least bytes =
+    if list_all (is_printable least) bytes then bytes else bytes_text bytes
+
+-- a name has no spaces, and a sentence may have some
+abbrev pub name_text : List ℕ → List ℕ
+name_text name = printable_text 33 name
+
+abbrev pub sentence_text : List ℕ → List ℕ
+sentence_text sentence = printable_text 32 sentence
 
 -- an address of 4 bytes, or of 16 (RFC 5952)
 abbrev pub ip_words : List ℕ → List ℕ
@@ -43,12 +51,15 @@ ip_words bytes =
     else []
 
 -- printable bytes are UTF-8
-printable_small : (bytes : List ℕ) → list_all is_printable bytes ≡ true → All (λ b. b < 128) bytes
-printable_small [] each = All-nil (λ b. b < 128)
-printable_small (b ∷ bytes) each =
-    let parts = and_parts (is_printable b) (list_all is_printable bytes) each in
-    let small = ltb-true b 127 (and_parts (nat_lt 32 b) (nat_lt b 127) parts.0).1 in
-    All-cons (λ x. x < 128) b bytes (omega (arith, small)) (printable_small bytes parts.1)
+printable_small : (least : ℕ) (bytes : List ℕ) → list_all (is_printable least) bytes ≡ true
+    → All (λ b. b < 128) bytes
+printable_small least [] each = All-nil (λ b. b < 128)
+printable_small least (b ∷ bytes) each =
+    let parts = and_parts (is_printable least b) (list_all (is_printable least) bytes) each in
+    let small = ltb-true b 127 (and_parts (nat_le least b) (nat_lt b 127) parts.0).1 in
+    All-cons (λ x. x < 128) b bytes (omega (arith, small)) (printable_small least bytes parts.1)
 
-pub printable_utf8 : (bytes : List ℕ) → list_all is_printable bytes ≡ true → IsUtf8 bytes
-printable_utf8 bytes each = IsUtf8-from_ascii bytes (IsAscii-from_all bytes (printable_small bytes each))
+pub printable_utf8 : (least : ℕ) (bytes : List ℕ) → list_all (is_printable least) bytes ≡ true
+    → IsUtf8 bytes
+printable_utf8 least bytes each =
+    IsUtf8-from_ascii bytes (IsAscii-from_all bytes (printable_small least bytes each))

@@ -1,9 +1,11 @@
 //! The line of a message.
 
 ghost use Rattle.std.specs.Prelude.{◌≡◌, ◌++◌, IfOk, codes, string_bytes};
-ghost use Rattle.std.specs.Option.{option_map};
-ghost use Rattle.netlink_links.specs.Lines.{code_words, error_words, message_line, route_line};
+ghost use Rattle.std.specs.Option.{option_copied, option_map};
+ghost use Rattle.netlink_links.specs.Ack.{text_words};
+ghost use Rattle.netlink_links.specs.Lines.{code_words, error_words, message_line, payload_line, route_line};
 
+use crate::ack::{is_interrupted, text_words};
 use crate::address::address_text;
 use crate::link::link_text;
 use netlink_packet_core::{NetlinkMessage, NetlinkPayload, NetlinkProtocol};
@@ -33,35 +35,66 @@ impl Line for RouteMessage {
     }
 }
 
-/// Returns the line of a message: that of the protocol; `done`, with its code if that is not 0;
-/// `error` and its code, a negative errno, or `ack` if it is 0; `noop`; `overrun`.
+/// Returns the line of a message, if it has one, by the kernel's text in it: that of its payload,
+/// with `interrupted` and a line feed in front of it if the flags have `NLM_F_DUMP_INTR`.
 pub fn message_text<I: Line>(
     alloc: Global,
     message: &NetlinkMessage<I>,
+    text: Option<&[u8]>,
 ) -> Result<Option<String>, AllocError>
-    ensures line { IfOk result (λ text. option_map string_bytes text
-        ≡ message_line I.decoding message.now) }
+    ensures line { IfOk result (λ line. option_map string_bytes line
+        ≡ message_line I.decoding (option_copied text.entry) message.now) }
 {
-    match &message.payload {
+    let line = payload_text(alloc, &message.payload, text)?;
+    if !is_interrupted(message.header.flags) {
+        return Ok(line);
+    }
+    match line {
+        Some(line) => Ok(Some(format!(in alloc; "interrupted\n{line}")?)),
+        None => Ok(None),
+    }
+}
+
+/// Returns the line of a payload, if it has one: that of the protocol; `done`, with its code if that
+/// is not 0; `error` and its code, a negative errno, or `ack` if it is 0; `noop`; `overrun`. The
+/// kernel's text follows the code.
+fn payload_text<I: Line>(
+    alloc: Global,
+    payload: &NetlinkPayload<I>,
+    text: Option<&[u8]>,
+) -> Result<Option<String>, AllocError>
+    ensures line { IfOk result (λ line. option_map string_bytes line
+        ≡ payload_line I.decoding (option_copied text.entry) payload.now) }
+{
+    match payload {
         NetlinkPayload::Noop => Ok(Some(String::from_str(alloc, "noop\n")?)),
         NetlinkPayload::Overrun(_) => Ok(Some(String::from_str(alloc, "overrun\n")?)),
-        NetlinkPayload::Done(body) => {
-            let code = code_words(alloc, body.code)?;
-            Ok(Some(format!(in alloc; "done{code}\n")?))
-        }
-        NetlinkPayload::Error(body) => Ok(Some(error_line(alloc, body.raw_code())?)),
+        NetlinkPayload::Done(body) => Ok(Some(done_line(alloc, body.code, text)?)),
+        NetlinkPayload::Error(body) => Ok(Some(error_line(alloc, body.raw_code(), text)?)),
         NetlinkPayload::InnerMessage(message) => message.line(alloc),
     }
 }
 
-/// Returns the line of an error by its code, or of an acknowledgement.
-fn error_line(alloc: Global, code: i32) -> Result<String, AllocError>
-    ensures { IfOk result (λ text. string_bytes text ≡ error_words code ++ codes "\n") }
+/// Returns the line of a done message by its code and its text.
+fn done_line(alloc: Global, code: i32, text: Option<&[u8]>) -> Result<String, AllocError>
+    ensures { IfOk result (λ line. string_bytes line
+        ≡ codes "done" ++ (code_words code ++ (text_words (option_copied text.entry) ++ codes "\n"))) }
 {
+    let code = code_words(alloc, code)?;
+    let words = text_words(alloc, text)?;
+    format!(in alloc; "done{code}{words}\n")
+}
+
+/// Returns the line of an error, or of an acknowledgement, by its code and its text.
+fn error_line(alloc: Global, code: i32, text: Option<&[u8]>) -> Result<String, AllocError>
+    ensures { IfOk result (λ line. string_bytes line
+        ≡ error_words code ++ (text_words (option_copied text.entry) ++ codes "\n")) }
+{
+    let words = text_words(alloc, text)?;
     if code == 0 {
-        return String::from_str(alloc, "ack\n");
+        return format!(in alloc; "ack{words}\n");
     }
-    format!(in alloc; "error {code}\n")
+    format!(in alloc; "error {code}{words}\n")
 }
 
 /// Returns a code other than 0.

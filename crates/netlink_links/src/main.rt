@@ -2,6 +2,7 @@
 //! output.
 #![tactic(auto)]
 
+mod ack;
 mod address;
 mod ending;
 mod flags;

@@ -5,6 +5,7 @@ ghost use Rattle.netlink_packet_core.specs.Attribute.{padding};
 ghost use Rattle.netlink_links.specs.Messages.{HasLine, IsCause, Makes, stop_text};
 ghost use Rattle.netlink_links.specs.declared.messages.Cause.{Cause};
 
+use crate::ack::kernel_text;
 use crate::line::{Line, message_text};
 use netlink_packet_core::laws::refusal_unique;
 use netlink_packet_core::{DecodeError, NetlinkMessage, nlmsg_align};
@@ -118,7 +119,7 @@ fn first_line<I: Line>(alloc: Global, bytes: &[u8]) -> Result<String, Cause>
         Ok(message) => message,
         Err(error) => return Err(Cause::Rejected(error)),
     };
-    match message_text(alloc, &message) {
+    match message_text(alloc, &message, kernel_text(bytes)) {
         Ok(Some(line)) => Ok(line),
         Ok(None) => Err(Cause::NoLine(message.header.message_type)),
         Err(_) => Err(Cause::Rejected(DecodeError::OutOfMemory)),

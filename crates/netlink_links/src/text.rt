@@ -2,7 +2,7 @@
 
 ghost use Rattle.std.specs.Prelude.{◌≡◌, IfOk, OnOk, string_bytes};
 ghost use Rattle.std.specs.List.{list_all};
-ghost use Rattle.netlink_links.specs.Text.{bytes_text, ip_words, is_printable, name_text, separated, two_digits};
+ghost use Rattle.netlink_links.specs.Text.{bytes_text, ip_words, is_printable, name_text, printable_text, sentence_text, separated, two_digits};
 
 use netlink_packet_core::{IpAddr, parse_ip};
 use std::alloc::{AllocError, Global};
@@ -45,24 +45,40 @@ pub(crate) fn bytes_text(alloc: Global, bytes: &[u8]) -> Result<String, AllocErr
 
 /// Returns a name as it is if all its bytes are printable ASCII other than spaces, and otherwise as
 /// hexadecimal digits.
-#[tactic(auto, unfolding(crate::specs::Text::name_text), using(crate::specs::Text::printable_utf8))]
 pub(crate) fn name_text(alloc: Global, name: &[u8]) -> Result<String, AllocError>
     ensures { IfOk result (λ text. string_bytes text ≡ name_text name.now) }
 {
-    if are_printable(name) {
-        if let Ok(text) = str::from_utf8(name) {
+    printable_text(alloc, 33, name)
+}
+
+/// Returns a sentence as it is if all its bytes are printable ASCII or spaces, and otherwise as
+/// hexadecimal digits.
+pub(crate) fn sentence_text(alloc: Global, sentence: &[u8]) -> Result<String, AllocError>
+    ensures { IfOk result (λ text. string_bytes text ≡ sentence_text sentence.now) }
+{
+    printable_text(alloc, 32, sentence)
+}
+
+/// Returns bytes as they are if all are printable ASCII, from `least` on, and otherwise as
+/// hexadecimal digits.
+#[tactic(auto, unfolding(crate::specs::Text::printable_text), using(crate::specs::Text::printable_utf8))]
+fn printable_text(alloc: Global, least: u8, bytes: &[u8]) -> Result<String, AllocError>
+    ensures { IfOk result (λ text. string_bytes text ≡ printable_text least bytes.now) }
+{
+    if are_printable(least, bytes) {
+        if let Ok(text) = str::from_utf8(bytes) {
             return String::from_str(alloc, text);
         }
         unreachable!()
     }
-    bytes_text(alloc, name)
+    bytes_text(alloc, bytes)
 }
 
-/// Returns whether all bytes are printable ASCII other than spaces.
-fn are_printable(bytes: &[u8]) -> bool
-    ensures { result ≡ list_all is_printable bytes.now }
+/// Returns whether all bytes are printable ASCII, from `least` on.
+fn are_printable(least: u8, bytes: &[u8]) -> bool
+    ensures { result ≡ list_all (is_printable least) bytes.now }
 {
-    bytes.iter().all(|byte| *byte > 32 && *byte < 127)
+    bytes.iter().all(|byte| *byte >= least && *byte < 127)
 }
 
 /// Returns an IP address as text (RFC 5952 for IPv6); empty if there are neither 4 nor 16 bytes.

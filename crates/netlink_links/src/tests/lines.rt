@@ -29,13 +29,17 @@ pub(crate) const ADDRESS: [u8; 60] = [
     9, 0, 3, 0, b'a', b'b', b'c', b'd', 0, 0, 0, 0, // IFA_LABEL
 ];
 
-/// An error -2, an acknowledgement, a done with the code -22, a noop and an overrun.
-const OTHERS: [u8; 92] = [
+/// An error -2, an acknowledgement, a done with the code -22, a noop of an interrupted dump, an
+/// overrun, and an error -22 with the header of its request and a text of two words.
+const OTHERS: [u8; 136] = [
     20, 0, 0, 0, 2, 0, 0, 0, 0, 0, 0, 0, 0, 0, 0, 0, 0xfe, 0xff, 0xff, 0xff, //
     20, 0, 0, 0, 2, 0, 0, 0, 0, 0, 0, 0, 0, 0, 0, 0, 0, 0, 0, 0, //
     20, 0, 0, 0, 3, 0, 0, 0, 0, 0, 0, 0, 0, 0, 0, 0, 0xea, 0xff, 0xff, 0xff, //
-    16, 0, 0, 0, 1, 0, 0, 0, 0, 0, 0, 0, 0, 0, 0, 0, //
-    16, 0, 0, 0, 4, 0, 0, 0, 0, 0, 0, 0, 0, 0, 0, 0,
+    16, 0, 0, 0, 1, 0, 0x10, 0, 0, 0, 0, 0, 0, 0, 0, 0, // NLM_F_DUMP_INTR
+    16, 0, 0, 0, 4, 0, 0, 0, 0, 0, 0, 0, 0, 0, 0, 0, //
+    44, 0, 0, 0, 2, 0, 0, 3, 9, 0, 0, 0, 0, 0, 0, 0, // NLM_F_CAPPED and NLM_F_ACK_TLVS
+    0xea, 0xff, 0xff, 0xff, 52, 0, 0, 0, 16, 0, 5, 0, 9, 0, 0, 0, 0, 0, 0, 0, //
+    8, 0, 1, 0, b'a', b' ', b'b', 0, // NLMSGERR_ATTR_MSG
 ];
 
 /// Returns the lines of an input whose messages all have one; otherwise nothing.
@@ -69,7 +73,7 @@ fn an_address_is_a_line(rt: HostRuntime) -> Result<(), Fail> {
 fn other_messages_are_words(rt: HostRuntime) -> Result<(), Fail> {
     assert_eq!(rt;
         all_lines(rt.alloc(), &OTHERS)?.as_str(),
-        "error -2\nack\ndone -22\nnoop\noverrun\n"
+        "error -2\nack\ndone -22\ninterrupted\nnoop\noverrun\nerror -22: a b\n"
     );
     Ok(())
 }

@@ -2,7 +2,7 @@
 
 use crate::flags::flags_text;
 use crate::names::{family_text, hardware_text, scope_text, state_text};
-use crate::text::{ip_words, name_text};
+use crate::text::{ip_words, name_text, sentence_text};
 use std::test::Fail;
 
 #[test]
@@ -42,13 +42,21 @@ fn numbers_have_names(rt: HostRuntime) -> Result<(), Fail> {
     Ok(())
 }
 
-/// A name that would break its line is written by its bytes; texts of addresses are those of
-/// RFC 5952.
+/// A name or a sentence that would break its line is written by its bytes; texts of addresses are
+/// those of RFC 5952.
 #[test]
 fn bytes_have_texts(rt: HostRuntime) -> Result<(), Fail> {
     let alloc = rt.alloc();
-    for (name, text) in [("eth0.5", "eth0.5"), ("a\n", "61:0a"), ("", "")] {
+    for (name, text) in [
+        ("eth0.5", "eth0.5"),
+        ("a\n", "61:0a"),
+        (" ", "20"),
+        ("", ""),
+    ] {
         assert_eq!(rt; name_text(alloc, name.as_bytes())?.as_str(), text);
+    }
+    for (sentence, text) in [("a b~", "a b~"), ("a\u{e9}", "61:c3:a9")] {
+        assert_eq!(rt; sentence_text(alloc, sentence.as_bytes())?.as_str(), text);
     }
     let mut address = [0; 16];
     address[0] = 0x20;

@@ -12,7 +12,7 @@ pub unreachable-requires : goal.unreachable-requires
 unreachable-requires g c =
     let reads = rw (take_rest c.args.input.now c.loop-item.at ∙ sym c.loop-item.invariant.3) at c.in-Ok.ensures.reads in
     let error = inside _ _ (rw c.in_default.is at c.in-Some.ensures.steps).1 in
-    error.2 (c.refusal_unique.ensures.frame _ reads.0 error.0 reads.1 (inl error.1))
+    error.2 (c.refusal_unique.ensures.frame _ reads.0 error.0 reads.1.1 (inl error.1))
 
 pub loop-item-preserved : goal.loop-item-preserved
 loop-item-preserved g c =
