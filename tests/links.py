@@ -3,7 +3,8 @@
 with inputs and outputs that fail.
 
 This script computes the expected lines for the captured datagrams itself, with Python's struct and ipaddress and the
-numbers of linux/if.h, if_link.h and if_addr.h. The expected error texts are those of docs/FORMAT.md.
+numbers of linux/if.h, if_link.h and if_addr.h. The expected lines for acknowledgements, errors and messages made here
+are written by hand. The expected error texts are those of docs/FORMAT.md.
 """
 
 import ipaddress
@@ -13,7 +14,19 @@ import struct
 from built import TOP, FailingDevices, built, error_of, in_parallel, row, silent, tally
 
 CAPTURED = ["links-0", "links-1", "links-2", "addresses-0", "addresses-1", "link-by-name-0"]
-CAPTURED += ["link-unknown-0", "link-mtu-0", "event-0", "event-1", "event-2"]
+CAPTURED += ["event-0", "event-1", "event-2"]
+
+# Captured answers of one message, an acknowledgement or an error, and the line of each.
+ANSWERS = {
+    "link-mtu-0": b"ack\n",
+    "link-new-bridge-0": b"ack\n",
+    "link-delete-0": b"ack\n",
+    "noop-0": b"ack\n",
+    "link-mtu-refused-0": b"error -22: mtu less than device minimum\n",
+    "link-unknown-0": b"error -19\n",
+    "type-unknown-0": b"error -95\n",
+    "bridge-ports-1": b"done\n",
+}
 
 FLAGS = [(0x8, "LOOPBACK"), (0x2, "BROADCAST"), (0x1000, "MULTICAST"), (0x1, "UP")]
 FLAGS += [(0x10000, "LOWER_UP")]
@@ -70,9 +83,6 @@ def address_line(body):
 
 def line_of(frame):
     kind, body = number(frame[4:6]), frame[16:]
-    if kind == 2:
-        code = int.from_bytes(body[:4], "little", signed=True)
-        return f"error {code}" if code else "ack"
     if kind == 3:
         return "done"
     return address_line(body) if kind == 20 else link_line(kind, body)
@@ -82,19 +92,25 @@ def lines_of(data):
     return "".join(f"{line_of(frame)}\n" for frame in blocks(data, 4)).encode()
 
 
-def frame(kind, body, length=None):
-    return struct.pack("<IHHII", 16 + len(body) if length is None else length, kind, 0, 0, 0) + body
+def frame(kind, body, length=None, flags=0):
+    return struct.pack("<IHHII", 16 + len(body) if length is None else length, kind, flags, 0, 0) + body
 
 
 def attribute(kind, value):
     return struct.pack("<HH", 4 + len(value), kind) + value + bytes(-len(value) % 4)
 
 
-def link(*attributes, index=7):
-    return frame(16, struct.pack("<HHiII", 0, 0, index, 0, 0) + b"".join(attributes))
+def link(*attributes, index=7, flags=0):
+    return frame(16, struct.pack("<HHiII", 0, 0, index, 0, 0) + b"".join(attributes), flags=flags)
+
+
+def error(attributes, flags=0x300, code=-22, request=struct.pack("<IHHII", 52, 16, 5, 1, 0)):
+    return frame(2, struct.pack("<i", code) + request + attributes, flags=flags)
 
 
 NAMED = attribute(3, b"a\0")
+TEXT = attribute(1, b"a b\0")
+DUMP_INTR = 0x12  # NLM_F_DUMP_INTR and NLM_F_MULTI
 FRAME = "failed deserializing NetlinkMessage caused by invalid netlink buffer length caused by "
 FRAME += "invalid netlink buffer: "
 MINIMUM = "netlink packets are at least 16 bytes"
@@ -121,6 +137,7 @@ ERRORS = [
     (frame(16, bytes(16), 15), f"{FRAME}length field says 15 but {MINIMUM}"),
     (frame(24, bytes(12)), rejected(24, "message type 24 is not known")),
     (frame(28, bytes(12)), "no line for message type 28"),
+    (frame(28, bytes(12), flags=DUMP_INTR), "no line for message type 28"),
     (frame(28, bytes(11)), short(28, 11, 12)),
     (frame(16, bytes(15)), short(16, 15, 16)),
     (frame(20, bytes(7)), short(20, 7, 8)),
@@ -151,15 +168,40 @@ LINES = [
     (link(attribute(0x8012, attribute(1, b"veth\0"))), b"7: if7: <> link/[0] kind veth\n"),
 ]
 
+# A request of 18 bytes and its padding.
+REQUEST = struct.pack("<IHHII", 18, 16, 5, 1, 0) + b"\7\7\0\0"
+
+# Error and done messages and the line of each: a capped request, a whole one, no NLM_F_ACK_TLVS, an acknowledgement with
+# a text, other attributes, a damaged attribute after and before the text, and bytes that are not printable. Then messages
+# with NLM_F_DUMP_INTR.
+LINES += [
+    (error(TEXT), b"error -22: a b\n"),
+    (error(TEXT, flags=0x200, request=REQUEST), b"error -22: a b\n"),
+    (error(TEXT, flags=0x100), b"error -22\n"),
+    (error(TEXT, code=0), b"ack: a b\n"),
+    (error(attribute(2, bytes(4)) + attribute(0x8001, b"c") + TEXT), b"error -22: c\n"),
+    (error(attribute(2, bytes(4))), b"error -22\n"),
+    (error(TEXT + b"\3\0\1\0"), b"error -22: a b\n"),
+    (error(b"\3\0\2\0" + TEXT), b"error -22\n"),
+    (error(attribute(1, b"a\n\0")), b"error -22: 61:0a\n"),
+    (error(attribute(1, b"\xc3\xa9\0")), b"error -22: c3:a9\n"),
+    (error(attribute(1, b"\0")), b"error -22: \n"),
+    (frame(3, struct.pack("<i", -22) + TEXT, flags=0x202), b"done -22: a b\n"),
+    (frame(3, struct.pack("<i", -22) + TEXT, flags=2), b"done -22\n"),
+    (frame(3, bytes(4), flags=DUMP_INTR), b"interrupted\ndone\n"),
+    (link(NAMED, flags=DUMP_INTR), b"interrupted\n" + LINE),
+]
+
 
 def rows():
     """Yields the runs whose input can be read and whose output can be written."""
     folder = os.path.join(TOP, "examples", "captured")
-    datagrams = [open(os.path.join(folder, f"{name}.bin"), "rb").read() for name in CAPTURED]
-    for name, data in zip(CAPTURED, datagrams):
-        yield row(name, [], (0, lines_of(data), ""), data)
-    whole = b"".join(datagrams)
-    yield row("all of them", [], (0, lines_of(whole), ""), whole)
+    captured = {it: open(os.path.join(folder, f"{it}.bin"), "rb").read() for it in [*CAPTURED, *ANSWERS]}
+    lines = {**{it: lines_of(captured[it]) for it in CAPTURED}, **ANSWERS}
+    for name, data in captured.items():
+        yield row(name, [], (0, lines[name], ""), data)
+    whole, all_lines = (b"".join(it[name] for name in captured) for it in (captured, lines))
+    yield row("all of them", [], (0, all_lines, ""), whole)
     yield row("nothing", [], (0, b"", ""))
     for data, error in ERRORS:
         yield row(data.hex(), [], (1, b"", f"byte 0: {error}"), data)

@@ -1,7 +1,7 @@
 -- An input has one output and ends in one way.
 use Rattle.std.proofs.Common.{◌≡◌, ◌≢◌, ◌++◌, List, [], ◌∷◌, ℕ, ℤ, ap, refl, sym, ◌∙◌, subst, arith, Option, Some, None, length, length-drop}
 use Rattle.std.specs.Option.{option_map}
-use Rattle.std.specs.Prelude.{Bool, codes}
+use Rattle.std.specs.Prelude.{Bool}
 use Rattle.netlink_packet_core.specs.Attribute.{Attribute}
 use Rattle.netlink_packet_core.specs.Frame.{SamePayload}
 use Rattle.netlink_packet_core.specs.FrameStartLaws.{no_frame_starts}
@@ -16,8 +16,8 @@ use Rattle.netlink_packet_core.specs.declared.payload.NetlinkPayload.{NetlinkPay
 use Rattle.netlink_packet_core.specs.declared.payload.NetlinkPayload.TheVariants.{Done, Error, Noop, Overrun, InnerMessage}
 use Rattle.netlink_replies.specs.AckValues.{first_value, without_nul}
 use Rattle.netlink_links.specs.Address.{or_empty}
-use Rattle.netlink_links.specs.Ack.{HasText, marked_if, text_words}
-use Rattle.netlink_links.specs.Lines.{code_words, error_words, joined, message_line, payload_line, route_line}
+use Rattle.netlink_links.specs.Ack.{HasText, marked_if}
+use Rattle.netlink_links.specs.Lines.{done_line, error_line, joined, message_line, payload_line, route_line}
 use Rattle.netlink_links.specs.Messages.{IsCause, IsLine, IsStop, Makes, SameCause, SameStop, StartsLine}
 use Rattle.netlink_links.specs.declared.messages.Cause.{Cause}
 use Rattle.netlink_links.specs.declared.messages.Cause.TheVariants.{NoLine, Rejected}
@@ -28,9 +28,8 @@ use Rattle.netlink_links.specs.declared.messages.Stop.{Stop}
 payload_once : {I : Type 0} (d : Decoding I) (text : Option (List ℕ)) (x y : NetlinkPayload I) → SamePayload d x y
     → payload_line d text x ≡ payload_line d text y
 payload_once d text Noop Noop same = refl
-payload_once d text (Done m) (Done n) same =
-    ap (λ (z : ℤ). Some (codes "done" ++ (code_words z ++ (text_words text ++ codes "\n")))) same.0
-payload_once d text (Error m) (Error n) same = ap (λ (z : ℤ). Some (error_words z ++ (text_words text ++ codes "\n"))) same.0
+payload_once d text (Done m) (Done n) same = ap (λ (z : ℤ). Some (done_line z text)) same.0
+payload_once d text (Error m) (Error n) same = ap (λ (z : ℤ). Some (error_line z text)) same.0
 payload_once d text (Overrun a) (Overrun b) same = refl
 payload_once d text (InnerMessage v) (InnerMessage w) same = ap route_line same
 payload_once d text x y same = absurd same

@@ -16,10 +16,15 @@ use Rattle.netlink_links.specs.Link.{link_line}
 abbrev pub code_words : ℤ → List ℕ
 code_words code = if int_eq code (pos 0) then [] else codes " " ++ signed_decimal code
 
--- an error by its code, which is 0 in an acknowledgement
-abbrev pub error_words : ℤ → List ℕ
-error_words code =
-    if int_eq code (pos 0) then codes "ack" else codes "error " ++ signed_decimal code
+-- a done message by its code and its text
+abbrev pub done_line : ℤ → Option (List ℕ) → List ℕ
+done_line code text = codes "done" ++ (code_words code ++ (text_words text ++ codes "\n"))
+
+-- an error by its code, which is 0 in an acknowledgement, and its text
+abbrev pub error_line : ℤ → Option (List ℕ) → List ℕ
+error_line code text =
+    (if int_eq code (pos 0) then codes "ack" else codes "error " ++ signed_decimal code)
+    ++ (text_words text ++ codes "\n")
 
 -- the message types of links and addresses (linux/rtnetlink.h)
 abbrev pub link_types : List ℕ
@@ -35,19 +40,16 @@ route_line (t, payload) =
     else if has_type address_types t then Some (address_line t payload)
     else None
 
--- the line of a payload, if it has one, by the kernel's text, which only done and error messages have
+-- the line of a payload, if it has one, by the kernel's text in the message
 abbrev pub payload_line : {I : Type 0} → Decoding I → Option (List ℕ) → NetlinkPayload I
     → Option (List ℕ)
 payload_line d text Noop = Some (codes "noop\n")
 payload_line d text (Overrun bytes) = Some (codes "overrun\n")
-payload_line d text (Done m) =
-    Some (codes "done" ++ (code_words m.code ++ (text_words text ++ codes "\n")))
-payload_line d text (Error m) =
-    Some (error_words (raw_code m.code) ++ (text_words text ++ codes "\n"))
+payload_line d text (Done m) = Some (done_line m.code text)
+payload_line d text (Error m) = Some (error_line (raw_code m.code) text)
 payload_line d text (InnerMessage m) = route_line (d.stands_for m)
 
--- the line of a message, if it has one; a line that says so is in front of it if the message is of
--- an interrupted dump
+-- the line of a message, if it has one, marked if the message is of an interrupted dump
 abbrev pub message_line : {I : Type 0} → Decoding I → Option (List ℕ) → NetlinkMessage I
     → Option (List ℕ)
 message_line d text m = marked_if m.header.flags (payload_line d text m.payload)

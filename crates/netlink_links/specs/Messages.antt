@@ -1,7 +1,6 @@
 -- The messages of an input, and its lines.
 use Rattle.std.specs.Prelude.{◌≡◌, ◌≢◌, ℕ, Bool, List, ◌++◌, Option, Some, None, codes, decimal, drop}
 use Rattle.netlink_packet_core.specs.Causes.{cause_text}
-use Rattle.netlink_packet_core.specs.DecodeError.{DecodeError}
 use Rattle.netlink_packet_core.specs.DecodeError.TheVariants.{OutOfMemory}
 use Rattle.netlink_packet_core.specs.Frame.{Frame}
 use Rattle.netlink_packet_core.specs.FrameWalk.{StartsFrame}

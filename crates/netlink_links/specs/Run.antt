@@ -1,5 +1,5 @@
 -- What a run did.
-use Rattle.std.specs.Prelude.{ℕ, Bool, true, false, ⊤, List, ◌++◌, Option, None, Some, Result, Ok, Err, codes}
+use Rattle.std.specs.Prelude.{ℕ, Bool, true, false, ⊤, List, Option, None, Some, Result, Ok, Err, codes}
 use Rattle.std.specs.Io.KnownBytes.{Appends}
 use Rattle.netlink_packet_core.specs.Protocol.{Decoding}
 use Rattle.netlink_program.specs.declared.reading.ReadFault.{ReadFault}

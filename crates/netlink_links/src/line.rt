@@ -1,9 +1,8 @@
 //! The line of a message.
 
-ghost use Rattle.std.specs.Prelude.{◌≡◌, ◌++◌, IfOk, codes, string_bytes};
+ghost use Rattle.std.specs.Prelude.{◌≡◌, IfOk, string_bytes};
 ghost use Rattle.std.specs.Option.{option_copied, option_map};
-ghost use Rattle.netlink_links.specs.Ack.{text_words};
-ghost use Rattle.netlink_links.specs.Lines.{code_words, error_words, message_line, payload_line, route_line};
+ghost use Rattle.netlink_links.specs.Lines.{code_words, done_line, error_line, message_line, payload_line, route_line};
 
 use crate::ack::{is_interrupted, text_words};
 use crate::address::address_text;
@@ -55,9 +54,9 @@ pub fn message_text<I: Line>(
     }
 }
 
-/// Returns the line of a payload, if it has one: that of the protocol; `done`, with its code if that
-/// is not 0; `error` and its code, a negative errno, or `ack` if it is 0; `noop`; `overrun`. The
-/// kernel's text follows the code.
+/// Returns the line of a payload, if it has one, by the kernel's text in the message: that of the
+/// protocol; `done`, with its code if that is not 0; `error` and its code, a negative errno, or
+/// `ack` if it is 0; `noop`; `overrun`. The text follows the code.
 fn payload_text<I: Line>(
     alloc: Global,
     payload: &NetlinkPayload<I>,
@@ -77,8 +76,7 @@ fn payload_text<I: Line>(
 
 /// Returns the line of a done message by its code and its text.
 fn done_line(alloc: Global, code: i32, text: Option<&[u8]>) -> Result<String, AllocError>
-    ensures { IfOk result (λ line. string_bytes line
-        ≡ codes "done" ++ (code_words code ++ (text_words (option_copied text.entry) ++ codes "\n"))) }
+    ensures { IfOk result (λ line. string_bytes line ≡ done_line code (option_copied text.entry)) }
 {
     let code = code_words(alloc, code)?;
     let words = text_words(alloc, text)?;
@@ -88,7 +86,7 @@ fn done_line(alloc: Global, code: i32, text: Option<&[u8]>) -> Result<String, Al
 /// Returns the line of an error, or of an acknowledgement, by its code and its text.
 fn error_line(alloc: Global, code: i32, text: Option<&[u8]>) -> Result<String, AllocError>
     ensures { IfOk result (λ line. string_bytes line
-        ≡ error_words code ++ (text_words (option_copied text.entry) ++ codes "\n")) }
+        ≡ error_line code (option_copied text.entry)) }
 {
     let words = text_words(alloc, text)?;
     if code == 0 {

@@ -1,5 +1,5 @@
-//! Reads datagrams of route netlink from standard input, and writes one line per message to standard
-//! output.
+//! Reads datagrams of route netlink from standard input, and writes the line of each message to
+//! standard output.
 #![tactic(auto)]
 
 mod ack;
