@@ -3,8 +3,9 @@
 
 A line of that file has a command, the input and the output in hexadecimal (`-` for none), and `ok` or the error text.
 The status, the standard output and the standard error must be exactly those; the script shows the line of each
-difference. The datagrams in examples/captured must be inputs of the file. The file must have the number of lines and
-the sha256 digest that tests/expected.txt states, so that no line can be left out or replaced by another.
+difference. The datagrams in examples/captured must be inputs of the file, except those in its folder replies, which are
+newer than the file. The file must have the number of lines and the sha256 digest that tests/expected.txt states, so that
+no line can be left out or replaced by another.
 """
 
 import glob

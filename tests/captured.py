@@ -24,7 +24,7 @@ RESULT = b"\ntest result: ok\n"
 CAPTURED = os.path.join(TOP, "examples", "captured")
 
 # The number of datagrams. tests/expected.txt states how many frames and searches for families they have.
-DATAGRAMS = 44
+DATAGRAMS = 71
 
 OWN_TYPES = range(1, 5)  # NLMSG_NOOP to NLMSG_OVERRUN of linux/netlink.h
 # The crate of each protocol, and its message types: NETLINK_ROUTE, with RTM_NEWLINK to RTM_GETADDR and RTM_NEWNEIGH to

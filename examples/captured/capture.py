@@ -6,6 +6,9 @@
 The namespace holds made-up interfaces alone: lo, two ends of a veth pair, a bridge, with fixed
 addresses. Writes NAME.bin beside itself, one datagram a file, and INDEX.tsv: name, protocol number
 (0 route, 16 generic), sent or received, size of the family's header in each reply, bytes.
+
+The folder replies has answers of other forms: errors that name an attribute, dumps that fail or are
+interrupted, and answers on a socket that gets other messages too.
 """
 import os
 import socket
@@ -15,6 +18,7 @@ import subprocess
 OUT = os.path.dirname(os.path.abspath(__file__))
 REQUEST, ACK, DUMP = 1, 4, 0x300
 CREATE, EXCL = 0x400, 0x200
+CAP_ACK, EXT_ACK, STRICT_CHECK = 10, 11, 12
 index = []
 
 
@@ -60,6 +64,55 @@ def ip(*words):
     subprocess.run(["ip", *words], check=True)
 
 
+def answers(name, header, requests, options=(), groups=0, after_send=None, after_first=None):
+    """Sends requests on one socket, and saves what arrives until nothing does for half a second.
+
+    A request has a type, flags and a body. The sequence numbers are 1, 2 and so on. `after_send` and
+    `after_first` are the words of `ip` commands, which run before and after the first datagram is
+    received. The kernel makes the next datagram of a dump when a program receives one.
+    """
+    s = socket.socket(socket.AF_NETLINK, socket.SOCK_RAW, 0)
+    s.bind((0, groups))
+    s.settimeout(0.5)
+    for option in options:
+        s.setsockopt(270, option, 1)
+    for number, (kind, flags, body) in enumerate(requests, 1):
+        request = message(kind, flags, body, number)
+        save(f"replies/{name}-request" + (f"-{number}" if len(requests) > 1 else ""), request, "sent", 0, "-")
+        s.send(request)
+    if after_send:
+        ip(*after_send)
+    for n in range(20):
+        try:
+            save(f"replies/{name}-{n}", s.recv(65536), "received", 0, header)
+        except OSError:
+            break
+        if n == 0 and after_first:
+            ip(*after_first)
+    s.close()
+
+
+def capture_replies(ifinfo):
+    os.makedirs(os.path.join(OUT, "replies"), exist_ok=True)
+    links, mtu = ifinfo() + attr(29, struct.pack("<I", 1)), attr(4, struct.pack("<I", 1300))
+    # IFLA_BR_STP_STATE of one byte: the policy wants four.
+    nest = attr(0x8000 | 18, attr(1, b"bridge\0") + attr(0x8000 | 2, attr(5, b"\1")))
+    short = (16, REQUEST | ACK | CREATE | EXCL, ifinfo() + attr(3, b"bridge-2\0") + nest)
+    answers("option-short", 16, [short], (EXT_ACK,))
+    answers("option-short-capped", 16, [short], (EXT_ACK, CAP_ACK))
+    # A strict socket accepts no index in the request of a dump.
+    answers("dump-refused", 16, [(18, REQUEST | DUMP, ifinfo(0, 7))], (EXT_ACK, STRICT_CHECK))
+    answers("dump-with-ack", 8, [(22, REQUEST | ACK | DUMP, bytes(8))])
+    change = (16, REQUEST | ACK, ifinfo() + attr(3, b"veth-b\0") + mtu)
+    answers("event-before-ack", 16, [change], (), 1)
+    alias = ("link", "set", "veth-b", "alias", "the other end")
+    answers("event-in-dump", 16, [(18, REQUEST | DUMP, links)], (), 1, None, alias)
+    route = struct.pack("<BBBBBBBBI", 2, 32, 0, 0, 0, 0, 0, 0, 0) + attr(1, bytes([198, 51, 100, 9]))
+    answers("two-requests", "-", [(22, REQUEST | DUMP, bytes(8)), (26, REQUEST | ACK, route)])
+    added = ("link", "add", "bridge-3", "address", "02:00:00:00:00:03", "type", "bridge")
+    answers("dump-interrupted", 16, [(18, REQUEST | DUMP, links)], (), 0, added)
+
+
 def main():
     ip("link", "set", "lo", "up")
     ip("link", "add", "veth-a", "address", "02:00:00:00:00:0a", "type", "veth",
@@ -102,6 +155,7 @@ def main():
             save(f"event-{n}", events.recv(65536), "received", 0, "-")
         except OSError:
             break
+    capture_replies(ifinfo)
     with open(os.path.join(OUT, "INDEX.tsv"), "w") as f:
         f.write("# name\tprotocol\tway\tbytes of the family's header\tbytes\n")
         for row in index:
