@@ -12,7 +12,7 @@ sys.path.append(os.path.join(os.path.dirname(HERE), "tests"))
 from libraries import TOP, kit  # noqa: E402 (it is in that folder)
 
 # The standard headers that heap.c, the tests and the examples include. The toolchain's clang has none.
-HEADERS = "inttypes stdbool stddef stdint stdio stdlib string".split()
+HEADERS = "inttypes stdbool stddef stdint stdio stdlib string sys/socket unistd".split()
 
 
 def compiler():
@@ -23,7 +23,7 @@ def compiler():
 def headers(folder):
     """Makes a folder with these headers, each of which only includes plain.h, and returns its path."""
     made = os.path.join(folder, "plain")
-    os.makedirs(made, exist_ok=True)
+    os.makedirs(os.path.join(made, "sys"), exist_ok=True)
     for name in HEADERS:
         with open(os.path.join(made, f"{name}.h"), "w") as file:
             file.write(f'#include "{HERE}/plain.h"\n')

@@ -12,6 +12,7 @@ typedef int int32_t;
 typedef long int64_t;
 typedef unsigned long size_t;
 #define SIZE_MAX 0xfffffffffffffffful
+#define UINT32_MAX 0xffffffffu
 #define PRIu32 "u"
 
 #define bool _Bool
@@ -34,6 +35,14 @@ size_t fwrite(const void *bytes, size_t size, size_t count, FILE *file);
 void *malloc(size_t size);
 void *realloc(void *block, size_t size);
 void free(void *block);
+
+#define AF_NETLINK 16
+#define SOCK_RAW 3
+int socket(int domain, int type, int protocol);
+int setsockopt(int fd, int level, int name, const void *value, uint32_t size);
+int64_t send(int fd, const void *bytes, size_t size, int flags);
+int64_t recv(int fd, void *bytes, size_t size, int flags);
+int close(int fd);
 
 int memcmp(const void *left, const void *right, size_t size);
 void *memcpy(void *to, const void *from, size_t size);

@@ -18,8 +18,8 @@
  * A function returns NLP_OK, another result below, or the number of an error (1 to 16, except 8,
  * which is NLP_NO_ROOM); struct nlp_fault then holds the error's other numbers. Proved of each
  * function: NLP_OK and NLP_END leave the fault unchanged. Any other result leaves all other outputs
- * unchanged, except the cursor of a walk, and `*size` at NLP_NO_ROOM. NLP_NO_ROOM leaves the fault
- * unchanged too, but no contract states that.
+ * unchanged, except the cursor of a walk, the state of an answer, `*size` at NLP_NO_ROOM, and the
+ * outputs of nlp_ext_ack_path. NLP_NO_ROOM leaves the fault unchanged too, but no contract states that.
  *
  * If you know libmnl:
  *
@@ -35,7 +35,7 @@
  *   mnl_nlmsg_put_header, _extra_header  nlp_frame_put, and nlp_frame_end once all is put
  *   mnl_attr_put_check, _u32_check, ..   nlp_attr_put, nlp_attr_put_u32, ..
  *   mnl_attr_nest_start, _end, _cancel   nlp_nest_begin, nlp_nest_end; to cancel, restore the old cursor
- *   mnl_cb_run                           the loop below; compare sequence and port numbers yourself
+ *   mnl_cb_run                           nlp_replies_next, which also says when the answer is complete
  */
 #ifndef NETLINK_PACKET_H
 #define NETLINK_PACKET_H
@@ -67,6 +67,17 @@ enum {
     NLP_END = 32,           /* a walk is at its end                                                */
     NLP_TOO_LONG = 33,      /* more than a length field can count; nothing is changed              */
     NLP_NO_PLACE = 34       /* there is no such location or attribute; nothing is changed          */
+};
+
+/* What a frame means to a request. `code` is 0 and the other parts have size 0 where the last column
+ * does not name them. */
+enum {
+    NLP_MESSAGE = 1,        /* a message of the answer                                             */
+    NLP_DONE = 2,           /* the end of a multipart answer                 code, attributes      */
+    NLP_ACKNOWLEDGED = 3,   /* an error message with code 0                  attributes            */
+    NLP_REJECTED = 4,       /* an error message with another code            code, request, attributes */
+    NLP_OVERRUN = 5,        /* data was lost; the kernel has never sent one                        */
+    NLP_OTHER = 6           /* no part of the answer: it has other numbers, or follows the end     */
 };
 
 /* The flag bits of an attribute's kind (linux/netlink.h: NLA_F_NESTED and so on). */
@@ -109,6 +120,30 @@ struct nlp_error {
     int32_t code;               /* 0 for an acknowledgement, else a negative errno */
     struct nlp_part request;    /* the header of the request, and what is present of its payload */
     struct nlp_part attributes; /* the attributes of the extended acknowledgement; size 0 if none */
+};
+
+/* What identifies the answer to a request, and what ends it. Nonzero means true. */
+struct nlp_request {
+    uint32_t sequence_number;
+    uint32_t port_number; /* the one that the answer has, or 0 to accept every port number */
+    uint32_t is_dump;
+    uint32_t wants_ack;   /* the request has the flag NLM_F_ACK */
+};
+
+/* The state of the answer to a request. Nonzero means true; the library writes 1 and 0. */
+struct nlp_replies {
+    struct nlp_request request;
+    uint32_t ended;       /* the answer is complete */
+    uint32_t interrupted; /* a frame of the answer had the flag NLM_F_DUMP_INTR: request the dump again */
+};
+
+/* What a frame means to a request: parts of the datagram. */
+struct nlp_reply {
+    uint32_t what;              /* NLP_MESSAGE to NLP_OTHER */
+    int32_t code;               /* 0, or a negative errno */
+    struct nlp_part frame;      /* the frame, without its padding */
+    struct nlp_part request;    /* the request that was rejected, as far as the kernel returned it */
+    struct nlp_part attributes; /* the attributes of the extended acknowledgement */
 };
 
 /* ---- get ------------------------------------------------------------------------------------- */
@@ -179,6 +214,67 @@ uint32_t nlp_frames_next(const uint8_t *bytes, size_t len, size_t *cursor, struc
  * starting at the cursor. */
 uint32_t nlp_attrs_next(const uint8_t *bytes, size_t len, size_t *cursor, struct nlp_attr *item,
                         struct nlp_fault *fault);
+
+/* ---- answers --------------------------------------------------------------------------------- */
+
+/* Reads the answer to a dump:
+ *
+ *     nlp_replies_begin(&header, 1, &replies);            // the header of the request that is sent
+ *     while (!replies.ended && (size = recv(fd, bytes, sizeof bytes, 0)) > 0) {
+ *         at = 0;
+ *         while (nlp_replies_next(bytes, size, &at, &replies, &reply, &fault) == NLP_OK)
+ *             if (reply.what == NLP_MESSAGE)
+ *                 use(bytes + reply.frame.offset, reply.frame.size);
+ *     }
+ *
+ * A rejected request ends with NLP_REJECTED and a code, and a dump that failed with NLP_DONE and one. Two
+ * requests can share a socket: each has its own state, which reads every datagram. c/examples/answer.c is
+ * a complete program. */
+
+/* Sets `*replies` to the state in which the answer is open and nothing was read. Takes the sequence number,
+ * the port number and NLM_F_ACK from the header of the request that is sent. `is_dump` is not 0 if the
+ * request is a dump; the flags do not show that, because NLM_F_DUMP also means NLM_F_REPLACE | NLM_F_EXCL.
+ * Proved: the state has these values, and neither `ended` nor `interrupted`. */
+void nlp_replies_begin(const struct nlp_header *header, uint32_t is_dump, struct nlp_replies *replies);
+
+/* Reads frames at `*cursor` until one is not a noop, and moves the cursor past it; set the cursor to 0 before
+ * the first call for a datagram. Returns NLP_OK, with what the frame means in `*reply`; NLP_END if nothing is
+ * left in the datagram; NLP_FRAME_SHORT, _CUT or _LENGTH, with the cursor moved to the end; or NLP_DONE_SHORT
+ * or NLP_ERROR_SHORT if a done or error message of the answer is too short, with the cursor moved past it.
+ * After an error the answer is still open. Updates `*replies`.
+ * Proved: which frames belong to the answer, what each means, which one ends it, and what `interrupted` says;
+ * the parts are those of the frame, whose padding ends at the new cursor; only noops are skipped. It does not
+ * matter which datagram holds a frame, and frames with other numbers change neither the state nor the rest. */
+uint32_t nlp_replies_next(const uint8_t *bytes, size_t len, size_t *cursor, struct nlp_replies *replies,
+                          struct nlp_reply *reply, struct nlp_fault *fault);
+
+/* Each of these reads the first attribute of its kind in the attributes of an extended acknowledgement,
+ * counting those before an error: NLP_OK, or NLP_NO_PLACE if there is none. For an integer, NLP_NO_PLACE also
+ * if the value does not have 4 bytes. Parts are relative to the start of the attributes. Proved of each: the
+ * part or the integer is that value; an error changes nothing.
+ *
+ *   _text           the error text, without the zero byte at its end
+ *   _offset         the offset, in the request, of the attribute that caused the error
+ *   _cookie         a value that the sub-protocol added
+ *   _policy         attributes that describe which values the kernel accepts
+ *   _missing_type   the kind of the attribute that the request lacks
+ *   _missing_nest   the offset, in the request, of the nest that lacks it; NLP_NO_PLACE: the top level
+ */
+uint32_t nlp_ext_ack_text(const uint8_t *attributes, size_t len, struct nlp_part *text);
+uint32_t nlp_ext_ack_offset(const uint8_t *attributes, size_t len, uint32_t *offset);
+uint32_t nlp_ext_ack_cookie(const uint8_t *attributes, size_t len, struct nlp_part *cookie);
+uint32_t nlp_ext_ack_policy(const uint8_t *attributes, size_t len, struct nlp_part *policy);
+uint32_t nlp_ext_ack_missing_type(const uint8_t *attributes, size_t len, uint32_t *kind);
+uint32_t nlp_ext_ack_missing_nest(const uint8_t *attributes, size_t len, uint32_t *offset);
+
+/* Writes the kinds of the attributes that contain the offset of the error, without their flag bits: that of
+ * the outermost, then that of the one in its value, and so on. `request` is the request that was sent, from
+ * its header to its end, and `fixed_len` the size of its fixed header with padding (struct ifinfomsg: 16).
+ * `*count` is the number of kinds; 0 if there is no offset, or if no attribute contains it. Returns NLP_OK,
+ * or NLP_NO_ROOM if there are more than `capacity` kinds, of which the first are written.
+ * Proved: these are the kinds; nothing behind them in the array is changed. */
+uint32_t nlp_ext_ack_path(const uint8_t *attributes, size_t len, const uint8_t *request, size_t request_len,
+                          size_t fixed_len, uint16_t *kinds, size_t capacity, size_t *count);
 
 /* ---- put ------------------------------------------------------------------------------------- */
 

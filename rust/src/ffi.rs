@@ -42,6 +42,33 @@ pub struct ErrorBody {
     pub attributes: Part,
 }
 
+#[repr(C)]
+#[derive(Clone, Copy, Debug, Default, PartialEq, Eq)]
+pub struct Request {
+    pub sequence_number: u32,
+    pub port_number: u32,
+    pub is_dump: u32,
+    pub wants_ack: u32,
+}
+
+#[repr(C)]
+#[derive(Clone, Copy, Debug, Default, PartialEq, Eq)]
+pub struct Replies {
+    pub request: Request,
+    pub ended: u32,
+    pub interrupted: u32,
+}
+
+#[repr(C)]
+#[derive(Clone, Copy, Default)]
+pub struct Reply {
+    pub what: u32,
+    pub code: i32,
+    pub frame: Part,
+    pub request: Part,
+    pub attributes: Part,
+}
+
 type In = *const u8;
 type Out = *mut u8;
 
@@ -52,6 +79,31 @@ extern "C" {
     pub fn nlp_done_body(bytes: In, len: usize, code: *mut i32, rest: *mut Part, fault: *mut Fault) -> u32;
     pub fn nlp_frames_next(bytes: In, len: usize, cursor: *mut usize, item: *mut Part, fault: *mut Fault) -> u32;
     pub fn nlp_attrs_next(bytes: In, len: usize, cursor: *mut usize, item: *mut Attr, fault: *mut Fault) -> u32;
+    pub fn nlp_replies_begin(header: *const Header, is_dump: u32, replies: *mut Replies);
+    pub fn nlp_replies_next(
+        bytes: In,
+        len: usize,
+        cursor: *mut usize,
+        replies: *mut Replies,
+        reply: *mut Reply,
+        fault: *mut Fault,
+    ) -> u32;
+    pub fn nlp_ext_ack_text(attributes: In, len: usize, text: *mut Part) -> u32;
+    pub fn nlp_ext_ack_offset(attributes: In, len: usize, offset: *mut u32) -> u32;
+    pub fn nlp_ext_ack_cookie(attributes: In, len: usize, cookie: *mut Part) -> u32;
+    pub fn nlp_ext_ack_policy(attributes: In, len: usize, policy: *mut Part) -> u32;
+    pub fn nlp_ext_ack_missing_type(attributes: In, len: usize, kind: *mut u32) -> u32;
+    pub fn nlp_ext_ack_missing_nest(attributes: In, len: usize, offset: *mut u32) -> u32;
+    pub fn nlp_ext_ack_path(
+        attributes: In,
+        len: usize,
+        request: In,
+        request_len: usize,
+        fixed_len: usize,
+        kinds: *mut u16,
+        capacity: usize,
+        count: *mut usize,
+    ) -> u32;
     pub fn nlp_frame_put(
         buffer: Out,
         capacity: usize,

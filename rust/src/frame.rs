@@ -14,6 +14,18 @@ pub struct Header {
     pub port_number: u32,
 }
 
+impl Header {
+    pub(crate) fn fields(&self) -> ffi::Header {
+        ffi::Header {
+            length: self.length,
+            message_type: self.message_type,
+            flags: self.flags,
+            sequence_number: self.sequence_number,
+            port_number: self.port_number,
+        }
+    }
+}
+
 /// The body of an error message.
 #[derive(Clone, Copy, Debug, PartialEq, Eq)]
 pub struct ErrorBody<'a> {

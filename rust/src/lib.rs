@@ -12,17 +12,21 @@
 //! # Ok::<(), netlink_packet::Refusal>(())
 //! ```
 
+mod ack;
 mod fault;
 mod ffi;
 mod frame;
 mod normal;
+mod replies;
 mod walk;
 mod write;
 
+pub use ack::ExtendedAck;
 pub use fault::{Fault, Refusal};
 pub use frame::{done_body, error_body, header, payload, DoneBody, ErrorBody, Header};
 pub use normal::{
     attributes_are_canonical, frame_is_canonical, normalize_attributes, normalize_frame, write_value,
 };
+pub use replies::{Reading, Replies, Reply};
 pub use walk::{Attribute, Attributes, Frames};
 pub use write::{Start, Writer};

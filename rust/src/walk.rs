@@ -4,7 +4,7 @@ use crate::fault::{Fault, OK};
 use crate::ffi;
 use crate::frame::part;
 
-const END: u32 = 32;
+pub(crate) const END: u32 = 32;
 const KIND_MASK: u16 = 0x3fff;
 const NESTED: u16 = 0x8000;
 

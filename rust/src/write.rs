@@ -30,20 +30,13 @@ impl<'a> Writer<'a> {
     /// Begins a frame: writes its header and `fixed`, the sub-protocol's struct before the attributes.
     pub fn begin_frame(&mut self, header: &Header, fixed: &[u8]) -> Result<Start, Refusal> {
         let start = Start(self.cursor);
-        let fields = ffi::Header {
-            length: header.length,
-            message_type: header.message_type,
-            flags: header.flags,
-            sequence_number: header.sequence_number,
-            port_number: header.port_number,
-        };
         // SAFETY: both slices are live, and so are the cursor and the header.
         Refusal::of(unsafe {
             ffi::nlp_frame_put(
                 self.buffer.as_mut_ptr(),
                 self.buffer.len(),
                 &mut self.cursor,
-                &fields,
+                &header.fields(),
                 fixed.as_ptr(),
                 fixed.len(),
             )

@@ -2,7 +2,8 @@
 
 use netlink_packet::{
     attributes_are_canonical, done_body, error_body, frame_is_canonical, header, normalize_attributes,
-    normalize_frame, payload, write_value, Attribute, Attributes, Fault, Frames, Header, Refusal, Writer,
+    normalize_frame, payload, write_value, Attribute, Attributes, ExtendedAck, Fault, Frames, Header, Refusal,
+    Replies, Reply, Writer,
 };
 
 /// Two attributes, (1, aa) and (2 with the nested flag, 01020304).
@@ -77,6 +78,87 @@ fn normal_forms() {
     assert_eq!(write_value(&mut loose, 1, &[9, 9, 9, 9]), Ok(()));
     assert_eq!(loose[12..], [9, 9, 9, 9]);
     assert_eq!(write_value(&mut loose, 1, &[9]), Err(Refusal::NoPlace));
+}
+
+/// The header of a request with sequence number 7.
+fn request(flags: u16) -> Header {
+    Header { message_type: 18, flags, sequence_number: 7, ..Header::default() }
+}
+
+#[test]
+fn a_dump_is_read_to_its_end() {
+    /// A noop, a message with NLM_F_DUMP_INTR, a message with sequence number 6, and a done message.
+    const DUMP: [u8; 68] = [
+        16, 0, 0, 0, 1, 0, 2, 0, 7, 0, 0, 0, 9, 0, 0, 0, 16, 0, 0, 0, 16, 0, 0x12, 0, 7, 0, 0, 0, 9, 0, 0, 0, //
+        16, 0, 0, 0, 16, 0, 2, 0, 6, 0, 0, 0, 9, 0, 0, 0, 20, 0, 0, 0, 3, 0, 2, 0, 7, 0, 0, 0, 9, 0, 0, 0, 0, 0, 0, 0,
+    ];
+    let none = ExtendedAck { attributes: &[] };
+    let mut replies = Replies::dump(&request(0x301));
+    let first = replies.read(&DUMP).next();
+    assert_eq!(first, Some(Ok(Reply::Message(&DUMP[16..32]))));
+    assert!(!replies.has_ended() && replies.is_interrupted());
+    let rest: Vec<_> = replies.read(&DUMP[32..]).collect();
+    assert_eq!(rest, [Ok(Reply::Other(&DUMP[32..48])), Ok(Reply::Done { code: 0, ack: none })]);
+    assert!(replies.has_ended());
+    assert_eq!(replies.read(&DUMP[16..32]).next(), Some(Ok(Reply::Other(&DUMP[16..32]))));
+    let mut other = Replies::dump(&Header { port_number: 8, ..request(0x301) });
+    assert_eq!(other.read(&DUMP[16..32]).next(), Some(Ok(Reply::Other(&DUMP[16..32]))));
+}
+
+#[test]
+fn a_single_request_is_answered_once() {
+    /// A message without NLM_F_MULTI; an acknowledgement, cut within its code.
+    const ONE: [u8; 16] = [16, 0, 0, 0, 16, 0, 0, 0, 7, 0, 0, 0, 9, 0, 0, 0];
+    const SHORT: [u8; 20] = [19, 0, 0, 0, 2, 0, 0, 0, 7, 0, 0, 0, 9, 0, 0, 0, 0, 0, 0, 0];
+    let mut replies = Replies::single(&request(1));
+    assert_eq!(replies.read(&SHORT).next(), Some(Err(Fault::ErrorShort { size: 3, inside: true })));
+    assert_eq!(replies.read(&ONE[..12]).next(), Some(Err(Fault::FrameShort { size: 12, inside: false })));
+    assert!(!replies.has_ended());
+    assert_eq!(replies.read(&ONE).next(), Some(Ok(Reply::Message(&ONE))));
+    assert!(replies.has_ended());
+    let mut acknowledged = Replies::single(&request(5));
+    assert_eq!(acknowledged.read(&ONE).next(), Some(Ok(Reply::Message(&ONE))));
+    assert!(!acknowledged.has_ended());
+}
+
+#[test]
+fn an_extended_acknowledgement_is_read() {
+    /// EINVAL for a request that is capped, with the text "no", the offset 40, a cookie, a policy, and a kind and
+    /// a nest that are missing.
+    const REFUSAL: [u8; 84] = [
+        84, 0, 0, 0, 2, 0, 0, 3, 7, 0, 0, 0, 9, 0, 0, 0, 0xea, 0xff, 0xff, 0xff, 48, 0, 0, 0, 16, 0, 5, 0, 7, 0, 0, 0, 0, 0, 0,
+        0, 7, 0, 1, 0, b'n', b'o', 0, 0, 8, 0, 2, 0, 40, 0, 0, 0, 5, 0, 3, 0, 0xaa, 0, 0, 0, 8, 0, 4, 0x80, 4, 0, 1, 0, 8, 0, 5,
+        0, 6, 0, 0, 0, 8, 0, 6, 0, 36, 0, 0, 0,
+    ];
+    /// A fixed header of 16 bytes, and the attribute (18 with the nested flag), which holds (1, "lo").
+    const REQUEST: [u8; 44] = [
+        44, 0, 0, 0, 16, 0, 5, 0, 7, 0, 0, 0, 0, 0, 0, 0, 0, 0, 0, 0, 0, 0, 0, 0, 0, 0, 0, 0, 0, 0, 0, 0, 12, 0, 18, 0x80, 7, 0, 1, 0,
+        b'l', b'o', 0, 0,
+    ];
+    let mut replies = Replies::single(&request(5));
+    let Some(Ok(Reply::Rejected { code, request, ack })) = replies.read(&REFUSAL).next() else {
+        panic!("the request is not rejected");
+    };
+    assert_eq!((code, request), (-22, &REFUSAL[20..36]));
+    assert!(replies.has_ended());
+    assert_eq!((ack.message(), ack.text(), ack.offset()), (Some(&b"no"[..]), Some("no"), Some(40)));
+    assert_eq!((ack.cookie(), ack.policy()), (Some(&[0xaa][..]), Some(&[4, 0, 1, 0][..])));
+    assert_eq!((ack.missing_type(), ack.missing_nest()), (Some(6), Some(36)));
+    assert_eq!(ack.path(&REQUEST, 16), [18, 1]);
+    assert_eq!(ack.path(&REQUEST, 24), []);
+    let none = ExtendedAck { attributes: &[] };
+    assert_eq!((none.message(), none.text(), none.offset()), (None, None, None));
+    assert_eq!((none.cookie(), none.policy(), none.missing_type(), none.missing_nest()), (None, None, None, None));
+}
+
+#[test]
+fn a_path_is_as_long_as_the_nests() {
+    let mut bytes = vec![0; 16];
+    for depth in 0..20u8 {
+        bytes.extend_from_slice(&[4 * (20 - depth), 0, depth, 0x80]);
+    }
+    let ack = ExtendedAck { attributes: &[8, 0, 2, 0, 92, 0, 0, 0] };
+    assert_eq!(ack.path(&bytes, 0), (0..20).collect::<Vec<u16>>());
 }
 
 #[test]

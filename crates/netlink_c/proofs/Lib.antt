@@ -2,4 +2,6 @@ mod EndLemmas
 mod PutLemmas
 mod RefusalLemmas
 mod Texts
+mod ReplyLemmas
+mod StateLemmas
 mod WalkLemmas

@@ -1,5 +1,5 @@
 -- The number of an error is not 0, and what is copied out is at the start of the buffer.
-use Rattle.std.proofs.Common.{◌≡◌, ℕ, ◌<◌, List, length, take, sym, subst, ◌∙◌, inl, inr, arith}
+use Rattle.std.proofs.Common.{◌≡◌, ℕ, ◌<◌, ◌≤◌, List, length, take, sym, subst, ◌∙◌, inl, inr, arith}
 use Rattle.netlink_packet_core.specs.Canonical.{canonical_frame}
 use Rattle.netlink_packet_core.specs.Causes.{cause_number}
 use Rattle.netlink_packet_core.specs.DecodeError.{DecodeError}
@@ -28,6 +28,25 @@ cause_some (ErrorShort size inside) = omega arith
 cause_some (Message text) = omega arith
 cause_some TooLong = omega arith
 cause_some OutOfMemory = omega arith
+
+-- and it is at most 16
+pub cause_below : (e : DecodeError) → cause_number e ≤ 16
+cause_below (InvalidBuffer name received minimum_length) = omega arith
+cause_below (InvalidMacAddress received) = omega arith
+cause_below (InvalidIpAddress received) = omega arith
+cause_below (InvalidNumber expected received) = omega arith
+cause_below (NlaBufferTooSmall buffer_len nla_len) = omega arith
+cause_below (NlaLengthMismatch buffer_len nla_len) = omega arith
+cause_below (NlaInvalidLength buffer_len nla_len) = omega arith
+cause_below (BufferTooSmall buffer_len value_len) = omega arith
+cause_below (FrameShort size inside) = omega arith
+cause_below (FrameCut length size inside) = omega arith
+cause_below (FrameLength length inside) = omega arith
+cause_below (DoneShort size inside) = omega arith
+cause_below (ErrorShort size inside) = omega arith
+cause_below (Message text) = omega arith
+cause_below TooLong = omega arith
+cause_below OutOfMemory = omega arith
 
 copied : (text buffer new : List ℕ) (size answer : ℕ) → CopiesOut text buffer new size answer → answer ≡ 0 → take size new ≡ text
 copied text buffer new size answer out done =

@@ -69,7 +69,7 @@ frame_inside bytes frame rest at inside starts =
     let least = starts.least in
     (omega arith, least)
 
-frame_at : (bytes : List ℕ) (at next : ℕ) (frame rest : List ℕ) (size : ℕ) → at < length bytes → StartsFrame (drop at bytes) frame rest
+pub frame_at : (bytes : List ℕ) (at next : ℕ) (frame rest : List ℕ) (size : ℕ) → at < length bytes → StartsFrame (drop at bytes) frame rest
     → size ≡ length frame
     → drop next bytes ≡ drop (size + padding size) (drop at bytes) → (at < next) × (next ≤ length bytes)
     → StartsFrameAt bytes at (record { offset = at; size = size }) next

@@ -8,3 +8,6 @@ pub mod Parts
 pub mod Put
 pub mod Steps
 pub mod Texts
+pub mod ReplyItems
+pub mod States
+pub mod ExtAck

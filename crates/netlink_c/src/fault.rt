@@ -1,6 +1,6 @@
 //! The numbers of an error.
 
-ghost use Rattle.std.specs.Prelude.{◌≡◌, ◌<◌, if◌then◌else◌};
+ghost use Rattle.std.specs.Prelude.{◌≡◌, ◌<◌, ◌≤◌, if◌then◌else◌};
 ghost use Rattle.netlink_packet_core.specs.Causes.{cause_number};
 ghost use Rattle.netlink_c.specs.Fault.{numbers_of};
 
@@ -21,13 +21,13 @@ pub struct FaultNumbers {
     pub wanted: usize,
 }
 
-/// Writes the numbers of an error into `fault`, and returns the number of its variant, which is not
-/// 0.
-#[tactic(auto, using(crate::proofs::RefusalLemmas::cause_some))]
+/// Writes the numbers of an error into `fault`, and returns the number of its variant, 1 to 16.
+#[tactic(auto, using(crate::proofs::RefusalLemmas::cause_some, crate::proofs::RefusalLemmas::cause_below))]
 pub(crate) fn refused(fault: &mut FaultNumbers, cause: &DecodeError) -> u32
     ensures number { result ≡ cause_number cause.now }
     ensures numbers { fault.new ≡ numbers_of cause.now }
     ensures some { 0 < result }
+    ensures below { result ≤ 16 }
 {
     let (inside, size, wanted) = other_numbers(cause);
     let number = u32::from(cause.number());

@@ -1,7 +1,7 @@
 -- Reading the bytes of a datagram, one frame after another.
 use Rattle.std.proofs.Common.{◌≡◌, ◌≢◌, ℕ, ◌+◌, ◌≤◌, List, [], ◌∷◌, ◌++◌, length, drop, refl, ap, sym, subst, ◌∙◌, arith, Option, Some, None, Result, Ok, Err}
 use Rattle.std.specs.List.{cons_option}
-use Rattle.std.specs.Prelude.{false, max, min}
+use Rattle.std.specs.Prelude.{IfSome, OnOk, false, max, min}
 use Rattle.std.proofs.lemmas.List.{drop-drop, drop_min}
 use Rattle.netlink_packet_core.specs.Attribute.{padding}
 use Rattle.netlink_packet_core.specs.DecodeError.{DecodeError}
@@ -152,6 +152,13 @@ rest_after datagram frame next at end starts is =
     ∙ drop_min (at + size) datagram
     ∙ sym (drop-drop size at datagram)
     ∙ sym (starts_frame-rest (drop at datagram) frame next starts)
+
+-- a fact that holds anyway holds if an item is a reply
+pub if_reply : {A E : Type 0} (item : Option (Result A E)) (P : Type 0) → P
+    → IfSome item (λ i. OnOk i P)
+if_reply None P p = tt
+if_reply (Some (Ok a)) P p = p
+if_reply (Some (Err e)) P p = tt
 
 -- how far a loop over noops has come
 pub record Progress (s : Replies) (datagram : List ℕ) (start : ℕ) (t : Replies) (at : ℕ) : Type 0 where

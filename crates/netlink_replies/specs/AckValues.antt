@@ -1,5 +1,5 @@
 -- The attributes of an extended acknowledgement (enum nlmsgerr_attrs of linux/netlink.h).
-use Rattle.std.specs.Prelude.{ℕ, ◌-◌, ◌≡◌, ◌↔◌, nat_eq, IfSome, IsSome, IsUtf8, if◌then◌else◌, List, [], ◌∷◌, length, take, Option, Some, None, slice_index_or}
+use Rattle.std.specs.Prelude.{ℕ, ◌-◌, ◌≡◌, ◌↔◌, nat_eq, IfSome, IsSome, IsUtf8, if◌then◌else◌, List, [], ◌∷◌, length, take, Option, Some, None, slice_index_or, slice_range}
 use denote.Ref.{Bor}
 use Rattle.netlink_packet_core.specs.Attribute.{Attribute}
 use Rattle.netlink_packet_core.specs.DecodeError.{DecodeError}
@@ -19,6 +19,10 @@ abbrev pub FirstValue : ℕ → List ℕ → (Option (List ℕ) → Type 0) → 
 FirstValue kind bytes Holds =
     (all : List Attribute) (fault : Option DecodeError) → Walk bytes all fault
     → Holds (first_value kind all)
+
+-- the bytes from a start up to an end
+abbrev pub bytes_at : List ℕ → ℕ × ℕ → List ℕ
+bytes_at bytes place = slice_range bytes place.0 place.1
 
 -- the bytes without one zero byte at the end, if there is one
 abbrev pub without_nul : List ℕ → List ℕ

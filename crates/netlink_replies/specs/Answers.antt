@@ -56,6 +56,10 @@ after_all s (frame ∷ more) = after_all (after s frame) more
 abbrev pub waiting : Request → Replies
 waiting r = record { request = r; ended = false; interrupted = false }
 
+-- the state with these parts
+abbrev pub resumed : Request → Bool → Bool → Replies
+resumed r ended interrupted = record { request = r; ended = ended; interrupted = interrupted }
+
 -- the items of a walk: those of its frames, and then its error
 abbrev pub items_of : Replies → List (List ℕ) → Option DecodeError → List Item
 items_of s frames None = answers_in s frames

@@ -3,6 +3,7 @@ pub mod Bodies
 pub mod Meaning
 pub mod Answers
 pub mod Reads
+pub mod FramePlaces
 pub mod ReadingSteps
 pub mod Sequence
 pub mod Endings

@@ -1,13 +1,13 @@
 //! The extended acknowledgement of an error or done message.
 
-ghost use Rattle.std.specs.Prelude.{◌≡◌, ◌<◌, ◌^◌, ◌↔◌, IfSome, IsSome, IsUtf8, Some, option_and_then};
+ghost use Rattle.std.specs.Prelude.{◌≡◌, ◌<◌, ◌≤◌, ◌^◌, ◌↔◌, IfSome, IsSome, IsUtf8, Some, length, option_and_then};
 ghost use Rattle.std.specs.Option.{option_copied, option_map};
-ghost use Rattle.netlink_replies.specs.AckValues.{FirstValue, ShowsText, number_of_value, without_nul};
+ghost use Rattle.netlink_replies.specs.AckValues.{FirstValue, ShowsText, bytes_at, number_of_value, without_nul};
 ghost use Rattle.netlink_replies.specs.PathSteps.{GivesPath, block_of, offset_of};
 ghost use Rattle.netlink_replies.specs.Paths.{place_in};
 
 use crate::path::Path;
-use netlink_packet_core::{NETLINK_HEADER_LEN, NlasIterator, u32_at};
+use netlink_packet_core::{NETLINK_HEADER_LEN, NLA_HEADER_SIZE, NlasIterator, u32_at};
 use std::str;
 
 /// The error text (`NLMSGERR_ATTR_MSG`).
@@ -119,23 +119,39 @@ impl<'a> ExtendedAck<'a> {
         }
     }
 
-    /// Returns the value of the first attribute of a kind.
-    fn value(&self, kind: u16) -> Option<&'a [u8]>
-        ensures { FirstValue kind self.now.attributes.now (λ value. option_copied result ≡ value) }
+    /// Returns where the value of the first attribute of a kind starts and ends, in bytes from the
+    /// start of the attributes. Kinds are compared without their two flag bits. Returns `None` if
+    /// there is none.
+    pub fn place(&self, kind: u16) -> Option<(usize, usize)>
+        ensures place { FirstValue kind self.now.attributes.now
+            (λ value. option_map (bytes_at self.now.attributes.now) result ≡ value) }
+        ensures inside { IfSome result
+            (λ place. (place.0 ≤ place.1) × (place.1 ≤ length self.now.attributes.now)) }
     {
         for item in NlasIterator::new(self.attributes) {
             match item {
                 Ok(nla) => {
                     let found = nla.kind();
                     if found == kind {
-                        let value = nla.value();
-                        return Some(value);
+                        let size = nla.length() as usize;
+                        let start = self.attributes.len() - nla.into_inner().len();
+                        return Some((start + NLA_HEADER_SIZE, start + size));
                     }
                 }
                 Err(_) => return None,
             }
         }
         None
+    }
+
+    /// Returns the value of the first attribute of a kind.
+    fn value(&self, kind: u16) -> Option<&'a [u8]>
+        ensures { FirstValue kind self.now.attributes.now (λ value. option_copied result ≡ value) }
+    {
+        match self.place(kind) {
+            Some((start, end)) => Some(&self.attributes[start..end]),
+            None => None,
+        }
     }
 
     /// Returns the integer in the first attribute of a kind.

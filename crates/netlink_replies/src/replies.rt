@@ -1,6 +1,6 @@
 //! The state of an answer.
 
-ghost use Rattle.std.specs.Prelude.{◌≡◌, ◌+◌, ◌<◌, ◌≤◌, max, min, drop, length, IfNone, OnSome, IsSome};
+ghost use Rattle.std.specs.Prelude.{◌≡◌, ◌+◌, ◌<◌, ◌≤◌, max, min, drop, length, IfNone, IfSome, OnOk, OnSome};
 ghost use Rattle.netlink_packet_core.specs.Attribute.{padding};
 ghost use Rattle.netlink_packet_core.specs.Header.{HoldsFrame};
 ghost use Rattle.netlink_replies.specs.Meaning.{shown_item};
@@ -22,7 +22,8 @@ pub struct Replies {
 }
 
 impl Replies {
-    ghost use Rattle.netlink_replies.specs.Answers.{after, belongs, concerns, ends, has_ended, is_interrupted, item_of, request_in, waiting};
+    ghost use Rattle.netlink_replies.specs.Answers.{after, belongs, concerns, ends, has_ended, is_interrupted, item_of, request_in, resumed, waiting};
+    ghost use Rattle.netlink_replies.specs.FramePlaces.{MeansFrame};
     ghost use Rattle.netlink_replies.specs.Reads.{Gives, StepsFrame, TakesFrame};
 
     /// Returns the state in which the answer is open and nothing was read.
@@ -34,6 +35,18 @@ impl Replies {
             request,
             ended: false,
             interrupted: false,
+        }
+    }
+
+    /// Returns the state that `request`, `has_ended` and `is_interrupted` describe.
+    #[inline]
+    pub fn resume(request: Request, ended: bool, interrupted: bool) -> Self
+        ensures { result ≡ resumed request ended interrupted }
+    {
+        Replies {
+            request,
+            ended,
+            interrupted,
         }
     }
 
@@ -96,7 +109,31 @@ impl Replies {
         ensures inside { OnSome result (cursor.new ≤ length datagram.now) }
         ensures end { IfNone result (cursor.new ≡ max cursor.old (length datagram.now)) }
     {
+        let mut start = 0;
+        self.next_at(datagram, cursor, &mut start)
+    }
+
+    /// Does what `next` does. If it returns a reply, it also sets `start` to where the frame of the
+    /// reply starts, in bytes from the start of the datagram. The frame ends where its length field
+    /// says, and the cursor is then past its padding.
+    pub fn next_at<'a>(
+        &mut self,
+        datagram: &'a [u8],
+        cursor: &mut usize,
+        start: &mut usize,
+    ) -> Option<Result<Reply<&'a [u8]>, DecodeError>>
+        ensures items { Gives self.old (drop cursor.old datagram.now) (shown_item result) self.new
+            (drop cursor.new datagram.now) }
+        ensures moves { OnSome result (cursor.old < cursor.new) }
+        ensures inside { OnSome result (cursor.new ≤ length datagram.now) }
+        ensures end { IfNone result (cursor.new ≡ max cursor.old (length datagram.now)) }
+        ensures frame { IfSome result (λ item. OnOk item (MeansFrame datagram.now start.new
+            (shown_item result) self.new cursor.new)) }
+        ensures between { OnSome result
+            ((cursor.old ≤ start.new) × (start.new < length datagram.now)) }
+    {
         while *cursor < datagram.len() {
+            *start = *cursor;
             match self.step(datagram, cursor) {
                 Some(item) => return Some(item),
                 None => {}
@@ -114,6 +151,8 @@ impl Replies {
         requires inside { cursor.old < length datagram.now }
         ensures frame { StepsFrame self.old (drop cursor.old datagram.now) (shown_item result)
             self.new (drop cursor.new datagram.now) }
+        ensures place { IfSome result (λ item. OnOk item (MeansFrame datagram.now cursor.old
+            (shown_item result) self.new cursor.new)) }
         ensures moves { cursor.old < cursor.new }
         ensures inside { cursor.new ≤ length datagram.now }
     {

@@ -4,7 +4,7 @@ use Rattle.std.specs.Prelude.{false}
 use Rattle.netlink_packet_core.specs.FrameWalk.{StartsFrame}
 use Rattle.netlink_packet_core.specs.Refusal.{IsFrameFault}
 use Rattle.netlink_tree.specs.FrameSteps.{unread_frames}
-use Rattle.netlink_replies.proofs.ReadLemmas.{fault_steps, frame_steps, rest_after}
+use Rattle.netlink_replies.proofs.ReadLemmas.{fault_steps, frame_steps, if_reply, rest_after}
 use Rattle.netlink_replies.specs.Meaning.{shown_item}
 use Rattle.netlink_replies.proofs.replies.Replies.step.Goals as goal
 
@@ -18,6 +18,23 @@ returns-in-Some-Ok-clause-frame c =
     frame_steps c.args.self.now bytes c.in-Some-Ok.frame.now next (shown_item c.take_frame.result) c.take_frame.new.self
     (drop c.padded_end.result c.args.datagram.now) starts c.take_frame.ensures.item c.take_frame.ensures.state
     (rest_after c.args.datagram.now c.in-Some-Ok.frame.now next c.args.cursor.now c.padded_end.result starts c.padded_end.ensures)
+
+pub returns-in-Some-Ok-clause-place : goal.returns-in-Some-Ok-clause-place
+returns-in-Some-Ok-clause-place c =
+    let step = rw c.in-Some-Ok.field-0-is at c.in-Some-Ok.ensures.steps in
+    let datagram : List ℕ = c.args.datagram.now in
+    let start : ℕ = c.args.cursor.now in
+    let next : List ℕ = unread_frames c.next.new.self in
+    let starts : StartsFrame (drop start datagram) c.in-Some-Ok.frame.now next =
+    subst (λ (b : List ℕ). StartsFrame b c.in-Some-Ok.frame.now next) (c.new-walk.ensures.keeps ∙ take_rest datagram start) step.1 in
+    if_reply c.take_frame.result _ (record {
+      frame = c.in-Some-Ok.frame.now;
+      starts = subst (λ (r : List ℕ). StartsFrame (drop start datagram) c.in-Some-Ok.frame.now r)
+          (sym (rest_after datagram c.in-Some-Ok.frame.now next start c.padded_end.result starts c.padded_end.ensures)) starts;
+      before = c.args.self.now;
+      means = c.take_frame.ensures.item;
+      state = c.take_frame.ensures.state;
+    })
 
 pub returns-in-Some-Err-clause-frame : goal.returns-in-Some-Err-clause-frame
 returns-in-Some-Err-clause-frame c =

@@ -2,7 +2,7 @@ use Rattle.std.proofs.Common.{ℕ, List, drop, length, arith}
 use Rattle.std.proofs.lemmas.List.{drop_all}
 use Rattle.netlink_replies.proofs.ReadLemmas.{skip_end, skip_item}
 use Rattle.netlink_replies.specs.Meaning.{shown_result}
-use Rattle.netlink_replies.proofs.replies.Replies.next.Goals as goal
+use Rattle.netlink_replies.proofs.replies.Replies.next_at.Goals as goal
 
 pub returns-in-Some-clause-items : goal.returns-in-Some-clause-items
 returns-in-Some-clause-items c =

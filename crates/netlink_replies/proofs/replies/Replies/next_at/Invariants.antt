@@ -1,6 +1,6 @@
 use Rattle.std.proofs.Common.{ℕ, ◌-◌, length}
 use Rattle.netlink_replies.proofs.ReadLemmas.{Progress}
-use Rattle.netlink_replies.proofs.replies.Replies.next.Given as goal
+use Rattle.netlink_replies.proofs.replies.Replies.next_at.Given as goal
 
 -- the frames before the cursor are noops
 abbrev pub invariant-loop-cursor : goal.invariant-loop-cursor

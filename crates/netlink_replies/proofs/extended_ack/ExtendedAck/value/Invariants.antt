@@ -1,8 +1,0 @@
-use Rattle.std.proofs.Common.{List, ℕ}
-use Rattle.netlink_packet_core.specs.Steps.{unread}
-use Rattle.netlink_replies.proofs.Values.{Searches}
-use Rattle.netlink_replies.proofs.extended_ack.ExtendedAck.value.Given as goal
-
--- no attribute so far is of this kind
-abbrev pub invariant-loop-item : goal.invariant-loop-item
-invariant-loop-item l = Searches l.kind l.self.attributes.now (unread l.item-iterator)
