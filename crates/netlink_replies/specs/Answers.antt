@@ -1,4 +1,5 @@
--- Which frames answer a request, and which frame ends the answer.
+-- Which frames answer a request, and which frame ends the answer. docs/DECISIONS.md has the cases in
+-- which libmnl, libnl and mdlayher/netlink do something else.
 use Rattle.std.specs.Prelude.{ℕ, Bool, true, false, not, ◌&&◌, ◌||◌, nat_eq, if◌then◌else◌, List, [], ◌∷◌, ◌++◌, Option, Some, None, Result, Ok, Err}
 use Rattle.std.specs.List.{cons_option}
 use Rattle.netlink_packet_core.specs.DecodeError.{DecodeError}
@@ -11,12 +12,15 @@ use Rattle.netlink_replies.specs.declared.reply.Reply.TheVariants.{Message, Done
 use Rattle.netlink_replies.specs.declared.request.Request.{Request}
 
 -- the frame has the numbers of the request; a request with port number 0 accepts every port number
+-- (`mnl_nlmsg_seq_ok` and `mnl_nlmsg_portid_ok` of libmnl, which also accept a number 0 in the frame)
 abbrev pub belongs : Request → List ℕ → Bool
 belongs r frame =
     nat_eq (header_of frame).sequence_number r.sequence_number
     && (nat_eq r.port_number 0 || nat_eq (header_of frame).port_number r.port_number)
 
--- a frame of the answer with these flags and this meaning ends it
+-- a frame of the answer with these flags and this meaning ends it: done and errors as in `mnl_cb_run`;
+-- an acknowledgement as in `netlink_ack` of net/netlink/af_netlink.c, which sends none for a dump; a
+-- message without NLM_F_MULTI (linux/netlink.h: a multipart message, terminated by NLMSG_DONE)
 abbrev pub ends : Request → ℕ → Option Item → Bool
 ends r flags (Some (Ok (Done code attributes))) = true
 ends r flags (Some (Ok (Rejected code request attributes))) = true

@@ -24,7 +24,7 @@ answer_of r (frame ∷ more) =
     then frame ∷ (if ends r (header_of frame).flags (meaning frame) then [] else answer_of r more)
     else answer_of r more
 
--- the frame is of a dump that was interrupted
+-- the frame is of a dump that was interrupted (`nl_dump_check_consistent` of net/netlink.h)
 abbrev pub has_interruption : List ℕ → Bool
 has_interruption frame = has_flag (header_of frame).flags NLM_F_DUMP_INTR
 
