@@ -227,31 +227,32 @@ uint32_t nlp_attrs_next(const uint8_t *bytes, size_t len, size_t *cursor, struct
  *                 use(bytes + reply.frame.offset, reply.frame.size);
  *     }
  *
- * A rejected request ends with NLP_REJECTED and a code, and a dump that failed with NLP_DONE and one. Two
- * requests can share a socket: each has its own state, which reads every datagram. c/examples/answer.c is
- * a complete program. */
+ * The answer to a rejected request ends with NLP_REJECTED and a code, and that of a dump that fails later
+ * with NLP_DONE and a code. Two requests can share a socket: each has its own state, which reads every
+ * datagram. c/examples/answer.c is a complete program. */
 
-/* Sets `*replies` to the state in which the answer is open and nothing was read. Takes the sequence number,
- * the port number and NLM_F_ACK from the header of the request that is sent. `is_dump` is not 0 if the
- * request is a dump; the flags do not show that, because NLM_F_DUMP also means NLM_F_REPLACE | NLM_F_EXCL.
+/* Sets `*replies` to the state in which the answer is open and nothing was read. Takes the sequence
+ * number, the port number and NLM_F_ACK from the header of the request that is sent. `is_dump` is not 0 if
+ * the request is a dump; its flags do not show that: NLM_F_DUMP also means NLM_F_REPLACE | NLM_F_EXCL.
  * Proved: the state has these values, and neither `ended` nor `interrupted`. */
 void nlp_replies_begin(const struct nlp_header *header, uint32_t is_dump, struct nlp_replies *replies);
 
-/* Reads frames at `*cursor` until one is not a noop, and moves the cursor past it; set the cursor to 0 before
- * the first call for a datagram. Returns NLP_OK, with what the frame means in `*reply`; NLP_END if nothing is
- * left in the datagram; NLP_FRAME_SHORT, _CUT or _LENGTH, with the cursor moved to the end; or NLP_DONE_SHORT
- * or NLP_ERROR_SHORT if a done or error message of the answer is too short, with the cursor moved past it.
- * After an error the answer is still open. Updates `*replies`.
- * Proved: which frames belong to the answer, what each means, which one ends it, and what `interrupted` says;
- * the parts are those of the frame, whose padding ends at the new cursor; only noops are skipped. It does not
- * matter which datagram holds a frame, and frames with other numbers change neither the state nor the rest. */
+/* Reads frames at `*cursor` until one is not a noop, and moves the cursor past it; set the cursor to 0
+ * before the first call for a datagram. Updates `*replies`. Returns NLP_OK, with what the frame means in
+ * `*reply`; NLP_END if nothing is left in the datagram; NLP_FRAME_SHORT, _CUT or _LENGTH, with the cursor
+ * moved to the end; or NLP_DONE_SHORT or NLP_ERROR_SHORT if a done or error message of the answer is too
+ * short, with the cursor moved past it. After an error the answer is still open.
+ *
+ * Proved: which frames belong to the answer, what each means, which one ends it, and what `interrupted`
+ * says. The parts are those of the frame. Its padding ends at the new cursor. Only noops are skipped.
+ * It does not matter which datagram holds a frame. Frames with other numbers change nothing. */
 uint32_t nlp_replies_next(const uint8_t *bytes, size_t len, size_t *cursor, struct nlp_replies *replies,
                           struct nlp_reply *reply, struct nlp_fault *fault);
 
 /* Each of these reads the first attribute of its kind in the attributes of an extended acknowledgement,
- * counting those before an error: NLP_OK, or NLP_NO_PLACE if there is none. For an integer, NLP_NO_PLACE also
- * if the value does not have 4 bytes. Parts are relative to the start of the attributes. Proved of each: the
- * part or the integer is that value; an error changes nothing.
+ * counting those before an error: NLP_OK, or NLP_NO_PLACE if there is none. For an integer, NLP_NO_PLACE
+ * also if the value does not have 4 bytes. Offsets of parts are from the start of the attributes.
+ * Proved of each: the part or the integer is that value; an error changes nothing.
  *
  *   _text           the error text, without the zero byte at its end
  *   _offset         the offset, in the request, of the attribute that caused the error
@@ -267,14 +268,15 @@ uint32_t nlp_ext_ack_policy(const uint8_t *attributes, size_t len, struct nlp_pa
 uint32_t nlp_ext_ack_missing_type(const uint8_t *attributes, size_t len, uint32_t *kind);
 uint32_t nlp_ext_ack_missing_nest(const uint8_t *attributes, size_t len, uint32_t *offset);
 
-/* Writes the kinds of the attributes that contain the offset of the error, without their flag bits: that of
- * the outermost, then that of the one in its value, and so on. `request` is the request that was sent, from
- * its header to its end, and `fixed_len` the size of its fixed header with padding (struct ifinfomsg: 16).
- * `*count` is the number of kinds; 0 if there is no offset, or if no attribute contains it. Returns NLP_OK,
- * or NLP_NO_ROOM if there are more than `capacity` kinds, of which the first are written.
- * Proved: these are the kinds; nothing behind them in the array is changed. */
-uint32_t nlp_ext_ack_path(const uint8_t *attributes, size_t len, const uint8_t *request, size_t request_len,
-                          size_t fixed_len, uint16_t *kinds, size_t capacity, size_t *count);
+/* Writes the kinds of the attributes that contain the offset of the error, without their flag bits: that
+ * of the outermost, then that of the one in its value, and so on. `request` is the request that was sent,
+ * from its header to its end, and `fixed_len` the size of its fixed header with padding (16 for struct
+ * ifinfomsg). `*count` is the number of kinds; 0 if there is no offset, or if no attribute contains it.
+ * Returns NLP_OK, or NLP_NO_ROOM if there are more than `capacity` kinds; the first are then written.
+ * Proved: these are the kinds, as far as there is room; nothing after them in the array is changed. */
+uint32_t nlp_ext_ack_path(const uint8_t *attributes, size_t len, const uint8_t *request,
+                          size_t request_len, size_t fixed_len, uint16_t *kinds, size_t capacity,
+                          size_t *count);
 
 /* ---- put ------------------------------------------------------------------------------------- */
 

@@ -10,6 +10,7 @@ mod malformed;
 mod mark;
 mod memory_not_asked;
 mod paths;
+mod places;
 mod sequence;
 mod shared;
 mod singles;
