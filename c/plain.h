@@ -19,6 +19,7 @@ typedef unsigned long size_t;
 #define true 1
 #define false 0
 #define NULL ((void *)0)
+#define offsetof(type, field) __builtin_offsetof(type, field)
 
 typedef struct file_of_c FILE;
 extern FILE *stdin, *stdout, *stderr;

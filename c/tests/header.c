@@ -1,0 +1,116 @@
+/* Tests the header itself: its constants, with the values of linux/netlink.h and of the library's contracts; the
+ * layouts of its structs; the types of its functions; and its inline functions. */
+#include "netlink_packet.h"
+
+#include <stdio.h>
+
+static int passed, failed;
+
+static void expect(const char *what, bool holds)
+{
+    if (holds) {
+        passed++;
+    } else {
+        failed++;
+        fprintf(stderr, "failed: %s\n", what);
+    }
+}
+
+static void constants(void)
+{
+    static const struct {
+        const char *name;
+        uint32_t value, wanted;
+    } rows[] = {
+        { "NLP_OK", NLP_OK, 0 }, { "NLP_ATTR_SHORT", NLP_ATTR_SHORT, 5 }, { "NLP_ATTR_CUT", NLP_ATTR_CUT, 6 },
+        { "NLP_ATTR_LENGTH", NLP_ATTR_LENGTH, 7 }, { "NLP_NO_ROOM", NLP_NO_ROOM, 8 }, { "NLP_FRAME_SHORT", NLP_FRAME_SHORT, 9 },
+        { "NLP_FRAME_CUT", NLP_FRAME_CUT, 10 }, { "NLP_FRAME_LENGTH", NLP_FRAME_LENGTH, 11 }, { "NLP_DONE_SHORT", NLP_DONE_SHORT, 12 },
+        { "NLP_ERROR_SHORT", NLP_ERROR_SHORT, 13 }, { "NLP_REFUSED", NLP_REFUSED, 14 }, { "NLP_FRAME_TOO_LONG", NLP_FRAME_TOO_LONG, 15 },
+        { "NLP_NO_MEMORY", NLP_NO_MEMORY, 16 }, { "NLP_END", NLP_END, 32 }, { "NLP_TOO_LONG", NLP_TOO_LONG, 33 },
+        { "NLP_NO_PLACE", NLP_NO_PLACE, 34 }, { "NLP_MESSAGE", NLP_MESSAGE, 1 }, { "NLP_DONE", NLP_DONE, 2 },
+        { "NLP_ACKNOWLEDGED", NLP_ACKNOWLEDGED, 3 }, { "NLP_REJECTED", NLP_REJECTED, 4 }, { "NLP_OVERRUN", NLP_OVERRUN, 5 },
+        { "NLP_OTHER", NLP_OTHER, 6 }, { "NLA_F_NESTED", NLP_KIND_NESTED, 1 << 15 },
+        { "NLA_F_NET_BYTEORDER", NLP_KIND_NET_BYTEORDER, 1 << 14 }, { "NLA_TYPE_MASK", NLP_KIND_MASK, 0x3fff },
+    };
+    for (size_t at = 0; at < sizeof rows / sizeof rows[0]; at++)
+        expect(rows[at].name, rows[at].value == rows[at].wanted);
+}
+
+/* The sizes and alignments of the fields before one are those of its type, so its offset shows their order and types. */
+#define AT(type, field, offset, size) \
+    _Static_assert(offsetof(struct type, field) == (offset) && sizeof(((struct type *)NULL)->field) == (size), #type " " #field)
+
+AT(nlp_fault, cause, 0, 4); AT(nlp_fault, inside, 4, 4); AT(nlp_fault, size, 8, 8); AT(nlp_fault, wanted, 16, 8);
+AT(nlp_part, offset, 0, 8); AT(nlp_part, size, 8, 8);
+AT(nlp_header, length, 0, 4); AT(nlp_header, message_type, 4, 2); AT(nlp_header, flags, 6, 2);
+AT(nlp_header, sequence_number, 8, 4); AT(nlp_header, port_number, 12, 4);
+AT(nlp_attr, kind, 0, 2); AT(nlp_attr, offset, 8, 8); AT(nlp_attr, size, 16, 8);
+AT(nlp_error, code, 0, 4); AT(nlp_error, request, 8, 16); AT(nlp_error, attributes, 24, 16);
+AT(nlp_request, sequence_number, 0, 4); AT(nlp_request, port_number, 4, 4); AT(nlp_request, is_dump, 8, 4);
+AT(nlp_request, wants_ack, 12, 4);
+AT(nlp_replies, request, 0, 16); AT(nlp_replies, ended, 16, 4); AT(nlp_replies, interrupted, 20, 4);
+AT(nlp_reply, what, 0, 4); AT(nlp_reply, code, 4, 4); AT(nlp_reply, frame, 8, 16); AT(nlp_reply, request, 24, 16);
+AT(nlp_reply, attributes, 40, 16);
+
+typedef const uint8_t *in;
+typedef uint8_t *out;
+typedef size_t *place;
+typedef struct nlp_fault *fault;
+typedef struct nlp_part *part;
+
+/* Each function has exactly this type. */
+#define IS(name, result, ...) _Static_assert(_Generic(&name, result (*)(__VA_ARGS__): 1, default: 0), #name)
+#define IS_CALL(name, ...) IS(name, uint32_t, __VA_ARGS__)
+
+IS_CALL(nlp_frame_check, in, size_t, fault);
+IS_CALL(nlp_frame_header, in, size_t, struct nlp_header *, fault);
+IS_CALL(nlp_frame_payload, in, size_t, part, fault);
+IS_CALL(nlp_error_body, in, size_t, uint16_t, struct nlp_error *, fault);
+IS_CALL(nlp_done_body, in, size_t, int32_t *, part, fault);
+IS_CALL(nlp_frames_next, in, size_t, place, part, fault);
+IS_CALL(nlp_attrs_next, in, size_t, place, struct nlp_attr *, fault);
+IS(nlp_replies_begin, void, const struct nlp_header *, uint32_t, struct nlp_replies *);
+IS_CALL(nlp_replies_next, in, size_t, place, struct nlp_replies *, struct nlp_reply *, fault);
+IS_CALL(nlp_ext_ack_text, in, size_t, part);
+IS_CALL(nlp_ext_ack_offset, in, size_t, uint32_t *);
+IS_CALL(nlp_ext_ack_cookie, in, size_t, part);
+IS_CALL(nlp_ext_ack_policy, in, size_t, part);
+IS_CALL(nlp_ext_ack_missing_type, in, size_t, uint32_t *);
+IS_CALL(nlp_ext_ack_missing_nest, in, size_t, uint32_t *);
+IS_CALL(nlp_ext_ack_path, in, size_t, in, size_t, size_t, uint16_t *, size_t, place);
+IS_CALL(nlp_frame_put, out, size_t, place, const struct nlp_header *, in, size_t);
+IS_CALL(nlp_attr_put, out, size_t, place, uint16_t, in, size_t);
+IS_CALL(nlp_attr_put_u8, out, size_t, place, uint16_t, uint8_t);
+IS_CALL(nlp_attr_put_u16, out, size_t, place, uint16_t, uint16_t);
+IS_CALL(nlp_attr_put_u32, out, size_t, place, uint16_t, uint32_t);
+IS_CALL(nlp_attr_put_u64, out, size_t, place, uint16_t, uint64_t);
+IS_CALL(nlp_attr_put_str, out, size_t, place, uint16_t, in, size_t);
+IS_CALL(nlp_nest_begin, out, size_t, place, uint16_t);
+IS_CALL(nlp_nest_end, out, size_t, size_t, size_t);
+IS_CALL(nlp_frame_end, out, size_t, size_t, size_t);
+IS_CALL(nlp_attr_write, out, size_t, size_t, in, size_t);
+IS(nlp_attrs_is_canonical, bool, in, size_t);
+IS_CALL(nlp_attrs_normalize, in, size_t, out, size_t, place, fault);
+IS_CALL(nlp_frame_is_canonical, in, size_t, uint32_t *, fault);
+IS_CALL(nlp_frame_normalize, in, size_t, out, size_t, place, fault);
+IS_CALL(nlp_fault_text, const struct nlp_fault *, out, size_t, place);
+IS(nlp_u16, uint16_t, in);
+IS(nlp_u32, uint32_t, in);
+IS(nlp_u64, uint64_t, in);
+
+static void integers(void)
+{
+    static const uint8_t low[8] = { 0x01, 0x02, 0x03, 0x04, 0x05, 0x06, 0x07, 0x08 };
+    static const uint8_t high[9] = { 0, 0x81, 0x92, 0xa3, 0xb4, 0xc5, 0xd6, 0xe7, 0xf8 };
+    expect("the lowest byte is the first of 2", nlp_u16(low) == 0x0201 && nlp_u16(high + 1) == 0x9281);
+    expect("the lowest byte is the first of 4", nlp_u32(low) == 0x04030201u && nlp_u32(high + 1) == 0xb4a39281u);
+    expect("the lowest byte is the first of 8", nlp_u64(low) == 0x0807060504030201u && nlp_u64(high + 1) == 0xf8e7d6c5b4a39281u);
+}
+
+int main(void)
+{
+    constants();
+    integers();
+    printf("%d passed, %d failed\n", passed, failed);
+    return failed != 0;
+}
