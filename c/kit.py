@@ -1,7 +1,9 @@
-"""What the scripts of this folder share: how they compile and link C."""
+"""What the scripts of this folder share: how they compile and link C, and what the tests read."""
 
 import os
+import re
 import shutil
+import socket
 import subprocess
 import sys
 
@@ -47,3 +49,24 @@ def link_program(flags, files, program):
         words = [os.path.join(kit(), "bin", "rattle-link"), "--target", "x86_64-unknown-linux-gnu"]
         words += ["--toolchain", os.path.join(kit(), "toolchain"), "-o", program, *files]
     return subprocess.run(words, stdin=subprocess.DEVNULL, capture_output=True, text=True)
+
+
+def captured(*names):
+    """Returns the paths of captured datagrams."""
+    return [os.path.join(TOP, "examples", "captured", name + ".bin") for name in names]
+
+
+def has_route_socket():
+    """Returns whether this machine can open a socket of route netlink."""
+    try:
+        with socket.socket(socket.AF_NETLINK, socket.SOCK_RAW, 0):
+            return True
+    except OSError:
+        return False
+
+
+def lines_of_readme(language):
+    """Returns the first block of this language in README.md, or "" if there is none."""
+    with open(os.path.join(TOP, "README.md")) as file:
+        found = re.search(rf"```{language}\n(.*?)```", file.read(), re.DOTALL)
+    return found[1] if found else ""

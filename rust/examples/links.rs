@@ -22,13 +22,10 @@ fn link(block: &[u8]) -> Result<Link<'_>, Fault> {
         let attribute = attribute?;
         match attribute.number() {
             IFLA_IFNAME => link.name = attribute.text(),
-            IFLA_MTU => link.mtu = attribute.u32().unwrap_or(0),
+            IFLA_MTU => link.mtu = attribute.u32()?,
             IFLA_LINKINFO => {
-                for inner in attribute.inside() {
-                    let inner = inner?;
-                    if inner.number() == IFLA_INFO_KIND {
-                        link.kind = inner.text();
-                    }
+                if let Some(kind) = attribute.inside().find(IFLA_INFO_KIND)? {
+                    link.kind = kind.text();
                 }
             }
             _ => {}

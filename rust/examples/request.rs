@@ -11,17 +11,13 @@ const NLM_F_REQUEST: u16 = 1;
 const NLM_F_ACK: u16 = 4;
 
 fn set_mtu(writer: &mut Writer<'_>, name: &str, mtu: u32) -> Result<(), Refusal> {
-    let header = Header {
-        message_type: NEW_LINK,
-        flags: NLM_F_REQUEST | NLM_F_ACK,
-        sequence_number: 1,
-        ..Header::default()
-    };
+    let header =
+        Header { message_type: NEW_LINK, flags: NLM_F_REQUEST | NLM_F_ACK, sequence_number: 1, ..Header::default() };
     let any_link = [0; 16];
-    let frame = writer.begin_frame(&header, &any_link)?;
-    writer.text(IFLA_IFNAME, name)?;
-    writer.u32(IFLA_MTU, mtu)?;
-    writer.end_frame(frame)
+    let mut frame = writer.begin_frame(&header, &any_link)?;
+    frame.text(IFLA_IFNAME, name)?;
+    frame.u32(IFLA_MTU, mtu)?;
+    frame.end()
 }
 
 fn main() -> Result<(), Box<dyn Error>> {

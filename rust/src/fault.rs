@@ -11,28 +11,78 @@ pub(crate) const TOO_LONG: u32 = 33;
 /// Why bytes are rejected. Sizes and lengths are in bytes.
 #[derive(Clone, Copy, Debug, PartialEq, Eq)]
 pub enum Fault {
+    /// The value of an attribute does not have the size of the integer.
+    InvalidNumber {
+        /// The size of the integer.
+        expected: usize,
+        /// The size of the value.
+        received: usize,
+    },
     /// Fewer than 4 bytes of a block are left.
-    AttributeShort { size: usize },
+    AttributeShort {
+        /// How many are left.
+        size: usize,
+    },
     /// An attribute's length field is more than the number of bytes left.
-    AttributeCut { size: usize, length: usize },
+    AttributeCut {
+        /// How many bytes are left.
+        size: usize,
+        /// The value of the length field.
+        length: usize,
+    },
     /// An attribute's length field is less than 4.
-    AttributeLength { length: usize },
+    AttributeLength {
+        /// The value of the length field.
+        length: usize,
+    },
     /// There are fewer than 16 bytes.
-    FrameShort { size: usize, inside: bool },
+    FrameShort {
+        /// How many there are.
+        size: usize,
+        /// Whether it was found inside a larger call.
+        inside: bool,
+    },
     /// A frame's length field is more than the number of bytes.
-    FrameCut { size: usize, length: usize, inside: bool },
+    FrameCut {
+        /// How many bytes there are.
+        size: usize,
+        /// The value of the length field.
+        length: usize,
+        /// Whether it was found inside a larger call.
+        inside: bool,
+    },
     /// A frame's length field is less than 16.
-    FrameLength { length: usize, inside: bool },
+    FrameLength {
+        /// The value of the length field.
+        length: usize,
+        /// Whether it was found inside a larger call.
+        inside: bool,
+    },
     /// The body of a done message has fewer than 4 bytes.
-    DoneShort { size: usize, inside: bool },
+    DoneShort {
+        /// How many it has.
+        size: usize,
+        /// Whether it was found inside a larger call.
+        inside: bool,
+    },
     /// The body of an error message has fewer than 4 bytes.
-    ErrorShort { size: usize, inside: bool },
+    ErrorShort {
+        /// How many it has.
+        size: usize,
+        /// Whether it was found inside a larger call.
+        inside: bool,
+    },
     /// A message type is 0, or 5 to 15.
     Refused,
     /// A message's length does not fit in 32 bits.
     TooLong,
     /// An allocation failed.
     OutOfMemory,
+    /// A string is not UTF-8.
+    NotUtf8 {
+        /// How many bytes at its start are UTF-8.
+        valid: usize,
+    },
 }
 
 impl Fault {
@@ -54,38 +104,59 @@ impl Fault {
             _ => Fault::OutOfMemory,
         }
     }
+}
 
-    fn numbers(self) -> ffi::Fault {
-        let with = |cause, inside: bool, size, wanted| ffi::Fault { cause, inside: inside.into(), size, wanted };
-        match self {
-            Fault::AttributeShort { size } => with(5, false, size, 4),
-            Fault::AttributeCut { size, length } => with(6, false, size, length),
-            Fault::AttributeLength { length } => with(7, false, 4, length),
-            Fault::FrameShort { size, inside } => with(9, inside, size, 0),
-            Fault::FrameCut { size, length, inside } => with(10, inside, size, length),
-            Fault::FrameLength { length, inside } => with(11, inside, 0, length),
-            Fault::DoneShort { size, inside } => with(12, inside, size, 0),
-            Fault::ErrorShort { size, inside } => with(13, inside, size, 0),
-            Fault::Refused => with(14, false, 0, 0),
-            Fault::TooLong => with(15, false, 0, 0),
-            Fault::OutOfMemory => with(16, false, 0, 0),
+/// The library's text of the error. Does not allocate.
+impl fmt::Display for Fault {
+    fn fmt(&self, f: &mut fmt::Formatter<'_>) -> fmt::Result {
+        match *self {
+            Fault::InvalidNumber { expected, received } => {
+                write!(f, "Invalid number. Expected {expected} bytes, received {received} bytes")
+            }
+            Fault::AttributeShort { size } => write!(f, "buffer has length {size}, but an NLA header is 4 bytes"),
+            Fault::AttributeCut { size, length } => {
+                write!(f, "buffer has length: {size}, but the NLA is {length} bytes")
+            }
+            Fault::AttributeLength { length } => {
+                write!(f, "NLA has invalid length: {length} (should be at least 4 bytes)")
+            }
+            Fault::FrameShort { size, inside } => {
+                frame_line(f, inside)?;
+                write!(f, "length is {size} but netlink packets are at least 16 bytes")
+            }
+            Fault::FrameCut { size, length, inside } => {
+                frame_line(f, inside)?;
+                write!(f, "length field says {length} the buffer is {size} bytes long")
+            }
+            Fault::FrameLength { length, inside } => {
+                frame_line(f, inside)?;
+                write!(f, "length field says {length} but netlink packets are at least 16 bytes")
+            }
+            Fault::DoneShort { size, inside } => {
+                f.write_str(if inside { "failed to parse NLMSG_DONE caused by " } else { "" })?;
+                body_line(f, "DoneBuffer", size)
+            }
+            Fault::ErrorShort { size, inside } => {
+                f.write_str(if inside { "failed parsing NLMSG_ERROR caused by " } else { "" })?;
+                body_line(f, "ErrorBuffer", size)
+            }
+            Fault::Refused => f.write_str("the message type is 0, or 5 to 15"),
+            Fault::TooLong => f.write_str("message does not fit a 32-bit length"),
+            Fault::OutOfMemory => f.write_str("out of memory"),
+            Fault::NotUtf8 { valid } => write!(f, "the string is not UTF-8 after {valid} bytes"),
         }
     }
 }
 
-/// The library's text of the error.
-impl fmt::Display for Fault {
-    fn fmt(&self, f: &mut fmt::Formatter<'_>) -> fmt::Result {
-        let mut text = [0u8; 256];
-        let mut size = 0;
-        let numbers = self.numbers();
-        // SAFETY: the pointers are to live values, and the buffer has this many bytes.
-        let answer = unsafe { ffi::nlp_fault_text(&numbers, text.as_mut_ptr(), text.len(), &mut size) };
-        match text.get(..size).filter(|_| answer == OK) {
-            Some(bytes) => f.write_str(&String::from_utf8_lossy(bytes)),
-            None => f.write_str("the message type is below 16"),
-        }
-    }
+/// Writes the beginning of the text of a frame's error.
+fn frame_line(f: &mut fmt::Formatter<'_>, inside: bool) -> fmt::Result {
+    f.write_str(if inside { "failed deserializing NetlinkMessage caused by " } else { "" })?;
+    f.write_str("invalid netlink buffer length caused by invalid netlink buffer: ")
+}
+
+/// Writes the end of the text of an error in a body.
+fn body_line(f: &mut fmt::Formatter<'_>, name: &str, size: usize) -> fmt::Result {
+    write!(f, "invalid {name} length caused by invalid {name}: length is {size} but {name} are at least 4 bytes")
 }
 
 impl Error for Fault {}
@@ -116,10 +187,13 @@ impl fmt::Display for Refusal {
     fn fmt(&self, f: &mut fmt::Formatter<'_>) -> fmt::Result {
         f.write_str(match self {
             Refusal::NoRoom => "there is no room in the buffer",
-            Refusal::TooLong => "it is longer than a length field can say",
-            Refusal::NoPlace => "there is no such place",
+            Refusal::TooLong => "it is longer than a length field can count",
+            Refusal::NoPlace => "there is no such location or attribute",
         })
     }
 }
 
 impl Error for Refusal {}
+
+#[cfg(test)]
+mod tests;

@@ -140,5 +140,6 @@ extern "C" {
         size: *mut usize,
         fault: *mut Fault,
     ) -> u32;
+    #[cfg(test)]
     pub fn nlp_fault_text(fault: *const Fault, buffer: Out, capacity: usize, size: *mut usize) -> u32;
 }

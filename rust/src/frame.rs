@@ -8,9 +8,13 @@ use crate::ffi;
 pub struct Header {
     /// The size of the message in bytes, including this header. Writing ignores it.
     pub length: u32,
+    /// The message type.
     pub message_type: u16,
+    /// The flags (`NLM_F_REQUEST` and so on).
     pub flags: u16,
+    /// The sequence number.
     pub sequence_number: u32,
+    /// The port number.
     pub port_number: u32,
 }
 
@@ -50,7 +54,8 @@ pub(crate) fn part(bytes: &[u8], part: ffi::Part) -> &[u8] {
     &bytes[part.offset..part.offset + part.size]
 }
 
-/// Returns the header that the bytes begin with.
+/// Returns the header that the bytes begin with. Its length may have any value. Returns [`Fault::FrameShort`] if there
+/// are fewer than 16 bytes.
 pub fn header(bytes: &[u8]) -> Result<Header, Fault> {
     let mut fields = ffi::Header::default();
     let mut fault = ffi::Fault::default();
@@ -68,7 +73,8 @@ pub fn header(bytes: &[u8]) -> Result<Header, Fault> {
     })
 }
 
-/// Returns the payload of the complete frame that the bytes begin with.
+/// Returns the payload of the complete frame that the bytes begin with. Returns [`Fault::FrameShort`],
+/// [`Fault::FrameCut`] or [`Fault::FrameLength`] if there is no such frame.
 pub fn payload(bytes: &[u8]) -> Result<&[u8], Fault> {
     let mut place = ffi::Part::default();
     let mut fault = ffi::Fault::default();
@@ -80,7 +86,8 @@ pub fn payload(bytes: &[u8]) -> Result<&[u8], Fault> {
     Ok(part(bytes, place))
 }
 
-/// Returns the body of an error message whose header has these flags.
+/// Returns the body of an error message whose header has these flags. Returns [`Fault::ErrorShort`] if there are fewer
+/// than 4 bytes.
 pub fn error_body(payload: &[u8], flags: u16) -> Result<ErrorBody<'_>, Fault> {
     let mut body = ffi::ErrorBody::default();
     let mut fault = ffi::Fault::default();
@@ -89,14 +96,10 @@ pub fn error_body(payload: &[u8], flags: u16) -> Result<ErrorBody<'_>, Fault> {
     if answer != OK {
         return Err(Fault::of(&fault));
     }
-    Ok(ErrorBody {
-        code: body.code,
-        request: part(payload, body.request),
-        attributes: part(payload, body.attributes),
-    })
+    Ok(ErrorBody { code: body.code, request: part(payload, body.request), attributes: part(payload, body.attributes) })
 }
 
-/// Returns the body of a done message.
+/// Returns the body of a done message. Returns [`Fault::DoneShort`] if there are fewer than 4 bytes.
 pub fn done_body(payload: &[u8]) -> Result<DoneBody<'_>, Fault> {
     let mut code = 0;
     let mut rest = ffi::Part::default();

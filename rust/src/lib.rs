@@ -11,6 +11,13 @@
 //! assert_eq!(kinds.unwrap(), [3, 4]);
 //! # Ok::<(), netlink_packet::Refusal>(())
 //! ```
+//!
+//! - To read, iterate over [`Frames`], take the [`header`] and the [`payload`] of each, and iterate over [`Attributes`]
+//!   or call [`Attributes::find`].
+//! - To write, begin a [`Frame`] and its [`Nest`]s with a [`Writer`].
+//! - To send a request, and to read the answer to it, see [`Replies`] and `examples/dump.rs`.
+
+#![deny(missing_docs)]
 
 mod ack;
 mod fault;
@@ -24,9 +31,7 @@ mod write;
 pub use ack::ExtendedAck;
 pub use fault::{Fault, Refusal};
 pub use frame::{done_body, error_body, header, payload, DoneBody, ErrorBody, Header};
-pub use normal::{
-    attributes_are_canonical, frame_is_canonical, normalize_attributes, normalize_frame, write_value,
-};
+pub use normal::{attributes_are_canonical, frame_is_canonical, normalize_attributes, normalize_frame, write_value};
 pub use replies::{Reading, Replies, Reply};
 pub use walk::{Attribute, Attributes, Frames};
-pub use write::{Start, Writer};
+pub use write::{Frame, Nest, Writer};

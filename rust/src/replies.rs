@@ -5,18 +5,34 @@ use crate::fault::{Fault, OK};
 use crate::ffi;
 use crate::frame::{part, Header};
 use crate::walk::END;
+use std::iter::FusedIterator;
 
 /// What a frame means to a request.
 #[derive(Clone, Copy, Debug, PartialEq, Eq)]
 pub enum Reply<'a> {
     /// A message of the answer: a frame without its padding.
     Message(&'a [u8]),
-    /// The end of a multipart answer, with 0 or a negative errno.
-    Done { code: i32, ack: ExtendedAck<'a> },
+    /// The end of a multipart answer.
+    Done {
+        /// 0, or a negative errno.
+        code: i32,
+        /// The attributes of the extended acknowledgement.
+        ack: ExtendedAck<'a>,
+    },
     /// An error message with code 0.
-    Acknowledged { ack: ExtendedAck<'a> },
-    /// An error message with a negative errno, and the request as far as the kernel returned it.
-    Rejected { code: i32, request: &'a [u8], ack: ExtendedAck<'a> },
+    Acknowledged {
+        /// The attributes of the extended acknowledgement.
+        ack: ExtendedAck<'a>,
+    },
+    /// An error message with another code.
+    Rejected {
+        /// A negative errno.
+        code: i32,
+        /// The request as far as the kernel returned it.
+        request: &'a [u8],
+        /// The attributes of the extended acknowledgement.
+        ack: ExtendedAck<'a>,
+    },
     /// Data was lost. The kernel has never sent one.
     Overrun,
     /// A frame that is no part of the answer: it has other numbers, or follows the end.
@@ -108,3 +124,5 @@ impl<'a> Iterator for Reading<'_, 'a> {
         }
     }
 }
+
+impl FusedIterator for Reading<'_, '_> {}

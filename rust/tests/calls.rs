@@ -1,17 +1,15 @@
 //! Tests each function on valid and malformed bytes, which are written by hand from linux/netlink.h.
 
 use netlink_packet::{
-    attributes_are_canonical, done_body, error_body, frame_is_canonical, header, normalize_attributes,
-    normalize_frame, payload, write_value, Attribute, Attributes, ExtendedAck, Fault, Frames, Header, Refusal,
-    Replies, Reply, Writer,
+    attributes_are_canonical, done_body, error_body, frame_is_canonical, header, normalize_attributes, normalize_frame,
+    payload, write_value, Attribute, Attributes, DoneBody, ExtendedAck, Fault, Frames, Header, Refusal, Replies, Reply,
 };
 
 /// Two attributes, (1, aa) and (2 with the nested flag, 01020304).
 const TWO: [u8; 16] = [5, 0, 1, 0, 0xaa, 0, 0, 0, 8, 0, 2, 0x80, 1, 2, 3, 4];
 
 /// A frame of type 18 with one attribute (1, aa), and 4 bytes after it.
-const FRAME: [u8; 28] =
-    [24, 0, 0, 0, 18, 0, 1, 3, 7, 0, 0, 0, 9, 0, 0, 0, 5, 0, 1, 0, 0xaa, 0, 0, 0, 1, 2, 3, 4];
+const FRAME: [u8; 28] = [24, 0, 0, 0, 18, 0, 1, 3, 7, 0, 0, 0, 9, 0, 0, 0, 5, 0, 1, 0, 0xaa, 0, 0, 0, 1, 2, 3, 4];
 
 #[test]
 fn attributes_are_walked() {
@@ -21,7 +19,56 @@ fn attributes_are_walked() {
     let mut walk = Attributes::new(&TWO[..15]);
     assert!(walk.next().unwrap().is_ok());
     assert_eq!(walk.next(), Some(Err(Fault::AttributeCut { size: 7, length: 8 })));
-    assert_eq!(walk.next(), None);
+    assert_eq!((walk.next(), walk.next()), (None, None));
+    assert_eq!(Attributes::new(&[3, 0, 1, 0]).next(), Some(Err(Fault::AttributeLength { length: 3 })));
+    assert_eq!(Attributes::new(&[4, 0, 1]).next(), Some(Err(Fault::AttributeShort { size: 3 })));
+}
+
+#[test]
+fn attributes_are_found() {
+    let second = Attribute { kind: 0x8002, value: &[1, 2, 3, 4] };
+    let mut all = Attributes::new(&TWO);
+    assert_eq!(all.find(2), Ok(Some(second)));
+    assert_eq!((all.find(3), all.find(0x8002)), (Ok(None), Ok(None)));
+    assert!(all.find(1).unwrap().is_some() && all.next().is_some());
+    assert_eq!((all.find(1), all.find(2)), (Ok(None), Ok(Some(second))));
+    let cut = Attributes::new(&TWO[..15]);
+    assert_eq!(cut.find(1), Ok(Some(Attribute { kind: 1, value: &[0xaa] })));
+    assert_eq!(cut.find(2), Err(Fault::AttributeCut { size: 7, length: 8 }));
+    assert_eq!(Attributes::new(&[]).find(0), Ok(None));
+    assert_eq!(all.by_ref().find(|it| it.is_err()), None);
+}
+
+#[test]
+fn kinds_have_two_flag_bits() {
+    let kinds = [0xc002, 0x4002, 0x8002, 0x3fff].map(|kind| Attribute { kind, value: &[] });
+    assert_eq!(kinds.map(|it| it.number()), [2, 2, 2, 0x3fff]);
+    assert_eq!(kinds.map(|it| it.is_nested()), [true, false, true, false]);
+}
+
+/// Returns an attribute with this value.
+fn valued(value: &[u8]) -> Attribute<'_> {
+    Attribute { kind: 1, value }
+}
+
+#[test]
+fn values_are_integers() {
+    let bytes = [0xf8, 0xf7, 0xf6, 0xf5, 0xf4, 0xf3, 0xf2, 0xf1];
+    let [one, two, four, eight] = [1, 2, 4, 8].map(|size| valued(&bytes[..size]));
+    assert_eq!((one.u8(), two.u16(), four.u32()), (Ok(0xf8), Ok(0xf7f8), Ok(0xf5f6f7f8)));
+    assert_eq!((eight.u64(), four.i32()), (Ok(0xf1f2f3f4f5f6f7f8), Ok(-0x0a090808)));
+    assert_eq!((two.be16(), four.be32(), eight.be64()), (Ok(0xf8f7), Ok(0xf8f7f6f5), Ok(0xf8f7f6f5f4f3f2f1)));
+    let wrong = |expected, received| Fault::InvalidNumber { expected, received };
+    assert_eq!((two.u8(), one.u16(), eight.u32()), (Err(wrong(1, 2)), Err(wrong(2, 1)), Err(wrong(4, 8))));
+    assert_eq!((four.u64(), two.i32(), valued(&[]).be16()), (Err(wrong(8, 4)), Err(wrong(4, 2)), Err(wrong(2, 0))));
+    assert_eq!((two.be32(), four.be64()), (Err(wrong(4, 2)), Err(wrong(8, 4))));
+}
+
+#[test]
+fn values_are_strings() {
+    assert_eq!((valued(b"lo\0").text(), valued(b"lo").text()), (&b"lo"[..], &b"lo"[..]));
+    assert_eq!((valued(b"lo\0").str(), valued(b"lo\0\0").str()), (Ok("lo"), Ok("lo\0")));
+    assert_eq!((valued(b"lo\xff\0").str(), valued(&[]).str()), (Err(Fault::NotUtf8 { valid: 2 }), Ok("")));
 }
 
 #[test]
@@ -33,7 +80,14 @@ fn frames_are_walked() {
         header(&FRAME),
         Ok(Header { length: 24, message_type: 18, flags: 0x301, sequence_number: 7, port_number: 9 })
     );
+    assert_eq!(header(&FRAME[..15]), Err(Fault::FrameShort { size: 15, inside: false }));
     assert_eq!(payload(&FRAME[..23]), Err(Fault::FrameCut { size: 23, length: 24, inside: false }));
+    let mut all = Frames::new(&FRAME[..24]);
+    assert!(all.next().is_some());
+    assert_eq!((all.next(), all.next()), (None, None));
+    let mut short = FRAME;
+    short[0] = 15;
+    assert_eq!(Frames::new(&short).next(), Some(Err(Fault::FrameLength { length: 15, inside: false })));
 }
 
 #[test]
@@ -42,29 +96,8 @@ fn bodies_are_read() {
     let body = error_body(&refusal, 0x300).unwrap();
     assert_eq!((body.code, body.request, body.attributes), (-22, &refusal[4..20], &refusal[20..]));
     assert_eq!(error_body(&[], 0), Err(Fault::ErrorShort { size: 0, inside: false }));
-    assert_eq!(done_body(&refusal).unwrap().rest, &refusal[4..]);
+    assert_eq!(done_body(&refusal), Ok(DoneBody { code: -22, rest: &refusal[4..] }));
     assert_eq!(done_body(&[1]), Err(Fault::DoneShort { size: 1, inside: false }));
-}
-
-#[test]
-fn what_is_written_is_walked() {
-    let mut buffer = [0xff; 64];
-    let mut writer = Writer::new(&mut buffer);
-    let frame = writer.begin_frame(&Header { message_type: 18, ..Header::default() }, &[0; 4]).unwrap();
-    let nest = writer.begin_nest(9).unwrap();
-    writer.u8(1, 1).unwrap();
-    writer.u16(2, 0x0202).unwrap();
-    writer.u64(3, 3).unwrap();
-    writer.end_nest(nest).unwrap();
-    assert_eq!(writer.attribute(4, &[0; 9]), Err(Refusal::NoRoom));
-    writer.end_frame(frame).unwrap();
-    let frames: Vec<_> = Frames::new(writer.written()).collect();
-    assert_eq!(frames, [Ok(writer.written())]);
-    let block = &payload(writer.written()).unwrap()[4..];
-    let nest = Attributes::new(block).next().unwrap().unwrap();
-    assert!(nest.is_nested());
-    let sizes: Vec<_> = nest.inside().map(|a| a.unwrap().value.len()).collect();
-    assert_eq!(sizes, [1, 2, 8]);
 }
 
 #[test]
@@ -115,10 +148,25 @@ fn a_single_request_is_answered_once() {
     assert_eq!(replies.read(&ONE[..12]).next(), Some(Err(Fault::FrameShort { size: 12, inside: false })));
     assert!(!replies.has_ended());
     assert_eq!(replies.read(&ONE).next(), Some(Ok(Reply::Message(&ONE))));
-    assert!(replies.has_ended());
+    assert!(replies.has_ended() && !replies.is_interrupted());
     let mut acknowledged = Replies::single(&request(5));
     assert_eq!(acknowledged.read(&ONE).next(), Some(Ok(Reply::Message(&ONE))));
     assert!(!acknowledged.has_ended());
+}
+
+#[test]
+fn an_overrun_and_an_acknowledgement() {
+    const BOTH: [u8; 52] = [
+        16, 0, 0, 0, 4, 0, 0, 0, 7, 0, 0, 0, 9, 0, 0, 0, 36, 0, 0, 0, 2, 0, 0, 1, 7, 0, 0, 0, 9, 0, 0, 0, //
+        0, 0, 0, 0, 20, 0, 0, 0, 16, 0, 5, 0, 7, 0, 0, 0, 0, 0, 0, 0,
+    ];
+    let mut replies = Replies::single(&request(5));
+    let none = ExtendedAck { attributes: &[] };
+    let mut reading = replies.read(&BOTH);
+    assert_eq!(reading.next(), Some(Ok(Reply::Overrun)));
+    assert_eq!(reading.next(), Some(Ok(Reply::Acknowledged { ack: none })));
+    assert_eq!((reading.next(), reading.next()), (None, None));
+    assert!(replies.has_ended());
 }
 
 #[test]
@@ -126,14 +174,14 @@ fn an_extended_acknowledgement_is_read() {
     /// EINVAL for a request that is capped, with the text "no", the offset 40, a cookie, a policy, and a kind and
     /// a nest that are missing.
     const REFUSAL: [u8; 84] = [
-        84, 0, 0, 0, 2, 0, 0, 3, 7, 0, 0, 0, 9, 0, 0, 0, 0xea, 0xff, 0xff, 0xff, 48, 0, 0, 0, 16, 0, 5, 0, 7, 0, 0, 0, 0, 0, 0,
-        0, 7, 0, 1, 0, b'n', b'o', 0, 0, 8, 0, 2, 0, 40, 0, 0, 0, 5, 0, 3, 0, 0xaa, 0, 0, 0, 8, 0, 4, 0x80, 4, 0, 1, 0, 8, 0, 5,
-        0, 6, 0, 0, 0, 8, 0, 6, 0, 36, 0, 0, 0,
+        84, 0, 0, 0, 2, 0, 0, 3, 7, 0, 0, 0, 9, 0, 0, 0, 0xea, 0xff, 0xff, 0xff, 48, 0, 0, 0, 16, 0, 5, 0, 7, 0, 0, 0,
+        0, 0, 0, 0, 7, 0, 1, 0, b'n', b'o', 0, 0, 8, 0, 2, 0, 40, 0, 0, 0, 5, 0, 3, 0, 0xaa, 0, 0, 0, 8, 0, 4, 0x80, 4,
+        0, 1, 0, 8, 0, 5, 0, 6, 0, 0, 0, 8, 0, 6, 0, 36, 0, 0, 0,
     ];
     /// A fixed header of 16 bytes, and the attribute (18 with the nested flag), which holds (1, "lo").
     const REQUEST: [u8; 44] = [
-        44, 0, 0, 0, 16, 0, 5, 0, 7, 0, 0, 0, 0, 0, 0, 0, 0, 0, 0, 0, 0, 0, 0, 0, 0, 0, 0, 0, 0, 0, 0, 0, 12, 0, 18, 0x80, 7, 0, 1, 0,
-        b'l', b'o', 0, 0,
+        44, 0, 0, 0, 16, 0, 5, 0, 7, 0, 0, 0, 0, 0, 0, 0, 0, 0, 0, 0, 0, 0, 0, 0, 0, 0, 0, 0, 0, 0, 0, 0, 12, 0, 18,
+        0x80, 7, 0, 1, 0, b'l', b'o', 0, 0,
     ];
     let mut replies = Replies::single(&request(5));
     let Some(Ok(Reply::Rejected { code, request, ack })) = replies.read(&REFUSAL).next() else {
@@ -159,10 +207,4 @@ fn a_path_is_as_long_as_the_nests() {
     }
     let ack = ExtendedAck { attributes: &[8, 0, 2, 0, 92, 0, 0, 0] };
     assert_eq!(ack.path(&bytes, 0), (0..20).collect::<Vec<u16>>());
-}
-
-#[test]
-fn faults_are_told() {
-    let fault = Attributes::new(&[9, 0, 1, 0]).next().unwrap().unwrap_err();
-    assert_eq!(fault.to_string(), "buffer has length: 4, but the NLA is 9 bytes");
 }
