@@ -366,17 +366,17 @@ uint32_t nlp_fault_text(const struct nlp_fault *fault, uint8_t *buffer, size_t c
  * functions do not. */
 static inline uint16_t nlp_u16(const uint8_t *value)
 {
-    return (uint16_t)(value[0] | (uint16_t)value[1] << 8);
+    return (uint16_t)(value[0] | value[1] << 8);
 }
 
 static inline uint32_t nlp_u32(const uint8_t *value)
 {
-    return (uint32_t)nlp_u16(value) | (uint32_t)nlp_u16(value + 2) << 16;
+    return nlp_u16(value) | (uint32_t)nlp_u16(value + 2) << 16;
 }
 
 static inline uint64_t nlp_u64(const uint8_t *value)
 {
-    return (uint64_t)nlp_u32(value) | (uint64_t)nlp_u32(value + 4) << 32;
+    return nlp_u32(value) | (uint64_t)nlp_u32(value + 4) << 32;
 }
 
 #ifdef __cplusplus

@@ -36,21 +36,39 @@ static void constants(void)
         expect(rows[at].name, rows[at].value == rows[at].wanted);
 }
 
-/* The sizes and alignments of the fields before one are those of its type, so its offset shows their order and types. */
-#define AT(type, field, offset, size) \
-    _Static_assert(offsetof(struct type, field) == (offset) && sizeof(((struct type *)NULL)->field) == (size), #type " " #field)
+/* The offset and the type of each field. */
+#define AT(type, offset, field_type, field) \
+    _Static_assert(offsetof(struct type, field) == (offset) && _Generic(((struct type *)NULL)->field, field_type: 1, default: 0), #type " " #field)
 
-AT(nlp_fault, cause, 0, 4); AT(nlp_fault, inside, 4, 4); AT(nlp_fault, size, 8, 8); AT(nlp_fault, wanted, 16, 8);
-AT(nlp_part, offset, 0, 8); AT(nlp_part, size, 8, 8);
-AT(nlp_header, length, 0, 4); AT(nlp_header, message_type, 4, 2); AT(nlp_header, flags, 6, 2);
-AT(nlp_header, sequence_number, 8, 4); AT(nlp_header, port_number, 12, 4);
-AT(nlp_attr, kind, 0, 2); AT(nlp_attr, offset, 8, 8); AT(nlp_attr, size, 16, 8);
-AT(nlp_error, code, 0, 4); AT(nlp_error, request, 8, 16); AT(nlp_error, attributes, 24, 16);
-AT(nlp_request, sequence_number, 0, 4); AT(nlp_request, port_number, 4, 4); AT(nlp_request, is_dump, 8, 4);
-AT(nlp_request, wants_ack, 12, 4);
-AT(nlp_replies, request, 0, 16); AT(nlp_replies, ended, 16, 4); AT(nlp_replies, interrupted, 20, 4);
-AT(nlp_reply, what, 0, 4); AT(nlp_reply, code, 4, 4); AT(nlp_reply, frame, 8, 16); AT(nlp_reply, request, 24, 16);
-AT(nlp_reply, attributes, 40, 16);
+AT(nlp_fault, 0, uint32_t, cause);
+AT(nlp_fault, 4, uint32_t, inside);
+AT(nlp_fault, 8, size_t, size);
+AT(nlp_fault, 16, size_t, wanted);
+AT(nlp_part, 0, size_t, offset);
+AT(nlp_part, 8, size_t, size);
+AT(nlp_header, 0, uint32_t, length);
+AT(nlp_header, 4, uint16_t, message_type);
+AT(nlp_header, 6, uint16_t, flags);
+AT(nlp_header, 8, uint32_t, sequence_number);
+AT(nlp_header, 12, uint32_t, port_number);
+AT(nlp_attr, 0, uint16_t, kind);
+AT(nlp_attr, 8, size_t, offset);
+AT(nlp_attr, 16, size_t, size);
+AT(nlp_error, 0, int32_t, code);
+AT(nlp_error, 8, struct nlp_part, request);
+AT(nlp_error, 24, struct nlp_part, attributes);
+AT(nlp_request, 0, uint32_t, sequence_number);
+AT(nlp_request, 4, uint32_t, port_number);
+AT(nlp_request, 8, uint32_t, is_dump);
+AT(nlp_request, 12, uint32_t, wants_ack);
+AT(nlp_replies, 0, struct nlp_request, request);
+AT(nlp_replies, 16, uint32_t, ended);
+AT(nlp_replies, 20, uint32_t, interrupted);
+AT(nlp_reply, 0, uint32_t, what);
+AT(nlp_reply, 4, int32_t, code);
+AT(nlp_reply, 8, struct nlp_part, frame);
+AT(nlp_reply, 24, struct nlp_part, request);
+AT(nlp_reply, 40, struct nlp_part, attributes);
 
 typedef const uint8_t *in;
 typedef uint8_t *out;

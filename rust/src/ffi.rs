@@ -42,19 +42,11 @@ pub struct ErrorBody {
     pub attributes: Part,
 }
 
-#[repr(C)]
-#[derive(Clone, Copy, Debug, Default, PartialEq, Eq)]
-pub struct Request {
-    pub sequence_number: u32,
-    pub port_number: u32,
-    pub is_dump: u32,
-    pub wants_ack: u32,
-}
-
+/// `request` is struct nlp_request, which only the library reads.
 #[repr(C)]
 #[derive(Clone, Copy, Debug, Default, PartialEq, Eq)]
 pub struct Replies {
-    pub request: Request,
+    pub request: [u32; 4],
     pub ended: u32,
     pub interrupted: u32,
 }

@@ -37,10 +37,10 @@ fn grow(buffer: &mut Vec<u8>, size: usize) -> Result<(), Fault> {
     Ok(())
 }
 
-/// Returns what the function writes. The first buffer has a few bytes more than the input, which is usually enough.
+/// Returns what the function writes. The first buffer is as large as the input, which is enough unless padding is added.
 fn written(call: Call, bytes: &[u8]) -> Result<Vec<u8>, Fault> {
     let mut text = Vec::new();
-    grow(&mut text, bytes.len() + 4)?;
+    grow(&mut text, bytes.len())?;
     let mut size = 0;
     let mut fault = ffi::Fault::default();
     loop {

@@ -65,19 +65,19 @@ impl Replies {
     /// Returns the state in which nothing of the answer to a dump was read. Takes the sequence number, the port
     /// number and `NLM_F_ACK` from the header that is sent. A port number of 0 accepts every port number.
     pub fn dump(header: &Header) -> Self {
-        Replies::begin(header, 1)
+        Replies::begin(header, true)
     }
 
     /// Returns the state in which nothing of the answer to another request was read. Takes the same from the
     /// header.
     pub fn single(header: &Header) -> Self {
-        Replies::begin(header, 0)
+        Replies::begin(header, false)
     }
 
-    fn begin(header: &Header, is_dump: u32) -> Self {
+    fn begin(header: &Header, is_dump: bool) -> Self {
         let mut state = ffi::Replies::default();
         // SAFETY: both structs are live.
-        unsafe { ffi::nlp_replies_begin(&header.fields(), is_dump, &mut state) };
+        unsafe { ffi::nlp_replies_begin(&header.fields(), is_dump.into(), &mut state) };
         Replies { state }
     }
 

@@ -106,7 +106,13 @@ fn normal_forms() {
     loose[5] = 1;
     assert!(attributes_are_canonical(&TWO) && !attributes_are_canonical(&loose));
     assert_eq!(normalize_attributes(&loose).unwrap(), TWO);
+    assert_eq!((normalize_attributes(&TWO[..5]).unwrap(), normalize_attributes(&[])), (TWO[..8].to_vec(), Ok(vec![])));
+    assert_eq!(normalize_attributes(&TWO[..15]), Err(Fault::AttributeCut { size: 7, length: 8 }));
     assert_eq!(normalize_frame(&FRAME).unwrap(), FRAME[..24]);
+    assert_eq!(normalize_frame(&[]), Err(Fault::FrameShort { size: 0, inside: true }));
+    let mut refused = FRAME;
+    refused[4] = 15;
+    assert_eq!(normalize_frame(&refused), Err(Fault::Refused));
     assert_eq!((frame_is_canonical(&FRAME), frame_is_canonical(&FRAME[..24])), (Ok(false), Ok(true)));
     assert_eq!(write_value(&mut loose, 1, &[9, 9, 9, 9]), Ok(()));
     assert_eq!(loose[12..], [9, 9, 9, 9]);

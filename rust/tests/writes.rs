@@ -96,3 +96,14 @@ fn a_nest_that_is_too_long_is_removed() {
     assert_eq!(nest.end(), Err(Refusal::TooLong));
     assert_eq!(writer.written().len(), 8);
 }
+
+#[test]
+fn a_frame_may_be_longer_than_a_nest() {
+    let mut buffer = vec![0; 100000];
+    let mut writer = Writer::new(&mut buffer);
+    let mut frame = writer.begin_frame(&Header::default(), &[]).unwrap();
+    frame.attribute(1, &[0; 40000]).unwrap();
+    frame.attribute(2, &[0; 40000]).unwrap();
+    frame.end().unwrap();
+    assert_eq!((header(writer.written()).unwrap().length, writer.written().len()), (80024, 80024));
+}
