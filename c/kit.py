@@ -51,6 +51,12 @@ def link_program(flags, files, program):
     return subprocess.run(words, stdin=subprocess.DEVNULL, capture_output=True, text=True)
 
 
+def version():
+    """Returns the version of the library."""
+    with open(os.path.join(HERE, "VERSION")) as file:
+        return file.read().strip()
+
+
 def captured(*names):
     """Returns the paths of captured datagrams."""
     return [os.path.join(TOP, "examples", "captured", name + ".bin") for name in names]

@@ -1,0 +1,145 @@
+"""Tests the installed library for c/test: installs it into a folder, moves that, and uses it there from C, C++, CMake,
+Rust and Python."""
+
+import os
+import re
+import shutil
+import subprocess
+import sys
+
+from kit import HERE, TOP, captured, compiler, has_route_socket, version
+from tally import note, skip
+from wrapper import RUST, cargo, run_dump
+
+WARNINGS = ["-O1", "-Wall", "-Wextra", "-Werror", "-pedantic"]
+TOOLS = ["make", "cc", "ld", "objcopy", "ar", "nm", "realpath"]
+REQUEST = os.path.join(HERE, "examples", "request.c")
+
+
+def run(words, text=True, **variables):
+    """Runs a command."""
+    return subprocess.run(words, capture_output=True, text=text, env={**os.environ, **variables})
+
+
+def is_request(words, **variables):
+    """Returns whether a program writes the captured request."""
+    with open(captured("link-mtu-request")[0], "rb") as file:
+        return run(words, text=False, **variables).stdout == file.read()
+
+
+def run_not_built(folder):
+    """Tests that make names c/build in a clone in which it was not run."""
+    copy = shutil.copytree(HERE, os.path.join(folder, "c"), ignore=shutil.ignore_patterns("out"))
+    made = run(["make", "-C", copy])
+    note("make without a library names c/build", made.returncode != 0 and "run c/build" in made.stderr, made.stderr)
+
+
+def installed(folder):
+    """Installs the library, moves all that was installed, and returns its prefix there, or None."""
+    stage = os.path.join(folder, "stage")
+    made = run(["make", "-C", HERE, "install", "PREFIX=/opt/netlink", f"DESTDIR={stage}"])
+    note("the library is installed", made.returncode == 0, made.stdout[-1000:] + made.stderr[-1000:])
+    if made.returncode:
+        return None
+    return shutil.move(os.path.join(stage, "opt", "netlink"), os.path.join(folder, "moved"))
+
+
+def run_symbols(lib):
+    """Tests that both libraries define exactly the functions of the header, and the name of the shared one."""
+    with open(os.path.join(HERE, "include", "netlink_packet.h")) as file:
+        declared = set(re.findall(r"(?m)^(?:uint32_t|bool|void) (nlp_\w+)\(", file.read()))
+    for name, option in ("libnetlink_packet.so", "-D"), ("libnetlink_packet.a", "-g"):
+        listed = run(["nm", option, "--defined-only", os.path.join(lib, name)]).stdout
+        defined = set(re.findall(r"(?m) [A-Z] (\w+)$", listed))
+        note(f"the symbols of {name}", defined == declared and len(declared) > 30, f"{defined ^ declared}")
+    dynamic = run(["objdump", "-p", os.path.join(lib, "libnetlink_packet.so")]).stdout
+    note("the name of the shared library", re.search(r"SONAME +libnetlink_packet\.so\.\d+\n", dynamic), dynamic)
+
+
+def run_c(prefix, lib, folder):
+    """Builds a program by pkg-config, with the shared library, and one with the static library."""
+    program = os.path.join(folder, "request")
+    words = [compiler(), "-std=c11", *WARNINGS, REQUEST, "-o", program]
+    include = os.path.join(prefix, "include")
+    made = run([*words, "-I", include, os.path.join(lib, "libnetlink_packet.a")])
+    note("a program with the static library", made.returncode == 0 and is_request([program]), made.stderr)
+    if not shutil.which("pkg-config"):
+        skip("pkg-config", "the machine has no pkg-config")
+        return
+    package = {"PKG_CONFIG_LIBDIR": os.path.join(lib, "pkgconfig")}
+    flags = run(["pkg-config", "--cflags", "--libs", "netlink_packet"], **package).stdout.split()
+    made = run([*words, *flags])
+    holds = made.returncode == 0 and is_request([program], LD_LIBRARY_PATH=lib)
+    note("a program by pkg-config", holds, made.stderr)
+    found = run(["pkg-config", "--modversion", "netlink_packet"], **package).stdout
+    note("the version that pkg-config prints", found == f"{version()}\n", found)
+
+
+def run_plus(prefix, lib, folder):
+    """Builds a program in C++."""
+    if not shutil.which("c++"):
+        skip("cplusplus", "the machine has no C++ compiler")
+        return
+    program = os.path.join(folder, "plus")
+    words = ["c++", "-std=c++11", *WARNINGS, os.path.join(HERE, "tests", "plus.cpp"), "-o", program]
+    made = run([*words, "-I", os.path.join(prefix, "include"), "-L", lib, "-lnetlink_packet"])
+    holds = made.returncode == 0 and run([program], LD_LIBRARY_PATH=lib).stdout == "4: 1400\n"
+    note("a program in C++", holds, made.stderr)
+
+
+def run_cmake(prefix, folder):
+    """Builds a project by CMake with the shared and with the static library, and asks for a version that there is not."""
+    if not shutil.which("cmake"):
+        skip("cmake", "the machine has no CMake")
+        return
+    build, wanted = os.path.join(folder, "build"), version().rpartition(".")[0]
+    words = ["cmake", "-S", os.path.join(HERE, "tests", "cmake"), f"-DCMAKE_PREFIX_PATH={prefix}"]
+    made = run([*words, "-B", build, f"-DWANTED={wanted}"])
+    made = run(["cmake", "--build", build]) if made.returncode == 0 else made
+    for name in "netlink_packet", "static":
+        holds = made.returncode == 0 and is_request([os.path.join(build, f"request_{name}")])
+        note(f"a project by CMake: {name}", holds, made.stdout[-1000:] + made.stderr[-1000:])
+    made = run([*words, "-B", f"{build}-newer", "-DWANTED=9.9"])
+    note("CMake finds no newer version", made.returncode != 0 and "9.9" in made.stderr, made.stderr)
+
+
+def run_wrapper(prefix, lib, folder):
+    """Builds the Rust wrapper over the installed library, which NETLINK_PACKET_DIR names or pkg-config finds."""
+    if not shutil.which("cargo"):
+        return
+    copy = shutil.copytree(RUST, os.path.join(folder, "rust"), ignore=shutil.ignore_patterns("target"))
+    ways = [{"NETLINK_PACKET_DIR": prefix}]
+    if shutil.which("pkg-config"):
+        ways.append({"PKG_CONFIG_LIBDIR": os.path.join(lib, "pkgconfig")})
+    with open(captured("link-mtu-request")[0], "rb") as file:
+        wanted = file.read()
+    for way in ways:
+        made = cargo("run", "--example", "request", folder=copy, text=False, **way)
+        note(f"the wrapper by {[*way][0]}", made.stdout == wanted, made.stderr.decode()[-2000:])
+
+
+def run_python(lib):
+    """Lists the links of this machine from Python."""
+    if has_route_socket():
+        words = [sys.executable, os.path.join(HERE, "examples", "links.py"), os.path.join(lib, "libnetlink_packet.so.0")]
+        run_dump(lambda: run(words))
+
+
+def run_installed(folder):
+    """Runs all, if the tools that the Makefile calls are installed."""
+    with open(os.path.join(TOP, "rust", "Cargo.toml")) as file:
+        note("the wrapper has the library's version", f'\nversion = "{version()}"\n' in file.read())
+    missing = [it for it in TOOLS if not shutil.which(it)]
+    if missing:
+        skip("install", f"the machine has no {' and no '.join(missing)}")
+        return
+    run_not_built(folder)
+    prefix = installed(folder)
+    if prefix:
+        lib = os.path.join(prefix, "lib")
+        run_symbols(lib)
+        run_c(prefix, lib, folder)
+        run_plus(prefix, lib, folder)
+        run_cmake(prefix, folder)
+        run_wrapper(prefix, lib, folder)
+        run_python(lib)
