@@ -158,6 +158,9 @@ fn a_single_request_is_answered_once() {
     let mut acknowledged = Replies::single(&request(5));
     assert_eq!(acknowledged.read(&ONE).next(), Some(Ok(Reply::Message(&ONE))));
     assert!(!acknowledged.has_ended());
+    let mut dump = Replies::dump(&request(0x301));
+    assert_eq!(dump.read(&ONE).next(), Some(Ok(Reply::Message(&ONE))));
+    assert!(!dump.has_ended());
 }
 
 #[test]
