@@ -50,7 +50,7 @@ impl<'a> Attribute<'a> {
 
     /// Returns the integer in the value. Returns [`Fault::InvalidNumber`] if the value does not have 1 byte.
     pub fn u8(&self) -> Result<u8, Fault> {
-        self.bytes().map(u8::from_ne_bytes)
+        self.bytes().map(|[byte]| byte)
     }
 
     /// Returns the integer in the value. Returns [`Fault::InvalidNumber`] if the value does not have 2 bytes.

@@ -176,6 +176,8 @@ fn an_overrun_and_an_acknowledgement() {
     assert_eq!(reading.next(), Some(Ok(Reply::Acknowledged { ack: none })));
     assert_eq!((reading.next(), reading.next()), (None, None));
     assert!(replies.has_ended());
+    let mut dump = Replies::dump(&request(0x305));
+    assert_eq!((dump.read(&BOTH).count(), dump.has_ended()), (2, false));
 }
 
 #[test]

@@ -1,20 +1,25 @@
-//! Printing an error does not allocate.
+//! Printing an error does not allocate, and a failed allocation is an error.
 
-use netlink_packet::{Attributes, Fault};
+use netlink_packet::{normalize_attributes, normalize_frame, Attributes, Fault};
 use std::alloc::{GlobalAlloc, Layout, System};
 use std::cell::Cell;
 use std::fmt::Write;
+use std::ptr::null_mut;
 
 struct Counting;
 
 thread_local! {
     static COUNT: Cell<usize> = const { Cell::new(0) };
+    static FAILS: Cell<bool> = const { Cell::new(false) };
 }
 
-// SAFETY: each call is that of the system's allocator.
+// SAFETY: each call is that of the system's allocator, or an allocation that fails.
 unsafe impl GlobalAlloc for Counting {
     unsafe fn alloc(&self, layout: Layout) -> *mut u8 {
         COUNT.set(COUNT.get() + 1);
+        if FAILS.get() {
+            return null_mut();
+        }
         System.alloc(layout)
     }
 
@@ -53,4 +58,12 @@ fn an_error_is_printed_without_memory() {
     assert_eq!(COUNT.get(), before);
     drop(vec![0u8; 9]);
     assert_eq!(COUNT.get(), before + 1);
+}
+
+#[test]
+fn a_failed_allocation_is_an_error() {
+    FAILS.set(true);
+    let results = [normalize_attributes(&[4, 0, 1, 0]), normalize_frame(&[0; 16])];
+    FAILS.set(false);
+    assert_eq!(results, [Err(Fault::OutOfMemory), Err(Fault::OutOfMemory)]);
 }
