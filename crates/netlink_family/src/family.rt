@@ -9,7 +9,7 @@ use std::fmt::Debug;
 
 /// The message types of one or more families. For each, the table has the size of its fixed header
 /// and rows for the kinds of attributes. A kind without a row may have any bytes as its value.
-pub trait Table: Copy + Debug + Eq {
+pub trait Table {
     /// The message types.
     ghost types: { List ℕ };
 
@@ -52,7 +52,7 @@ pub(crate) fn rows_of<F: Table>(message_type: u16) -> &'static [Row]
 
 /// A table whose messages can be the payload of a netlink message: no message type occurs twice,
 /// and none is below 5, since the core decodes those itself.
-pub trait Family: Table {
+pub trait Family: Table + Copy + Debug + Eq {
     /// The message types are distinct, and none is below 5.
     ghost own: { are_own Self.types ≡ true };
 }
