@@ -3,9 +3,9 @@
 in a dump of all families of generic netlink by its name.
 
 The script passes a frame on standard input to a test of the crate of the frame's protocol, which writes its canonical
-form or the error text. The kernel sent the frames of links, addresses, neighbours, generic netlink's controller and the
-core's own message types in canonical form, so the test must write these unchanged. It must reject any other frame,
-because the crate does not have its message type.
+form or the error text. The frames of the types below came in canonical form, from the kernel, from programs and from
+the scripts in examples/captured, so the test must write these unchanged. It must reject any other frame: the crate does
+not have its message type, or the frame has a shorter header.
 
 A second test of netlink_generic gets a name and the dump, and writes the id and the multicast groups of the family with
 this name. This script reads the dump itself to check them.
@@ -27,10 +27,14 @@ CAPTURED = os.path.join(TOP, "examples", "captured")
 DATAGRAMS = 71
 
 OWN_TYPES = range(1, 5)  # NLMSG_NOOP to NLMSG_OVERRUN of linux/netlink.h
-# The crate of each protocol, and its message types: NETLINK_ROUTE, with RTM_NEWLINK to RTM_GETADDR and RTM_NEWNEIGH to
-# RTM_GETNEIGH; and NETLINK_GENERIC, with GENL_ID_CTRL.
+# The sizes of the headers of the types that glibc and dnsmasq request with a `struct rtgenmsg` of 4 bytes instead.
+HEADERS = {18: 16, 22: 8}
+# The crate of each protocol, and its message types: NETLINK_ROUTE, with RTM_NEWLINK to RTM_GETADDR, RTM_NEWROUTE to
+# RTM_GETROUTE, RTM_NEWNEIGH to RTM_GETNEIGH, RTM_NEWRULE to RTM_GETRULE, RTM_NEWNEIGHTBL, RTM_GETNEIGHTBL and
+# RTM_SETNEIGHTBL, and RTM_NEWNSID to RTM_GETNSID; and NETLINK_GENERIC, with GENL_ID_CTRL.
 CRATES = {"0": "netlink_route_tests", "16": "netlink_generic_tests"}
-FAMILIES = {"0": [*range(16, 23), *range(28, 31)], "16": [16]}
+ROUTE = [*range(16, 23), *range(24, 27), *range(28, 31), *range(32, 35), 64, 66, 67, *range(88, 91)]
+FAMILIES = {"0": ROUTE, "16": [16]}
 
 HEADER_SIZE = 16
 GENERIC_HEADER_SIZE = 4  # of struct genlmsghdr
@@ -44,12 +48,24 @@ def read(name):
 
 
 def frames_of(datagram):
-    """Yields the frames of a datagram, each without its padding."""
+    """Yields the frames of a datagram, each without its padding. `ip` sends zeros after some requests."""
     at = 0
-    while at < len(datagram):
+    while at < len(datagram) and any(datagram[at:]):
         size = struct.unpack_from("<I", datagram, at)[0]
         yield datagram[at : at + size]
         at += size + -size % 4
+
+
+def distinct_frames(name):
+    """Yields a name and the bytes of each frame in a file of programs, and of equal frames only the first."""
+    seen = set()
+    with open(os.path.join(CAPTURED, name), encoding="utf-8") as file:
+        for number, line in enumerate(file, 1):
+            if not line.startswith("#"):
+                for at, frame in enumerate(frames_of(bytes.fromhex(line.split("\t")[2]))):
+                    if frame not in seen:
+                        seen.add(frame)
+                        yield f"{name}, line {number}, frame {at}", frame
 
 
 def attributes_of(block):
@@ -75,7 +91,10 @@ def families_of(datagram):
 
 def wanted(protocol, frame):
     """Returns what the test must write for the frame."""
-    kind = struct.unpack_from("<H", frame, 4)[0]
+    kind, size = struct.unpack_from("<H", frame, 4)[0], len(frame) - HEADER_SIZE
+    if protocol == "0" and size < HEADERS.get(kind, 0):
+        text = b"Failed to parse message with type %d: the payload has %d bytes, fewer than its header of %d"
+        return text % (kind, size, HEADERS[kind])
     if kind in OWN_TYPES or kind in FAMILIES[protocol]:
         return frame
     return b"Failed to parse message with type %d: message type %d is not known" % (kind, kind)
@@ -86,12 +105,14 @@ def main():
     with open(os.path.join(CAPTURED, "INDEX.tsv"), encoding="utf-8") as file:
         datagrams = [row for row in csv.reader(file, delimiter="\t") if not row[0].startswith("#")]
     # Each row has a name, the words of a command, its input, and what it must write.
-    rows, own = [], 0
-    for name, protocol, *_ in datagrams:
-        for at, frame in enumerate(frames_of(read(name))):
-            text = wanted(protocol, frame)
-            own += text == frame
-            rows.append((f"{name}, frame {at}", [programs[protocol], NORMALIZES], frame, text))
+    captured = [
+        (f"{name}, frame {at}", protocol, frame)
+        for name, protocol, *_ in datagrams
+        for at, frame in enumerate(frames_of(read(name)))
+    ]
+    captured += [(name, "0", frame) for name, frame in distinct_frames("programs.tsv")]
+    rows = [(name, [programs[it], NORMALIZES], frame, wanted(it, frame)) for name, it, frame in captured]
+    own = sum(frame == text for _, _, frame, text in rows)
     frames, dump = len(rows), read("families-0")
     for family, text in [*families_of(dump), (b"no-such-family", b"none\n"), (b"nlctr", b"none\n")]:
         rows.append((f"family {family.decode()}", [programs["16"], FINDS], family + b"\0" + dump, text))

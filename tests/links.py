@@ -135,9 +135,12 @@ ERRORS = [
     (b"\0", f"{FRAME}length is 1 but {MINIMUM}"),
     (link(NAMED)[:39], f"{FRAME}length field says 40 the buffer is 39 bytes long"),
     (frame(16, bytes(16), 15), f"{FRAME}length field says 15 but {MINIMUM}"),
-    (frame(24, bytes(12)), rejected(24, "message type 24 is not known")),
-    (frame(28, bytes(12)), "no line for message type 28"),
+    (frame(36, bytes(12)), rejected(36, "message type 36 is not known")),
     (frame(28, bytes(12), flags=DUMP_INTR), "no line for message type 28"),
+    *[
+        (frame(kind, bytes(size)), f"no line for message type {kind}")
+        for kind, size in ((28, 12), (24, 12), (34, 12), (66, 4), (90, 4))
+    ],
     (frame(28, bytes(11)), short(28, 11, 12)),
     (frame(16, bytes(15)), short(16, 15, 16)),
     (frame(20, bytes(7)), short(20, 7, 8)),

@@ -55,13 +55,14 @@ const FIELDS: &'static [Field] = &[
     IFA_INDEX,
 ];
 
+// The kernel's `ifa_ipv4_policy`, `ifa_ipv6_policy` and `inet6_fill_ifaddr`.
 const ROWS: &'static [Row] = &[
     (TOP, IFA_ADDRESS, "IFA_ADDRESS", Shape::Ip),
     (TOP, IFA_LOCAL, "IFA_LOCAL", Shape::Ip),
     (TOP, IFA_LABEL, "IFA_LABEL", Shape::Str),
     (TOP, IFA_BROADCAST, "IFA_BROADCAST", Shape::Ip),
     (TOP, IFA_ANYCAST, "IFA_ANYCAST", Shape::Ip),
-    (TOP, IFA_CACHEINFO, "IFA_CACHEINFO", Shape::ExactLen(16)),
+    (TOP, IFA_CACHEINFO, "IFA_CACHEINFO", Shape::MinLen(16)),
     (TOP, IFA_MULTICAST, "IFA_MULTICAST", Shape::Ip),
     (TOP, IFA_FLAGS, "IFA_FLAGS", Shape::U32),
     (TOP, IFA_RT_PRIORITY, "IFA_RT_PRIORITY", Shape::U32),

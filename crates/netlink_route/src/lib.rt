@@ -1,13 +1,24 @@
-//! Messages of route netlink (linux/rtnetlink.h): links, addresses and neighbours. Each family is a
-//! table in a module of its own, with the constants of its header file. `RouteMessage` joins them.
+//! Messages of route netlink (linux/rtnetlink.h): links, addresses, neighbours, routes, rules,
+//! neighbour tables and ids of network namespaces. Each family is a table in a module of its own,
+//! with the constants of its header file. `RouteMessage` joins them.
 #![tactic(auto)]
 
 pub mod addresses;
 pub mod links;
+pub mod names;
+pub mod namespaces;
+pub mod neighbour_tables;
 pub mod neighbours;
 mod route;
+pub mod routes;
+pub mod rules;
 
 pub use crate::addresses::{AddressMessage, Addresses};
 pub use crate::links::{LinkMessage, Links};
+pub use crate::names::{NeighbourState, OperState, RouteProtocol, RouteType, Scope};
+pub use crate::namespaces::{NamespaceMessage, Namespaces};
+pub use crate::neighbour_tables::{NeighbourTableMessage, NeighbourTables};
 pub use crate::neighbours::{NeighbourMessage, Neighbours};
 pub use crate::route::{RouteMessage, RouteTables};
+pub use crate::routes::{RouteEntryMessage, Routes};
+pub use crate::rules::{RuleMessage, Rules};

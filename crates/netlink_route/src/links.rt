@@ -176,10 +176,15 @@ pub const IFLA_INFO_SLAVE_KIND: u16 = 4;
 
 pub const IFLA_INFO_SLAVE_DATA: u16 = 5;
 
+/// The policy of `IFLA_PROP_LIST`. Its kind is `IFLA_ALT_IFNAME`.
+pub const PROPERTIES: u16 = 2;
+
 const TYPES: &'static [u16] = &[RTM_NEWLINK, RTM_DELLINK, RTM_GETLINK, RTM_SETLINK];
 
 const FIELDS: &'static [Field] = &[IFI_FAMILY, IFI_TYPE, IFI_INDEX, IFI_FLAGS, IFI_CHANGE];
 
+// The kernel's `ifla_policy`, `ifla_info_policy` and `rtnl_fill_ifinfo`. The structs of counters
+// had 23 of them at first.
 const ROWS: &'static [Row] = &[
     (TOP, IFLA_ADDRESS, "IFLA_ADDRESS", Shape::Bytes),
     (TOP, IFLA_BROADCAST, "IFLA_BROADCAST", Shape::Bytes),
@@ -187,7 +192,7 @@ const ROWS: &'static [Row] = &[
     (TOP, IFLA_MTU, "IFLA_MTU", Shape::U32),
     (TOP, IFLA_LINK, "IFLA_LINK", Shape::U32),
     (TOP, IFLA_QDISC, "IFLA_QDISC", Shape::Str),
-    (TOP, IFLA_STATS, "IFLA_STATS", Shape::Bytes),
+    (TOP, IFLA_STATS, "IFLA_STATS", Shape::MinLen(92)),
     (TOP, IFLA_COST, "IFLA_COST", Shape::Bytes),
     (TOP, IFLA_PRIORITY, "IFLA_PRIORITY", Shape::Bytes),
     (TOP, IFLA_MASTER, "IFLA_MASTER", Shape::U32),
@@ -203,7 +208,7 @@ const ROWS: &'static [Row] = &[
     (TOP, IFLA_IFALIAS, "IFLA_IFALIAS", Shape::Str),
     (TOP, IFLA_NUM_VF, "IFLA_NUM_VF", Shape::U32),
     (TOP, IFLA_VFINFO_LIST, "IFLA_VFINFO_LIST", Shape::Bytes),
-    (TOP, IFLA_STATS64, "IFLA_STATS64", Shape::Bytes),
+    (TOP, IFLA_STATS64, "IFLA_STATS64", Shape::MinLen(184)),
     (TOP, IFLA_VF_PORTS, "IFLA_VF_PORTS", Shape::Bytes),
     (TOP, IFLA_PORT_SELF, "IFLA_PORT_SELF", Shape::Bytes),
     (TOP, IFLA_AF_SPEC, "IFLA_AF_SPEC", Shape::Bytes),
@@ -252,7 +257,12 @@ const ROWS: &'static [Row] = &[
     (TOP, IFLA_NEW_IFINDEX, "IFLA_NEW_IFINDEX", Shape::I32),
     (TOP, IFLA_MIN_MTU, "IFLA_MIN_MTU", Shape::U32),
     (TOP, IFLA_MAX_MTU, "IFLA_MAX_MTU", Shape::U32),
-    (TOP, IFLA_PROP_LIST, "IFLA_PROP_LIST", Shape::Bytes),
+    (
+        TOP,
+        IFLA_PROP_LIST,
+        "IFLA_PROP_LIST",
+        Shape::Nested(PROPERTIES),
+    ),
     (TOP, IFLA_ALT_IFNAME, "IFLA_ALT_IFNAME", Shape::Str),
     (TOP, IFLA_PERM_ADDRESS, "IFLA_PERM_ADDRESS", Shape::Bytes),
     (
@@ -315,6 +325,7 @@ const ROWS: &'static [Row] = &[
         "IFLA_INFO_SLAVE_DATA",
         Shape::Bytes,
     ),
+    (PROPERTIES, IFLA_ALT_IFNAME, "IFLA_ALT_IFNAME", Shape::Str),
 ];
 
 /// The family of links.

@@ -61,10 +61,11 @@ const TYPES: &'static [u16] = &[RTM_NEWNEIGH, RTM_DELNEIGH, RTM_GETNEIGH];
 
 const FIELDS: &'static [Field] = &[NDM_FAMILY, NDM_IFINDEX, NDM_STATE, NDM_FLAGS, NDM_TYPE];
 
+// The kernel's `nda_policy`, `neigh_fill_info` and `vxlan_fdb_info`.
 const ROWS: &'static [Row] = &[
     (TOP, NDA_DST, "NDA_DST", Shape::Ip),
     (TOP, NDA_LLADDR, "NDA_LLADDR", Shape::Bytes),
-    (TOP, NDA_CACHEINFO, "NDA_CACHEINFO", Shape::ExactLen(16)),
+    (TOP, NDA_CACHEINFO, "NDA_CACHEINFO", Shape::MinLen(16)),
     (TOP, NDA_PROBES, "NDA_PROBES", Shape::U32),
     (TOP, NDA_VLAN, "NDA_VLAN", Shape::U16),
     (TOP, NDA_PORT, "NDA_PORT", Shape::Be16),

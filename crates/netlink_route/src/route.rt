@@ -4,18 +4,29 @@ ghost use Rattle.std.specs.Prelude.{refl};
 
 use crate::addresses::Addresses;
 use crate::links::Links;
+use crate::namespaces::Namespaces;
+use crate::neighbour_tables::NeighbourTables;
 use crate::neighbours::Neighbours;
+use crate::routes::Routes;
+use crate::rules::Rules;
 use netlink_family::{Both, Join, Joined, OwnedMessage};
 
-/// The tables of links, addresses and neighbours.
+/// The tables of links, addresses, neighbours, routes, rules, neighbour tables and ids of network
+/// namespaces.
 #[derive(Clone, Copy, Debug, PartialEq, Eq)]
 pub struct RouteTables;
 
+/// The tables that follow those of links and addresses.
+pub type OtherTables = Both<
+    Neighbours,
+    Both<Routes, Both<Rules, Both<NeighbourTables, Namespaces>>>,
+>;
+
 impl Join for RouteTables {
-    type All = Both<Links, Both<Addresses, Neighbours>>;
+    type All = Both<Links, Both<Addresses, OtherTables>>;
 
     ghost disjoint = { refl };
 }
 
-/// A message about a link, an address or a neighbour.
+/// A message of one of these families.
 pub type RouteMessage = OwnedMessage<Joined<RouteTables>>;

@@ -1,6 +1,6 @@
 //! Messages as the kernel sends them, and invalid ones. The bytes are written by hand from
-//! linux/netlink.h, rtnetlink.h, if_link.h, if_addr.h and neighbour.h, or are in
-//! `examples/captured`.
+//! linux/netlink.h, rtnetlink.h, if_link.h, if_addr.h, neighbour.h, fib_rules.h and
+//! net_namespace.h, or are in `examples/captured`.
 
 mod captured;
 mod errors;
@@ -9,7 +9,9 @@ mod mark;
 mod memory_not_asked;
 mod memory_refused;
 mod messages;
+mod names;
 mod neighbours;
+mod routes;
 mod samples;
 mod show;
 mod strings;

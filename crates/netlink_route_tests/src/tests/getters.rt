@@ -61,7 +61,7 @@ fn attributes_of_an_address_are_found(rt: HostRuntime) -> Result<(), Fail> {
     assert!(rt; view.ip(IFA_ADDRESS) == Some([192, 0, 2, 1].as_slice()));
     assert!(rt; view.str(IFA_LABEL) == Some("bridge-0"));
     assert!(rt; view.u32(IFA_FLAGS) == Some(0x80));
-    assert!(rt; view.exact(IFA_CACHEINFO) == Some(&BRIDGE_ADDRESS[52..]));
+    assert!(rt; view.bytes(IFA_CACHEINFO) == Some(&BRIDGE_ADDRESS[52..]));
     assert!(rt; view.u8(IFA_PROTO) == None);
     assert!(rt; view.value(IFA_FLAGS) == Some(Value::U32(0x80)));
     Ok(())
@@ -83,7 +83,7 @@ fn attributes_of_a_neighbour_are_found(rt: HostRuntime) -> Result<(), Fail> {
     assert!(rt; view.ip(NDA_DST) == Some([192, 0, 2, 7].as_slice()));
     assert!(rt; view.bytes(NDA_LLADDR) == Some([2, 0, 0, 0, 0, 7].as_slice()));
     assert!(rt; view.u32(NDA_PROBES) == Some(0));
-    assert!(rt; view.exact(NDA_CACHEINFO) == Some(&PERMANENT[44..]));
+    assert!(rt; view.bytes(NDA_CACHEINFO) == Some(&PERMANENT[44..]));
     assert!(rt; view.u16(NDA_VLAN) == None);
     assert!(rt; view.u16(NDA_PROBES) == None);
     Ok(())

@@ -4,8 +4,8 @@
 //! passes and allocates nothing after the marker.
 
 use crate::tests::mark::refuse_from_here;
-use crate::tests::samples::{ADDRESS, LO, decoded, wrong_size};
-use netlink_family::{FamilyError, MessageView};
+use crate::tests::samples::{ADDRESS, LO, decoded, invalid, wrong_size};
+use netlink_family::{FamilyError, MessageView, Reason};
 use netlink_packet_core::NetlinkSerializable;
 use netlink_route::addresses::IFA_CACHEINFO;
 use netlink_route::links::{
@@ -82,7 +82,12 @@ fn errors_in_hand(rt: HostRuntime) -> Result<(), Fail> {
     assert!(rt; error == wrong_size(16, IFLA_MTU, 4, 1));
     let address = [0, 0, 0, 0, 0, 0, 0, 0, 5, 0, 6, 0, 1, 0, 0, 0];
     let error = MessageView::<Addresses>::new(20, &address).err();
-    assert!(rt; error == wrong_size(8, IFA_CACHEINFO, 16, 1));
+    let reason = Reason::TooSmall {
+        kind: IFA_CACHEINFO,
+        expected: 16,
+        received: 1,
+    };
+    assert!(rt; error == invalid(8, reason));
     let unknown = FamilyError::UnknownType { message_type: 31 };
     assert!(rt; error_of(&rt, 31, &[]) == Some(unknown));
     let short = FamilyError::HeaderShort {

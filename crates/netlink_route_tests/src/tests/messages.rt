@@ -123,7 +123,7 @@ fn is_address(address: &MessageView<'_, Addresses>) -> bool {
         && all.next() == Some((IFA_ADDRESS, Value::Ip(&[192, 0, 2, 1])))
         && all.next() == Some((IFA_LABEL, Value::Str(b"eth0\0")))
         && all.next() == Some((IFA_FLAGS, Value::U32(0x80)))
-        && all.next() == Some((IFA_CACHEINFO, Value::ExactLen(&ADDRESS[56..])))
+        && all.next() == Some((IFA_CACHEINFO, Value::MinLen(16, &ADDRESS[56..])))
         && all.next() == None
 }
 

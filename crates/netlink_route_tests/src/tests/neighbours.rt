@@ -27,7 +27,7 @@ fn has_attributes(neighbour: &MessageView<'_, Neighbours>) -> bool {
     all.next() == Some((NDA_DST, Value::Ip(&NEIGHBOUR[32..48])))
         && all.next() == Some((NDA_LLADDR, Value::Bytes(&[2, 0, 0, 0, 0, 7])))
         && all.next() == Some((NDA_PROBES, Value::U32(5)))
-        && all.next() == Some((NDA_CACHEINFO, Value::ExactLen(&NEIGHBOUR[72..88])))
+        && all.next() == Some((NDA_CACHEINFO, Value::MinLen(16, &NEIGHBOUR[72..88])))
         && all.next() == Some((NDA_VLAN, Value::U16(10)))
         && all.next() == Some((NDA_PORT, Value::Be16(4789)))
         && all.next() == None
@@ -37,7 +37,10 @@ fn has_attributes(neighbour: &MessageView<'_, Neighbours>) -> bool {
 fn neighbour_of<'a>(message: &'a RouteMessage) -> Option<MessageView<'a, Neighbours>> {
     match message.message_view().tables().split() {
         Ok(_link) => None,
-        Err(other) => other.split().err(),
+        Err(other) => match other.split() {
+            Ok(_address) => None,
+            Err(other) => other.split().ok(),
+        },
     }
 }
 

@@ -1,0 +1,232 @@
+//! Routes (linux/rtnetlink.h).
+
+ghost use Rattle.std.specs.Prelude.{refl};
+ghost use Rattle.netlink_family.specs.Shapes.{named, named_fields};
+ghost use Rattle.netlink_route.specs.declared.routes.TheConstants.{FIELDS, ROWS, TYPES};
+
+use netlink_family::{Family, Field, OwnedMessage, Row, Shape, TOP, Table, is_among};
+
+pub const RTM_NEWROUTE: u16 = 24;
+
+pub const RTM_DELROUTE: u16 = 25;
+
+pub const RTM_GETROUTE: u16 = 26;
+
+// The fields of `struct rtmsg`.
+pub const RTM_FAMILY: Field = ("rtm_family", 0, Shape::U8);
+
+pub const RTM_DST_LEN: Field = ("rtm_dst_len", 1, Shape::U8);
+
+pub const RTM_SRC_LEN: Field = ("rtm_src_len", 2, Shape::U8);
+
+pub const RTM_TOS: Field = ("rtm_tos", 3, Shape::U8);
+
+pub const RTM_TABLE: Field = ("rtm_table", 4, Shape::U8);
+
+pub const RTM_PROTOCOL: Field = ("rtm_protocol", 5, Shape::U8);
+
+pub const RTM_SCOPE: Field = ("rtm_scope", 6, Shape::U8);
+
+pub const RTM_TYPE: Field = ("rtm_type", 7, Shape::U8);
+
+pub const RTM_FLAGS: Field = ("rtm_flags", 8, Shape::U32);
+
+pub const RTA_DST: u16 = 1;
+
+pub const RTA_SRC: u16 = 2;
+
+pub const RTA_IIF: u16 = 3;
+
+pub const RTA_OIF: u16 = 4;
+
+pub const RTA_GATEWAY: u16 = 5;
+
+pub const RTA_PRIORITY: u16 = 6;
+
+pub const RTA_PREFSRC: u16 = 7;
+
+pub const RTA_METRICS: u16 = 8;
+
+pub const RTA_MULTIPATH: u16 = 9;
+
+pub const RTA_FLOW: u16 = 11;
+
+pub const RTA_CACHEINFO: u16 = 12;
+
+pub const RTA_TABLE: u16 = 15;
+
+pub const RTA_MARK: u16 = 16;
+
+pub const RTA_MFC_STATS: u16 = 17;
+
+pub const RTA_VIA: u16 = 18;
+
+pub const RTA_NEWDST: u16 = 19;
+
+pub const RTA_PREF: u16 = 20;
+
+pub const RTA_ENCAP_TYPE: u16 = 21;
+
+pub const RTA_ENCAP: u16 = 22;
+
+pub const RTA_EXPIRES: u16 = 23;
+
+pub const RTA_UID: u16 = 25;
+
+pub const RTA_TTL_PROPAGATE: u16 = 26;
+
+pub const RTA_IP_PROTO: u16 = 27;
+
+pub const RTA_SPORT: u16 = 28;
+
+pub const RTA_DPORT: u16 = 29;
+
+pub const RTA_NH_ID: u16 = 30;
+
+/// The policy of `RTA_METRICS`.
+pub const METRICS: u16 = 1;
+
+pub const RTAX_LOCK: u16 = 1;
+
+pub const RTAX_MTU: u16 = 2;
+
+pub const RTAX_WINDOW: u16 = 3;
+
+pub const RTAX_RTT: u16 = 4;
+
+pub const RTAX_RTTVAR: u16 = 5;
+
+pub const RTAX_SSTHRESH: u16 = 6;
+
+pub const RTAX_CWND: u16 = 7;
+
+pub const RTAX_ADVMSS: u16 = 8;
+
+pub const RTAX_REORDERING: u16 = 9;
+
+pub const RTAX_HOPLIMIT: u16 = 10;
+
+pub const RTAX_INITCWND: u16 = 11;
+
+pub const RTAX_FEATURES: u16 = 12;
+
+pub const RTAX_RTO_MIN: u16 = 13;
+
+pub const RTAX_INITRWND: u16 = 14;
+
+pub const RTAX_QUICKACK: u16 = 15;
+
+pub const RTAX_CC_ALGO: u16 = 16;
+
+pub const RTAX_FASTOPEN_NO_COOKIE: u16 = 17;
+
+const TYPES: &'static [u16] = &[RTM_NEWROUTE, RTM_DELROUTE, RTM_GETROUTE];
+
+const FIELDS: &'static [Field] = &[
+    RTM_FAMILY,
+    RTM_DST_LEN,
+    RTM_SRC_LEN,
+    RTM_TOS,
+    RTM_TABLE,
+    RTM_PROTOCOL,
+    RTM_SCOPE,
+    RTM_TYPE,
+    RTM_FLAGS,
+];
+
+// The kernel's `rtm_ipv4_policy`, `rtm_ipv6_policy`, `rtm_mpls_policy`, `fib_gw_from_via`,
+// `rtnl_put_cacheinfo` and `ip_metrics_convert`. `RTA_EXPIRES` of a multicast route has 8 bytes
+// (`mr_fill_mroute`), that of a request 4.
+const ROWS: &'static [Row] = &[
+    (TOP, RTA_DST, "RTA_DST", Shape::Ip),
+    (TOP, RTA_SRC, "RTA_SRC", Shape::Ip),
+    (TOP, RTA_IIF, "RTA_IIF", Shape::U32),
+    (TOP, RTA_OIF, "RTA_OIF", Shape::U32),
+    (TOP, RTA_GATEWAY, "RTA_GATEWAY", Shape::Ip),
+    (TOP, RTA_PRIORITY, "RTA_PRIORITY", Shape::U32),
+    (TOP, RTA_PREFSRC, "RTA_PREFSRC", Shape::Ip),
+    (TOP, RTA_METRICS, "RTA_METRICS", Shape::Nested(METRICS)),
+    (TOP, RTA_MULTIPATH, "RTA_MULTIPATH", Shape::Bytes),
+    (TOP, 10, "RTA_PROTOINFO", Shape::Bytes),
+    (TOP, RTA_FLOW, "RTA_FLOW", Shape::U32),
+    (TOP, RTA_CACHEINFO, "RTA_CACHEINFO", Shape::MinLen(32)),
+    (TOP, 13, "RTA_SESSION", Shape::Bytes),
+    (TOP, 14, "RTA_MP_ALGO", Shape::Bytes),
+    (TOP, RTA_TABLE, "RTA_TABLE", Shape::U32),
+    (TOP, RTA_MARK, "RTA_MARK", Shape::U32),
+    (TOP, RTA_MFC_STATS, "RTA_MFC_STATS", Shape::MinLen(24)),
+    (TOP, RTA_VIA, "RTA_VIA", Shape::MinLen(2)),
+    (TOP, RTA_NEWDST, "RTA_NEWDST", Shape::Bytes),
+    (TOP, RTA_PREF, "RTA_PREF", Shape::U8),
+    (TOP, RTA_ENCAP_TYPE, "RTA_ENCAP_TYPE", Shape::U16),
+    (TOP, RTA_ENCAP, "RTA_ENCAP", Shape::Bytes),
+    (TOP, RTA_EXPIRES, "RTA_EXPIRES", Shape::MinLen(4)),
+    (TOP, 24, "RTA_PAD", Shape::Bytes),
+    (TOP, RTA_UID, "RTA_UID", Shape::U32),
+    (TOP, RTA_TTL_PROPAGATE, "RTA_TTL_PROPAGATE", Shape::U8),
+    (TOP, RTA_IP_PROTO, "RTA_IP_PROTO", Shape::U8),
+    (TOP, RTA_SPORT, "RTA_SPORT", Shape::Be16),
+    (TOP, RTA_DPORT, "RTA_DPORT", Shape::Be16),
+    (TOP, RTA_NH_ID, "RTA_NH_ID", Shape::U32),
+    (METRICS, RTAX_LOCK, "RTAX_LOCK", Shape::U32),
+    (METRICS, RTAX_MTU, "RTAX_MTU", Shape::U32),
+    (METRICS, RTAX_WINDOW, "RTAX_WINDOW", Shape::U32),
+    (METRICS, RTAX_RTT, "RTAX_RTT", Shape::U32),
+    (METRICS, RTAX_RTTVAR, "RTAX_RTTVAR", Shape::U32),
+    (METRICS, RTAX_SSTHRESH, "RTAX_SSTHRESH", Shape::U32),
+    (METRICS, RTAX_CWND, "RTAX_CWND", Shape::U32),
+    (METRICS, RTAX_ADVMSS, "RTAX_ADVMSS", Shape::U32),
+    (METRICS, RTAX_REORDERING, "RTAX_REORDERING", Shape::U32),
+    (METRICS, RTAX_HOPLIMIT, "RTAX_HOPLIMIT", Shape::U32),
+    (METRICS, RTAX_INITCWND, "RTAX_INITCWND", Shape::U32),
+    (METRICS, RTAX_FEATURES, "RTAX_FEATURES", Shape::U32),
+    (METRICS, RTAX_RTO_MIN, "RTAX_RTO_MIN", Shape::U32),
+    (METRICS, RTAX_INITRWND, "RTAX_INITRWND", Shape::U32),
+    (METRICS, RTAX_QUICKACK, "RTAX_QUICKACK", Shape::U32),
+    (METRICS, RTAX_CC_ALGO, "RTAX_CC_ALGO", Shape::Str),
+    (
+        METRICS,
+        RTAX_FASTOPEN_NO_COOKIE,
+        "RTAX_FASTOPEN_NO_COOKIE",
+        Shape::U32,
+    ),
+];
+
+/// The family of routes.
+#[derive(Clone, Copy, Debug, PartialEq, Eq)]
+pub struct Routes;
+
+impl Table for Routes {
+    ghost types = { TYPES.now };
+
+    ghost header_len = { λ _. 12 };
+
+    ghost rows = { λ _. named ROWS.now (λ name. name.now) };
+
+    ghost fields = { λ _. named_fields FIELDS.now (λ name. name.now) };
+
+    fn has(message_type: u16) -> bool {
+        is_among(TYPES, message_type)
+    }
+
+    fn header_len(_message_type: u16) -> usize {
+        12
+    }
+
+    fn rows(_message_type: u16) -> &'static [Row] {
+        ROWS
+    }
+
+    fn fields(_message_type: u16) -> &'static [Field] {
+        FIELDS
+    }
+
+    ghost sorted = { λ _. refl };
+}
+
+impl Family for Routes {
+    ghost own = { refl };
+}
+
+/// A message about a route.
+pub type RouteEntryMessage = OwnedMessage<Routes>;

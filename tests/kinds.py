@@ -1,0 +1,125 @@
+#!/usr/bin/env python3
+"""Checks each field and each typed attribute of netlink_route, one attribute a frame, by tests/kinds.txt.
+
+A frame with a valid value must come back unchanged, also with a flag bit and with the attribute twice, and its text must
+be the one that this script makes: the names, and the values by their form and byte order. A frame whose value is one
+byte short or long, or has another form, must be rejected, with the error text that this script makes: with the kind, the
+offset of the attribute, the policy and the sizes. So must a frame whose nest is cut within an attribute.
+"""
+
+import os
+import struct
+
+from built import TOP, built, in_parallel, run, tally
+from expected import Expected, differs
+
+NORMALIZES = "tests::captured::standard_input_is_normalized"
+SHOWS = "tests::captured::standard_input_is_shown"
+RESULT = b"\ntest result: ok\n"
+TABLE = os.path.join(TOP, "tests", "kinds.txt")
+
+INTEGERS = {"u8": 1, "u16": 2, "u32": 4, "u64": 8, "s32": 4, "be16": 2, "be64": 8}
+NESTED, QUERY = 0x8000, 0x4000  # NLA_F_NESTED and the other flag bit, NLA_F_NET_BYTEORDER
+
+
+def families():
+    """Yields the message type, the size of the header, the fields and the kinds of each family. A kind is a list: its
+    number, its name, its form, the number after that, and the kinds in it."""
+    found = []
+    with open(TABLE, encoding="utf-8") as file:
+        for line in file:
+            words = line.partition("#")[0].split()
+            if words[:1] == ["family"]:
+                fields = [(name, int(at), form) for name, at, form in (it.split(":") for it in words[3:])]
+                found.append((int(words[1]), int(words[2]), fields, []))
+            elif words:
+                kinds = found[-1][3][-1][4] if line.startswith(" ") else found[-1][3]
+                kinds.append([int(words[0]), words[1], words[2], int((words + ["0"])[3]), []])
+    return found
+
+
+def attribute(kind, value):
+    return struct.pack("<HH", 4 + len(value), kind) + value + bytes(-len(value) % 4)
+
+
+def text_of(form, value):
+    """Returns a value as text."""
+    if form in INTEGERS:
+        order = "big" if form.startswith("be") else "little"
+        return str(int.from_bytes(value, order, signed=form.startswith("s")))
+    if form == "string":
+        return value.removesuffix(b"\0").decode()
+    return value.hex() or "-"
+
+
+def values(kind, form, size):
+    """Returns valid values, and invalid ones with the reason."""
+    count = bytes(range(1, 256))
+    if form == "bytes":
+        return [b"", count[:3], count[:16]], []
+    if form == "string":
+        return [b"", b"name", b"name\0"], [(b"na\0me", f"attribute {kind} is a string with a NUL before its last byte")]
+    if form == "address":
+        text = "attribute {} has an address of {} bytes instead of 4 or 16"
+        return [count[:4], count[:16]], [(bytes(it), text.format(kind, it)) for it in (3, 5, 15, 17)]
+    if form == "least":
+        text = f"attribute {kind} has a value of {size - 1} bytes instead of {size} or more"
+        return [count[:size], count[: size + 1]], [(bytes(size - 1), text)]
+    size, text = INTEGERS[form], "attribute {} has a value of {} bytes instead of {}"
+    return [count[:size], b"\xff" * size], [(bytes(it), text.format(kind, it, size)) for it in (size - 1, size + 1)]
+
+
+def blocks(kinds, offset, policy):
+    """Yields a block, and the lines of its text or None, and the text of its error or None, for each case of each kind.
+    `offset` is that of the block."""
+    for kind, name, form, size, inside in kinds:
+        if form == "nest":
+            for block, lines, error in blocks(inside, offset + 4, size):
+                lines = [f"{name}:", *("  " + it for it in lines)] if lines else None
+                yield attribute(kind, block), lines, error
+                yield attribute(kind | NESTED, block), lines, error
+            cut = attribute(inside[0][0], bytes(4))[:-1]
+            error = f"at byte {offset + 4}, in policy {size}: an attribute of 8 bytes is truncated to 7"
+            yield attribute(kind, cut), None, error
+            continue
+        valid, invalid = values(kind, form, size)
+        lines = [f"{name}: {text_of(form, it)}" for it in valid]
+        for value, line in zip(valid, lines):
+            yield attribute(kind, value), [line], None
+        yield attribute(kind | QUERY, valid[-1]), lines[-1:], None
+        yield attribute(kind, valid[-1]) + attribute(kind, valid[0]), [lines[-1], lines[0]], None
+        for value, reason in invalid:
+            yield attribute(kind, value), None, f"at byte {offset}, in policy {policy}: {reason}"
+
+
+def rows():
+    """Yields a name, a test, a frame, and what the test must write for it."""
+    for message_type, size, fields, kinds in families():
+        header = bytes(range(255, 255 - size, -1))
+        for block, lines, error in blocks(kinds, size, 0):
+            frame = struct.pack("<IHHII", 16 + size + len(block), message_type, 0, 1, 0) + header + block
+            name = f"type {message_type}, block {block.hex()}"
+            rejected = f"Failed to parse message with type {message_type}: {error}".encode()
+            yield name, NORMALIZES, frame, rejected if error else frame
+            if lines:
+                own = [f"{it}: {text_of(form, header[at : at + INTEGERS[form]])}" for it, at, form in fields]
+                text = "".join(f"{it}\n" for it in [f"type {message_type}", *own, *lines])
+                yield f"text of {name}", SHOWS, frame, text.encode()
+
+
+def main():
+    program, all_rows = built("netlink_route_tests_tests", "netlink_route_tests"), list(rows())
+
+    def difference(row):
+        name, test, frame, text = row
+        result = run([program, test], frame)
+        return None if result == (0, text + RESULT, b"") else f"{name}: returned {result}"
+
+    failures = [it for it in in_parallel(difference, all_rows) if it]
+    passed = len(all_rows) - len(failures)
+    why = differs("frames and texts", len(all_rows), Expected().lines["passes"].get("tests/kinds.py", 0))
+    failures += [why] * bool(why)
+    tally("kinds", failures, passed)
+
+
+main()
