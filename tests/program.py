@@ -25,7 +25,7 @@ import tempfile
 import time
 
 from libraries import below, dependencies, folder_of
-from toolchain import NO_RESULT, kit_named, need_kit
+from toolchain import NO_RESULT, kit_found, need_kit
 
 # What `rt try` prints after the program's own standard error, if the program ended.
 ENDED = re.compile(rb"(interpreter: .*\n)?(checked: .*\n)?(races: .*\n)?run=ended .*\n\Z")
@@ -72,7 +72,7 @@ def sums_of(crates, names):
     """Returns for each crate a hash of everything it is built from: the kit, its sources and the crates below it."""
     sums = {}
     for crate in crates:
-        made = hashlib.sha256(repr([kit_named(), crate, [sums[it] for it in names[crate]]]).encode())
+        made = hashlib.sha256(repr([kit_found(), crate, [sums[it] for it in names[crate]]]).encode())
         for part in ("src", "specs", "proofs"):
             for at, folders, files in os.walk(f"{folder_of(crate)}/{part}"):
                 folders.sort()

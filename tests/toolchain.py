@@ -1,4 +1,4 @@
-"""Checks that the toolchain is the one that README.md names, by the line that `rt version` prints.
+"""Checks that the toolchain is one that README.md names, by the line that `rt version` prints.
 
 ./check, c/build, ./netlink_frame and ./netlink_links first call `need_kit`.
 """
@@ -15,11 +15,10 @@ TOP = os.path.dirname(os.path.dirname(os.path.abspath(__file__)))
 NO_RESULT = 3
 
 
-def kit_named():
-    """Returns the line of `rt version` that README.md names, or "" if it names none or several."""
+def kits_named():
+    """Returns the lines of `rt version` that README.md names, sorted."""
     with open(os.path.join(TOP, "README.md"), encoding="utf-8") as file:
-        lines = set(re.findall(r"rattle-kit-\w+ logic \w+", file.read()))
-    return lines.pop() if len(lines) == 1 else ""
+        return sorted(set(re.findall(r"rattle-kit-\w+ logic \w+", file.read())))
 
 
 def kit_found():
@@ -42,10 +41,11 @@ def kit_found():
 
 def need_kit(script):
     """Ends the script with one line on standard error and status 3, unless README.md names this toolchain."""
-    named, found = kit_named(), kit_found()
-    if named and found == named:
+    named, found = kits_named(), kit_found()
+    if found in named:
         return
     error = "`rt` is not on the path" if found is None else f"`rt version` prints `{found.partition(chr(10))[0]}`"
-    remedy = f"install the Rattle kit whose `rt version` prints `{named}`" if named else "README.md must name one kit"
+    lines = " or ".join(f"`{it}`" for it in named)
+    remedy = f"install a Rattle kit whose `rt version` prints {lines}" if named else "README.md must name a kit"
     print(f"{script}: {error}: {remedy}", file=sys.stderr)
     sys.exit(NO_RESULT)

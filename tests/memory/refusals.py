@@ -62,7 +62,8 @@ DATAGRAMS = {
     "addresses": ("addresses-0.bin", None),
     "an error with its request": ("link-mtu-refused-0.bin", None),
     "neighbours, which have no line": ("neighbours-0.bin", None),
-    "routes, of no known type": ("routes-0.bin", None),
+    "routes, which have no line": ("routes-0.bin", None),
+    "a message of no known type": ("type-unknown-request.bin", None),
     "no bytes": ("links-0.bin", 0),
 }
 
