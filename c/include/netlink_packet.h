@@ -19,19 +19,21 @@
  * which is NLP_NO_ROOM); struct nlp_fault then holds the error's other numbers. Proved of each
  * function: NLP_OK and NLP_END leave the fault unchanged. Any other result leaves all other outputs
  * unchanged, except the cursor of a walk, the state of an answer, `*size` at NLP_NO_ROOM, and the
- * outputs of nlp_ext_ack_path. NLP_NO_ROOM leaves the fault unchanged too, but no contract states that.
+ * outputs of nlp_ext_ack_path, nlp_attrs_find and nlp_attrs_table. NLP_NO_ROOM leaves the fault unchanged
+ * too, but no contract states that.
  *
  * If you know libmnl:
  *
- *   mnl_nlmsg_ok, mnl_nlmsg_next         nlp_frames_next
- *   nlh->nlmsg_type, nlh->nlmsg_flags    nlp_frame_header
- *   mnl_nlmsg_get_payload                nlp_frame_payload
+ *   mnl_nlmsg_ok, mnl_nlmsg_next         nlp_messages_next
+ *   nlh->nlmsg_type, nlh->nlmsg_flags    message.header.message_type, message.header.flags
+ *   mnl_nlmsg_get_payload                bytes + message.payload.offset, message.payload.size
+ *   mnl_attr_parse with a callback       nlp_message_attrs, and nlp_attrs_table over that block
  *   mnl_attr_for_each                    nlp_attrs_next, on the bytes after the sub-protocol's struct
  *   mnl_attr_for_each_nested             nlp_attrs_next over block + attr.offset, attr.size
  *   mnl_attr_get_type                    attr.kind & NLP_KIND_MASK
  *   mnl_attr_get_payload, _payload_len   block + attr.offset, attr.size
- *   mnl_attr_validate, mnl_attr_get_u32  attr.size == 4, and then nlp_u32(block + attr.offset)
- *   mnl_attr_get_str                     the bytes of the value, which may lack the final zero
+ *   mnl_attr_validate, mnl_attr_get_u32  nlp_get_u32, which checks the size
+ *   mnl_attr_get_str                     nlp_get_str: a part, since the value may lack the final zero
  *   mnl_nlmsg_put_header, _extra_header  nlp_frame_put, and nlp_frame_end once all is put
  *   mnl_attr_put_check, _u32_check, ..   nlp_attr_put, nlp_attr_put_u32, ..
  *   mnl_attr_nest_start, _end, _cancel   nlp_nest_begin, nlp_nest_end; to cancel, restore the old cursor
@@ -66,7 +68,9 @@ enum {
     NLP_NO_MEMORY = 16,     /* malloc returned NULL                                                */
     NLP_END = 32,           /* a walk is at its end                                                */
     NLP_TOO_LONG = 33,      /* more than a length field can count; nothing is changed              */
-    NLP_NO_PLACE = 34       /* there is no such location or attribute; nothing is changed          */
+    NLP_NO_PLACE = 34,      /* there is no such location or attribute; nothing is changed          */
+    NLP_WRONG_SIZE = 35     /* a value has another size, or a payload is shorter than its fixed header;
+                             * nothing is changed */
 };
 
 /* What a frame means to a request. `code` is 0 and the other parts have size 0 where the last column
@@ -113,6 +117,12 @@ struct nlp_attr {
     uint16_t kind; /* with its flag bits */
     size_t offset; /* where its value starts, from the start of the block (not from the cursor) */
     size_t size;   /* the size of its value */
+};
+
+/* A message of a datagram. */
+struct nlp_message {
+    struct nlp_header header;
+    struct nlp_part payload; /* from the start of the datagram */
 };
 
 /* The body of an error message. */
@@ -215,6 +225,71 @@ uint32_t nlp_frames_next(const uint8_t *bytes, size_t len, size_t *cursor, struc
 uint32_t nlp_attrs_next(const uint8_t *bytes, size_t len, size_t *cursor, struct nlp_attr *item,
                         struct nlp_fault *fault);
 
+/* Reads the message at `*cursor` as nlp_frames_next reads a frame, with the same results. NLP_OK: `*item`
+ * is its header and where its payload is. Nothing that follows can fail for this frame.
+ *
+ *     while (nlp_messages_next(bytes, len, &at, &message, &fault) == NLP_OK)
+ *         if (message.header.message_type == RTM_NEWLINK
+ *             && nlp_message_attrs(&message, sizeof(struct ifinfomsg), &part) == NLP_OK) {
+ *             const uint8_t *block = bytes + part.offset;
+ *             nlp_attrs_table(block, part.size, table, IFLA_MTU + 1, &fault);
+ *             if (nlp_get_u32(block, part.size, &table[IFLA_MTU], &mtu) == NLP_OK)
+ *                 use(mtu);
+ *         }
+ *
+ * Proved: what is proved of nlp_frames_next, and that the fields and the payload are those of the frame. */
+uint32_t nlp_messages_next(const uint8_t *bytes, size_t len, size_t *cursor, struct nlp_message *item,
+                           struct nlp_fault *fault);
+
+/* Locates the attributes of a message: what is after a fixed header of `fixed_len` bytes and its padding
+ * (struct ifinfomsg, genlmsghdr). NLP_OK; NLP_WRONG_SIZE if the payload has fewer than `fixed_len` bytes; or
+ * NLP_NO_PLACE if payload.offset + payload.size does not fit in a size_t, which nlp_messages_next never
+ * writes. The offset is from the start of the datagram.
+ * Proved: which result, and that the part is the rest of the payload, or is empty if the payload ends
+ * within the padding. */
+uint32_t nlp_message_attrs(const struct nlp_message *message, size_t fixed_len, struct nlp_part *attributes);
+
+/* ---- attributes by kind ---------------------------------------------------------------------- */
+
+/* Finds the last attribute of a kind in one pass: NLP_OK, or NLP_NO_PLACE if there is none. If the walk of
+ * the block ends in an error, returns that error, and `*item` is the last attribute of the kind before it.
+ * Compares kinds without their flag bits, so a `kind` above NLP_KIND_MASK is never found. `*item` is
+ * unchanged if and only if no attribute has the kind, even before an error.
+ * The kernel takes the last one too (nla_parse). nla_find of the Rattle library takes the first.
+ * Proved: which attribute it is, and which result. */
+uint32_t nlp_attrs_find(const uint8_t *block, size_t len, uint16_t kind, struct nlp_attr *item,
+                        struct nlp_fault *fault);
+
+/* Fills a table by kind in one pass: table[k] becomes the last attribute of kind k, for each k below
+ * `count`, comparing kinds without their flag bits. If there is none, its kind, offset and size become 0; a
+ * value never starts at offset 0. NLP_OK, or the error that ends the walk; the table then has the attributes
+ * before it. Write a table's size as the highest kind that you read plus 1.
+ * Proved: each entry, and which result. */
+uint32_t nlp_attrs_table(const uint8_t *block, size_t len, struct nlp_attr *table, size_t count,
+                         struct nlp_fault *fault);
+
+/* Each of these reads the value of an attribute of the block: an entry of nlp_attrs_table, or what
+ * nlp_attrs_find or nlp_attrs_next wrote. NLP_OK; NLP_NO_PLACE if its offset is 0, or if it ends after the
+ * block; or NLP_WRONG_SIZE if the value does not have 1, 2, 4, 8 or, for nlp_get_bytes, `size` bytes.
+ * _u16, _u32 and _u64 are in native byte order, and _be16, _be32 and _be64 in big-endian order. The
+ * byte-order bit of the kind does not matter.
+ * Proved of each: which of the three, and what is written; any result but NLP_OK changes nothing. */
+uint32_t nlp_get_u8(const uint8_t *block, size_t len, const struct nlp_attr *item, uint8_t *value);
+uint32_t nlp_get_u16(const uint8_t *block, size_t len, const struct nlp_attr *item, uint16_t *value);
+uint32_t nlp_get_u32(const uint8_t *block, size_t len, const struct nlp_attr *item, uint32_t *value);
+uint32_t nlp_get_u64(const uint8_t *block, size_t len, const struct nlp_attr *item, uint64_t *value);
+uint32_t nlp_get_be16(const uint8_t *block, size_t len, const struct nlp_attr *item, uint16_t *value);
+uint32_t nlp_get_be32(const uint8_t *block, size_t len, const struct nlp_attr *item, uint32_t *value);
+uint32_t nlp_get_be64(const uint8_t *block, size_t len, const struct nlp_attr *item, uint64_t *value);
+uint32_t nlp_get_bytes(const uint8_t *block, size_t len, const struct nlp_attr *item, uint8_t *bytes,
+                       size_t size);
+
+/* Locates the C string in the value of an attribute: the bytes before the first zero, or the whole value
+ * if it has no zero. NLP_OK; or NLP_NO_PLACE if its offset is 0, or if it ends after the block. The offset
+ * is from the start of the block.
+ * Proved: the part has no zero, and is followed by a zero or by the end of the value. */
+uint32_t nlp_get_str(const uint8_t *block, size_t len, const struct nlp_attr *item, struct nlp_part *text);
+
 /* ---- answers --------------------------------------------------------------------------------- */
 
 /* Reads the answer to a dump:
@@ -303,6 +378,15 @@ uint32_t nlp_attr_put_u8(uint8_t *buffer, size_t capacity, size_t *cursor, uint1
 uint32_t nlp_attr_put_u16(uint8_t *buffer, size_t capacity, size_t *cursor, uint16_t kind, uint16_t value);
 uint32_t nlp_attr_put_u32(uint8_t *buffer, size_t capacity, size_t *cursor, uint16_t kind, uint32_t value);
 uint32_t nlp_attr_put_u64(uint8_t *buffer, size_t capacity, size_t *cursor, uint16_t kind, uint64_t value);
+
+/* Puts an attribute whose value is an integer, in big-endian byte order. The kind is unchanged: add
+ * NLP_KIND_NET_BYTEORDER to it if the sub-protocol wants that. */
+uint32_t nlp_attr_put_be16(uint8_t *buffer, size_t capacity, size_t *cursor, uint16_t kind, uint16_t value);
+uint32_t nlp_attr_put_be32(uint8_t *buffer, size_t capacity, size_t *cursor, uint16_t kind, uint32_t value);
+uint32_t nlp_attr_put_be64(uint8_t *buffer, size_t capacity, size_t *cursor, uint16_t kind, uint64_t value);
+
+/* Puts an attribute without a value, whose presence is a flag. */
+uint32_t nlp_attr_put_flag(uint8_t *buffer, size_t capacity, size_t *cursor, uint16_t kind);
 
 /* Puts an attribute whose value is a C string: the `len` bytes and one zero. */
 uint32_t nlp_attr_put_str(uint8_t *buffer, size_t capacity, size_t *cursor, uint16_t kind,

@@ -1,4 +1,6 @@
 mod EndLemmas
+mod ItemLemmas
+mod MessageLemmas
 mod PutLemmas
 mod RefusalLemmas
 mod Texts

@@ -7,6 +7,9 @@ pub mod Out
 pub mod Parts
 pub mod Put
 pub mod Steps
+pub mod Items
+pub mod Gets
+pub mod Messages
 pub mod Texts
 pub mod ReplyItems
 pub mod States

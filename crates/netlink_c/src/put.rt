@@ -3,7 +3,7 @@
 ghost use Rattle.std.specs.Prelude.{◌≡◌, ◌≢◌, ◌+◌, ◌<◌, ◌≤◌, ◌^◌, ◌++◌, ◌∷◌, [], drop, length};
 ghost use Rattle.netlink_packet_core.specs.Attribute.{padded, value_max};
 ghost use Rattle.netlink_packet_core.specs.Nla.{attribute_with};
-ghost use Rattle.netlink_packet_core.specs.Numbers.{bytes_le};
+ghost use Rattle.netlink_packet_core.specs.Numbers.{bytes_be, bytes_le};
 ghost use Rattle.netlink_packet_core.specs.Storage.{put_at};
 ghost use Rattle.netlink_packet_core.specs.Views.{nested};
 ghost use Rattle.netlink_packet_core.specs.Walk.{Starts};
@@ -11,8 +11,8 @@ ghost use Rattle.netlink_c.specs.Put.{IsPutResult, GrowsBlock, Puts, PutsAttribu
 
 use crate::results::{NO_ROOM, OK, TOO_LONG};
 use netlink_packet_core::{
-    NLA_F_NESTED, NLA_F_NET_BYTEORDER, Nla, emit_nla, emit_u16, emit_u32, emit_u64, nla_buffer_len,
-    nla_fits,
+    NLA_F_NESTED, NLA_F_NET_BYTEORDER, Nla, emit_nla, emit_u16, emit_u16_be, emit_u32, emit_u32_be,
+    emit_u64, emit_u64_be, nla_buffer_len, nla_fits,
 };
 
 /// Puts an attribute at the cursor, its kind unchanged, padded with zeros.
@@ -95,6 +95,66 @@ pub extern "C" fn nlp_attr_put_u64(
     let mut text = [0u8; 8];
     let _written = emit_u64(&mut text, value);
     put(buffer, cursor, &Value { kind, value: &text })
+}
+
+/// Puts an attribute whose value is a `u16` in big-endian byte order, as `nlp_attr_put` does. Does
+/// not set the byte-order bit of the kind.
+#[unsafe(no_mangle)]
+pub extern "C" fn nlp_attr_put_be16(
+    buffer: &mut [u8],
+    cursor: &mut usize,
+    kind: u16,
+    value: u16,
+) -> u32
+    ensures puts { Puts (attribute_with kind (bytes_be value 2)) buffer.old cursor.old
+        buffer.new cursor.new result }
+{
+    let mut text = [0u8; 2];
+    let _written = emit_u16_be(&mut text, value);
+    put(buffer, cursor, &Value { kind, value: &text })
+}
+
+/// Puts an attribute whose value is a `u32` in big-endian byte order, as `nlp_attr_put` does. Does
+/// not set the byte-order bit of the kind.
+#[unsafe(no_mangle)]
+pub extern "C" fn nlp_attr_put_be32(
+    buffer: &mut [u8],
+    cursor: &mut usize,
+    kind: u16,
+    value: u32,
+) -> u32
+    ensures puts { Puts (attribute_with kind (bytes_be value 4)) buffer.old cursor.old
+        buffer.new cursor.new result }
+{
+    let mut text = [0u8; 4];
+    let _written = emit_u32_be(&mut text, value);
+    put(buffer, cursor, &Value { kind, value: &text })
+}
+
+/// Puts an attribute whose value is a `u64` in big-endian byte order, as `nlp_attr_put` does. Does
+/// not set the byte-order bit of the kind.
+#[unsafe(no_mangle)]
+pub extern "C" fn nlp_attr_put_be64(
+    buffer: &mut [u8],
+    cursor: &mut usize,
+    kind: u16,
+    value: u64,
+) -> u32
+    ensures puts { Puts (attribute_with kind (bytes_be value 8)) buffer.old cursor.old
+        buffer.new cursor.new result }
+{
+    let mut text = [0u8; 8];
+    let _written = emit_u64_be(&mut text, value);
+    put(buffer, cursor, &Value { kind, value: &text })
+}
+
+/// Puts an attribute without a value, whose presence is a flag, as `nlp_attr_put` does.
+#[unsafe(no_mangle)]
+pub extern "C" fn nlp_attr_put_flag(buffer: &mut [u8], cursor: &mut usize, kind: u16) -> u32
+    ensures puts { Puts (attribute_with kind []) buffer.old cursor.old
+        buffer.new cursor.new result }
+{
+    nlp_attr_put(buffer, cursor, kind, &[])
 }
 
 /// Puts an attribute whose value is the bytes followed by one zero, as a C string has it, as

@@ -20,3 +20,7 @@ pub const TOO_LONG: u32 = 33;
 /// An offset, an index, a size or the numbers of an error are not valid for the function. Nothing
 /// is changed.
 pub const NO_PLACE: u32 = 34;
+
+/// A value does not have the size that is asked for, or a payload is shorter than its fixed header.
+/// Nothing is changed.
+pub const WRONG_SIZE: u32 = 35;

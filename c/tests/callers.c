@@ -1,0 +1,237 @@
+/* Tests the functions for attributes by kind, for values with a check of their size, and for messages. */
+#include "netlink_packet.h"
+
+#include <stdio.h>
+#include <string.h>
+
+static int passed, failed;
+
+static void expect(const char *what, bool holds)
+{
+    if (holds) {
+        passed++;
+    } else {
+        failed++;
+        fprintf(stderr, "failed: %s\n", what);
+    }
+}
+
+/* (1, aa), (2 with the nested flag, 01020304), (1, bbcc), (3 with the byte-order flag, 0102..08), (0, "lo\0x"),
+ * (5, no value), and an attribute of kind 2 that is truncated. */
+static const uint8_t block[54] = { 5, 0, 1, 0, 0xaa, 0, 0, 0, 8, 0, 2, 0x80, 1, 2, 3, 4, 6, 0, 1, 0, 0xbb, 0xcc, 0, 0,
+    12, 0, 3, 0x40, 1, 2, 3, 4, 5, 6, 7, 8, 8, 0, 0, 0, 'l', 'o', 0, 'x', 4, 0, 5, 0, 9, 0, 2, 0, 1, 2 };
+
+/* The size of the block without the last one. */
+#define WHOLE 48
+
+static bool is_fault(const struct nlp_fault *f, uint32_t cause, size_t size, size_t wanted)
+{
+    return f->cause == cause && f->inside == 0 && f->size == size && f->wanted == wanted;
+}
+
+static bool is_attr(const struct nlp_attr *a, uint16_t kind, size_t offset, size_t size)
+{
+    return a->kind == kind && a->offset == offset && a->size == size;
+}
+
+/* Returns whether the search has this result, and leaves the attribute at (99, 98, 97) and the fault at 96. */
+static bool leaves(const uint8_t *bytes, size_t len, uint16_t kind, uint32_t result)
+{
+    struct nlp_fault fault = { 96, 0, 0, 0 };
+    struct nlp_attr attr = { 99, 98, 97 };
+    return nlp_attrs_find(bytes, len, kind, &attr, &fault) == result && is_attr(&attr, 99, 98, 97) && is_fault(&fault, 96, 0, 0);
+}
+
+static void finds(void)
+{
+    struct nlp_fault fault = { 0, 0, 0, 0 };
+    struct nlp_attr attr = { 0, 0, 0 };
+    expect("the last of two", nlp_attrs_find(block, WHOLE, 1, &attr, &fault) == NLP_OK && is_attr(&attr, 1, 20, 2) && fault.cause == 0);
+    expect("a kind without its flag", nlp_attrs_find(block, WHOLE, 2, &attr, &fault) == NLP_OK && is_attr(&attr, 0x8002, 12, 4));
+    expect("the other flag", nlp_attrs_find(block, WHOLE, 3, &attr, &fault) == NLP_OK && is_attr(&attr, 0x4003, 28, 8));
+    expect("kind 0", nlp_attrs_find(block, WHOLE, 0, &attr, &fault) == NLP_OK && is_attr(&attr, 0, 40, 4));
+    expect("no value", nlp_attrs_find(block, WHOLE, 5, &attr, &fault) == NLP_OK && is_attr(&attr, 5, 48, 0));
+    expect("a kind with its flag", leaves(block, WHOLE, 0x8002, NLP_NO_PLACE));
+    expect("kind 0xffff", leaves(block, WHOLE, 0xffff, NLP_NO_PLACE));
+    expect("no such kind", leaves(block, WHOLE, 4, NLP_NO_PLACE));
+    expect("nothing in no bytes", leaves(NULL, 0, 0, NLP_NO_PLACE));
+    expect("the last before an error", nlp_attrs_find(block, sizeof block, 2, &attr, &fault) == NLP_ATTR_CUT && is_attr(&attr, 0x8002, 12, 4)
+        && is_fault(&fault, 6, 6, 9));
+    attr.offset = 0;
+    expect("none before an error", nlp_attrs_find(block, sizeof block, 4, &attr, &fault) == NLP_ATTR_CUT && is_attr(&attr, 0x8002, 0, 4));
+}
+
+/* Each length up to 20: what the search for kind 1 and the table return, and where the attribute then is. */
+static void lengths(void)
+{
+    static const uint32_t results[21] = { 0, 5, 5, 5, 6, 0, 0, 0, 0, 5, 5, 5, 6, 6, 6, 6, 0, 5, 5, 5, 6 };
+    bool finds = true, fills = true;
+    for (size_t len = 0; len <= 20; len++) {
+        struct nlp_fault fault = { 0, 0, 0, 0 };
+        struct nlp_attr attr = { 0, 0, 0 }, table[2] = { { 9, 9, 9 }, { 9, 9, 9 } };
+        uint32_t wanted = len == 0 ? NLP_NO_PLACE : results[len];
+        finds = finds && nlp_attrs_find(block, len, 1, &attr, &fault) == wanted && attr.offset == (len < 5 ? 0u : 4u) && fault.cause == results[len];
+        fills = fills && nlp_attrs_table(block, len, table, 2, &fault) == results[len] && is_attr(&table[0], 0, 0, 0)
+            && is_attr(&table[1], len < 5 ? 0 : 1, len < 5 ? 0 : 4, len < 5 ? 0 : 1);
+    }
+    expect("a search in each length up to 20", finds);
+    expect("a table of each length up to 20", fills);
+}
+
+static void tables(void)
+{
+    struct nlp_fault fault = { 0, 0, 0, 0 };
+    struct nlp_attr table[7];
+    memset(table, 0xff, sizeof table);
+    expect("a table", nlp_attrs_table(block, WHOLE, table, 6, &fault) == NLP_OK && fault.cause == 0 && is_attr(&table[0], 0, 40, 4)
+        && is_attr(&table[1], 1, 20, 2) && is_attr(&table[2], 0x8002, 12, 4) && is_attr(&table[3], 0x4003, 28, 8)
+        && is_attr(&table[4], 0, 0, 0) && is_attr(&table[5], 5, 48, 0));
+    expect("what follows the table", is_attr(&table[6], 0xffff, SIZE_MAX, SIZE_MAX));
+    memset(table, 0xff, sizeof table);
+    expect("a table before an error", nlp_attrs_table(block, sizeof block, table, 3, &fault) == NLP_ATTR_CUT && is_fault(&fault, 6, 6, 9)
+        && is_attr(&table[0], 0, 40, 4) && is_attr(&table[1], 1, 20, 2) && is_attr(&table[2], 0x8002, 12, 4));
+    expect("what follows a short table", is_attr(&table[3], 0xffff, SIZE_MAX, SIZE_MAX));
+    expect("a table of one entry", nlp_attrs_table(block, WHOLE, table, 1, &fault) == NLP_OK && is_attr(&table[0], 0, 40, 4));
+    expect("a table of no entries", nlp_attrs_table(block, WHOLE, NULL, 0, &fault) == NLP_OK);
+    expect("a table of no entries and an error", nlp_attrs_table(block, sizeof block, NULL, 0, &fault) == NLP_ATTR_CUT);
+    expect("a table of no bytes", nlp_attrs_table(NULL, 0, table, 2, &fault) == NLP_OK && is_attr(&table[0], 0, 0, 0) && is_attr(&table[1], 0, 0, 0));
+}
+
+/* Returns whether each getter of an integer returns this result, and changes nothing. */
+static bool refuse_all(const uint8_t *bytes, size_t len, struct nlp_attr attr, uint32_t result)
+{
+    uint8_t a = 1;
+    uint16_t b = 2;
+    uint32_t c = 3;
+    uint64_t d = 4;
+    return nlp_get_u8(bytes, len, &attr, &a) == result && nlp_get_u16(bytes, len, &attr, &b) == result
+        && nlp_get_u32(bytes, len, &attr, &c) == result && nlp_get_u64(bytes, len, &attr, &d) == result
+        && nlp_get_be16(bytes, len, &attr, &b) == result && nlp_get_be32(bytes, len, &attr, &c) == result
+        && nlp_get_be64(bytes, len, &attr, &d) == result && a == 1 && b == 2 && c == 3 && d == 4;
+}
+
+static void gets_numbers(void)
+{
+    const struct nlp_attr one = { 1, 4, 1 }, two = { 1, 20, 2 }, four = { 0x8002, 12, 4 }, eight = { 0x4003, 28, 8 };
+    uint8_t a = 1;
+    uint16_t b = 2;
+    uint32_t c = 3;
+    uint64_t d = 4;
+    expect("1 byte", nlp_get_u8(block, WHOLE, &one, &a) == NLP_OK && a == 0xaa);
+    expect("2 bytes", nlp_get_u16(block, WHOLE, &two, &b) == NLP_OK && b == 0xccbb);
+    expect("2 bytes, big-endian", nlp_get_be16(block, WHOLE, &two, &b) == NLP_OK && b == 0xbbcc);
+    expect("4 bytes", nlp_get_u32(block, WHOLE, &four, &c) == NLP_OK && c == 0x04030201);
+    expect("4 bytes, big-endian", nlp_get_be32(block, WHOLE, &four, &c) == NLP_OK && c == 0x01020304);
+    expect("8 bytes", nlp_get_u64(block, WHOLE, &eight, &d) == NLP_OK && d == 0x0807060504030201);
+    expect("8 bytes, big-endian", nlp_get_be64(block, WHOLE, &eight, &d) == NLP_OK && d == 0x0102030405060708);
+    expect("2 bytes are not 1", nlp_get_u8(block, WHOLE, &two, &a) == NLP_WRONG_SIZE && a == 0xaa);
+    expect("4 bytes are not 2", nlp_get_u16(block, WHOLE, &four, &b) == NLP_WRONG_SIZE && b == 0xbbcc);
+    expect("8 bytes are not 4", nlp_get_be32(block, WHOLE, &eight, &c) == NLP_WRONG_SIZE && c == 0x01020304);
+    expect("4 bytes are not 8", nlp_get_be64(block, WHOLE, &four, &d) == NLP_WRONG_SIZE && d == 0x0102030405060708);
+    expect("no value", refuse_all(block, WHOLE, (struct nlp_attr){ 5, 48, 0 }, NLP_WRONG_SIZE));
+    expect("3 bytes", refuse_all(block, WHOLE, (struct nlp_attr){ 1, 4, 3 }, NLP_WRONG_SIZE));
+    expect("an absent attribute", refuse_all(block, WHOLE, (struct nlp_attr){ 0, 0, 0 }, NLP_NO_PLACE));
+    expect("an attribute after the block", refuse_all(block, WHOLE, (struct nlp_attr){ 1, 49, 0 }, NLP_NO_PLACE));
+    expect("an attribute that ends after the block", refuse_all(block, 11, (struct nlp_attr){ 1, 4, 8 }, NLP_NO_PLACE));
+    expect("an offset that is too large", refuse_all(block, WHOLE, (struct nlp_attr){ 1, SIZE_MAX, 2 }, NLP_NO_PLACE));
+    expect("a size that is too large", refuse_all(block, WHOLE, (struct nlp_attr){ 1, 2, SIZE_MAX }, NLP_NO_PLACE));
+    expect("an attribute of no bytes", refuse_all(NULL, 0, (struct nlp_attr){ 1, 4, 1 }, NLP_NO_PLACE));
+}
+
+static void gets_bytes(void)
+{
+    const struct nlp_attr two = { 1, 20, 2 }, eight = { 3, 28, 8 }, name = { 0, 40, 4 }, none = { 5, 48, 0 }, absent = { 0, 0, 0 };
+    uint8_t bytes[9];
+    struct nlp_part text = { 1, 1 };
+    memset(bytes, 0xff, sizeof bytes);
+    expect("7 of 8 bytes", nlp_get_bytes(block, WHOLE, &eight, bytes, 7) == NLP_WRONG_SIZE && bytes[0] == 0xff);
+    expect("9 of 8 bytes", nlp_get_bytes(block, WHOLE, &eight, bytes, 9) == NLP_WRONG_SIZE && bytes[0] == 0xff);
+    expect("bytes of an absent attribute", nlp_get_bytes(block, WHOLE, &absent, bytes, 8) == NLP_NO_PLACE && bytes[0] == 0xff);
+    expect("8 bytes", nlp_get_bytes(block, WHOLE, &eight, bytes, 8) == NLP_OK && memcmp(bytes, block + 28, 8) == 0 && bytes[8] == 0xff);
+    expect("no bytes", nlp_get_bytes(block, WHOLE, &none, NULL, 0) == NLP_OK);
+    expect("no absent bytes", nlp_get_bytes(NULL, 0, &absent, NULL, 0) == NLP_NO_PLACE);
+    expect("a text of an absent attribute", nlp_get_str(block, WHOLE, &absent, &text) == NLP_NO_PLACE && text.offset == 1 && text.size == 1);
+    expect("a text after the block", nlp_get_str(block, 43, &name, &text) == NLP_NO_PLACE && text.offset == 1 && text.size == 1);
+    expect("a text up to its zero", nlp_get_str(block, WHOLE, &name, &text) == NLP_OK && text.offset == 40 && text.size == 2);
+    expect("a text without a zero", nlp_get_str(block, WHOLE, &two, &text) == NLP_OK && text.offset == 20 && text.size == 2);
+    expect("a text of no bytes", nlp_get_str(block, WHOLE, &none, &text) == NLP_OK && text.offset == 48 && text.size == 0);
+}
+
+static void puts_values(void)
+{
+    static const uint8_t wanted[32] = { 6, 0, 2, 0, 0x12, 0x34, 0, 0, 8, 0, 3, 0x40, 0x12, 0x34, 0x56, 0x78,
+        12, 0, 4, 0, 1, 2, 3, 4, 5, 6, 7, 8, 4, 0, 5, 0 };
+    uint8_t buffer[32];
+    size_t at = 0;
+    memset(buffer, 0xff, sizeof buffer);
+    expect("2 bytes are put", nlp_attr_put_be16(buffer, sizeof buffer, &at, 2, 0x1234) == NLP_OK && at == 8);
+    expect("no room for 4 bytes", nlp_attr_put_be32(buffer, 15, &at, 3, 1) == NLP_NO_ROOM && at == 8 && buffer[8] == 0xff);
+    expect("4 bytes are put", nlp_attr_put_be32(buffer, sizeof buffer, &at, 0x4003, 0x12345678) == NLP_OK && at == 16);
+    expect("no room for 8 bytes", nlp_attr_put_be64(buffer, 27, &at, 4, 1) == NLP_NO_ROOM && at == 16 && buffer[16] == 0xff);
+    expect("8 bytes are put", nlp_attr_put_be64(buffer, sizeof buffer, &at, 4, 0x0102030405060708) == NLP_OK && at == 28);
+    expect("no room for a flag", nlp_attr_put_flag(buffer, 31, &at, 5) == NLP_NO_ROOM && at == 28 && buffer[28] == 0xff);
+    expect("a flag is put", nlp_attr_put_flag(buffer, sizeof buffer, &at, 5) == NLP_OK && at == 32);
+    expect("no room for 2 bytes", nlp_attr_put_be16(buffer, sizeof buffer, &at, 2, 1) == NLP_NO_ROOM && at == 32);
+    expect("the bytes of what was put", memcmp(buffer, wanted, sizeof wanted) == 0);
+}
+
+static bool is_message(const struct nlp_message *m, uint32_t length, uint16_t type, size_t offset, size_t size)
+{
+    return m->header.length == length && m->header.message_type == type && m->payload.offset == offset && m->payload.size == size;
+}
+
+static void messages(void)
+{
+    /* A message with a payload of 1 byte and its padding, one without a payload, and 4 bytes. */
+    static const uint8_t bytes[40] = { 17, 0, 0, 0, 18, 0, 1, 3, 7, 0, 0, 0, 9, 0, 0, 0, 0xbb, 0, 0, 0, 16, 0, 0, 0, 20, 0, 0, 0, 0, 0, 0, 0, 0, 0, 0, 0, 1, 2, 3, 4 };
+    struct nlp_fault fault = { 0, 0, 0, 0 };
+    struct nlp_message m = { { 1, 1, 1, 1, 1 }, { 1, 1 } };
+    size_t at = 0;
+    expect("no message in no bytes", nlp_messages_next(NULL, 0, &at, &m, &fault) == NLP_END && at == 0 && is_message(&m, 1, 1, 1, 1));
+    expect("a truncated message", nlp_messages_next(bytes, 16, &at, &m, &fault) == NLP_FRAME_CUT && at == 16 && is_fault(&fault, 10, 16, 17) && is_message(&m, 1, 1, 1, 1));
+    at = 0;
+    expect("the first message", nlp_messages_next(bytes, sizeof bytes, &at, &m, &fault) == NLP_OK && at == 20 && is_message(&m, 17, 18, 16, 1)
+        && m.header.flags == 0x301 && m.header.sequence_number == 7 && m.header.port_number == 9);
+    expect("the second message", nlp_messages_next(bytes, sizeof bytes, &at, &m, &fault) == NLP_OK && at == 36 && is_message(&m, 16, 20, 36, 0));
+    expect("no third message", nlp_messages_next(bytes, sizeof bytes, &at, &m, &fault) == NLP_FRAME_SHORT && at == 40 && is_fault(&fault, 9, 4, 0) && is_message(&m, 16, 20, 36, 0));
+    expect("the end of the messages", nlp_messages_next(bytes, sizeof bytes, &at, &m, &fault) == NLP_END && at == 40);
+    at = SIZE_MAX;
+    expect("messages past the end", nlp_messages_next(bytes, sizeof bytes, &at, &m, &fault) == NLP_END && at == SIZE_MAX);
+}
+
+/* Returns whether the attributes of a message with this payload are these, or unchanged at (1, 1). */
+static bool has_attributes(size_t offset, size_t size, size_t fixed, uint32_t result, size_t start, size_t left)
+{
+    const struct nlp_message m = { { 0, 0, 0, 0, 0 }, { offset, size } };
+    struct nlp_part part = { 1, 1 };
+    return nlp_message_attrs(&m, fixed, &part) == result && part.offset == start && part.size == left;
+}
+
+static void attributes(void)
+{
+    expect("no fixed header", has_attributes(16, 8, 0, NLP_OK, 16, 8));
+    expect("a fixed header", has_attributes(16, 8, 4, NLP_OK, 20, 4));
+    expect("a fixed header alone", has_attributes(16, 8, 8, NLP_OK, 24, 0));
+    expect("a fixed header and its padding", has_attributes(16, 12, 5, NLP_OK, 24, 4));
+    expect("a fixed header that is short", has_attributes(16, 8, 9, NLP_WRONG_SIZE, 1, 1));
+    expect("padding that is short", has_attributes(16, 6, 5, NLP_OK, 22, 0));
+    expect("no payload", has_attributes(36, 0, 1, NLP_WRONG_SIZE, 1, 1));
+    expect("a fixed header that is too large", has_attributes(16, 8, SIZE_MAX, NLP_WRONG_SIZE, 1, 1));
+    expect("an offset that is too large", has_attributes(SIZE_MAX, 1, 0, NLP_NO_PLACE, 1, 1));
+    expect("a size that is too large", has_attributes(1, SIZE_MAX, 0, NLP_NO_PLACE, 1, 1));
+    expect("the largest size", has_attributes(0, SIZE_MAX, SIZE_MAX, NLP_OK, SIZE_MAX, 0));
+}
+
+int main(void)
+{
+    finds();
+    lengths();
+    tables();
+    gets_numbers();
+    gets_bytes();
+    puts_values();
+    messages();
+    attributes();
+    printf("%d passed, %d failed\n", passed, failed);
+    return failed != 0;
+}
