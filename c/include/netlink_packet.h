@@ -19,8 +19,8 @@
  * which is NLP_NO_ROOM); struct nlp_fault then holds the error's other numbers. Proved of each
  * function: NLP_OK and NLP_END leave the fault unchanged. Any other result leaves all other outputs
  * unchanged, except the cursor of a walk, the state of an answer, `*size` at NLP_NO_ROOM, and the
- * outputs of nlp_ext_ack_path, nlp_attrs_find and nlp_attrs_table. NLP_NO_ROOM leaves the fault unchanged
- * too, but no contract states that.
+ * outputs of nlp_ext_ack_path, nlp_attrs_find, nlp_attrs_table and nlp_attrs_validate. NLP_NO_ROOM and
+ * NLP_WRONG_SIZE leave the fault unchanged too; of NLP_NO_ROOM no contract states that.
  *
  * If you know libmnl:
  *
@@ -69,8 +69,7 @@ enum {
     NLP_END = 32,           /* a walk is at its end                                                */
     NLP_TOO_LONG = 33,      /* more than a length field can count; nothing is changed              */
     NLP_NO_PLACE = 34,      /* there is no such location or attribute; nothing is changed          */
-    NLP_WRONG_SIZE = 35     /* a value has another size, or a payload is shorter than its fixed header;
-                             * nothing is changed */
+    NLP_WRONG_SIZE = 35     /* a value has another size, or a payload is shorter than its fixed header */
 };
 
 /* What a frame means to a request. `code` is 0 and the other parts have size 0 where the last column
@@ -82,6 +81,13 @@ enum {
     NLP_REJECTED = 4,       /* an error message with another code            code, request, attributes */
     NLP_OVERRUN = 5,        /* data was lost; the kernel has never sent one                        */
     NLP_OTHER = 6           /* no part of the answer: it has other numbers, or follows the end     */
+};
+
+/* What a row of a policy states of the size of a value. */
+enum {
+    NLP_EXACTLY = 1,
+    NLP_AT_LEAST = 2,
+    NLP_AT_MOST = 3
 };
 
 /* The flag bits of an attribute's kind (linux/netlink.h: NLA_F_NESTED and so on). */
@@ -117,6 +123,13 @@ struct nlp_attr {
     uint16_t kind; /* with its flag bits */
     size_t offset; /* where its value starts, from the start of the block (not from the cursor) */
     size_t size;   /* the size of its value */
+};
+
+/* A row of a policy: the size that the values of a kind have. */
+struct nlp_policy {
+    uint16_t kind;  /* without flag bits */
+    uint16_t shape; /* NLP_EXACTLY, NLP_AT_LEAST or NLP_AT_MOST; any other number: any size */
+    size_t size;
 };
 
 /* A message of a datagram. */
@@ -267,6 +280,15 @@ uint32_t nlp_attrs_find(const uint8_t *block, size_t len, uint16_t kind, struct 
  * Proved: each entry, and which result. */
 uint32_t nlp_attrs_table(const uint8_t *block, size_t len, struct nlp_attr *table, size_t count,
                          struct nlp_fault *fault);
+
+/* Checks a block against a policy of `count` rows: each attribute must have the size that each row of its
+ * kind states, and an attribute without a row may have any. Two rows of a kind state a range. Compares kinds
+ * without the attribute's flag bits. NLP_WRONG_SIZE: `*item` is the first attribute that does not have its
+ * size, even if the walk ends in an error later. Otherwise the error that ends the walk, or NLP_OK. A getter
+ * then never returns NLP_WRONG_SIZE if a row states that the kind has exactly the getter's size.
+ * Proved: which result, and which attribute; only NLP_WRONG_SIZE changes `*item`. */
+uint32_t nlp_attrs_validate(const uint8_t *block, size_t len, const struct nlp_policy *policy, size_t count,
+                            struct nlp_attr *item, struct nlp_fault *fault);
 
 /* Each of these reads the value of an attribute of the block: an entry of nlp_attrs_table, or what
  * nlp_attrs_find or nlp_attrs_next wrote. NLP_OK; NLP_NO_PLACE if its offset is 0, or if it ends after the

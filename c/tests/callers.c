@@ -97,6 +97,37 @@ static void tables(void)
     expect("a table of no bytes", nlp_attrs_table(NULL, 0, table, 2, &fault) == NLP_OK && is_attr(&table[0], 0, 0, 0) && is_attr(&table[1], 0, 0, 0));
 }
 
+/* Returns whether the block is valid, or has this attribute as its first that is not. */
+static bool validates(size_t len, const struct nlp_policy *policy, size_t count, uint32_t result, uint16_t kind, size_t offset, size_t size)
+{
+    struct nlp_fault fault = { 96, 0, 0, 0 };
+    struct nlp_attr attr = { 99, 98, 97 };
+    uint32_t got = nlp_attrs_validate(block, len, policy, count, &attr, &fault);
+    return got == result && is_attr(&attr, kind, offset, size)
+        && (result == NLP_ATTR_CUT ? is_fault(&fault, 6, 6, 9) : is_fault(&fault, 96, 0, 0));
+}
+
+static void policies(void)
+{
+    const struct nlp_policy fits[6] = { { 2, NLP_EXACTLY, 4 }, { 1, NLP_AT_LEAST, 1 }, { 1, NLP_AT_MOST, 2 }, { 5, NLP_EXACTLY, 0 },
+        { 2, 0, 3 }, { 2, 4, 3 } };
+    const struct nlp_policy two[2] = { { 3, NLP_EXACTLY, 4 }, { 2, NLP_EXACTLY, 3 } };
+    expect("a policy that fits", validates(WHOLE, fits, 6, NLP_OK, 99, 98, 97));
+    expect("a policy of no rows", validates(WHOLE, NULL, 0, NLP_OK, 99, 98, 97));
+    expect("a policy and no bytes", validates(0, two, 2, NLP_OK, 99, 98, 97));
+    expect("a policy that fits before an error", validates(sizeof block, fits, 6, NLP_ATTR_CUT, 99, 98, 97));
+    expect("the first in the block", validates(WHOLE, two, 2, NLP_WRONG_SIZE, 0x8002, 12, 4));
+    expect("the first before an error", validates(sizeof block, two, 2, NLP_WRONG_SIZE, 0x8002, 12, 4));
+    expect("a policy of one row", validates(WHOLE, two, 1, NLP_WRONG_SIZE, 0x4003, 28, 8));
+    expect("exactly 2", validates(WHOLE, &(struct nlp_policy){ 1, NLP_EXACTLY, 2 }, 1, NLP_WRONG_SIZE, 1, 4, 1));
+    expect("exactly 1", validates(WHOLE, &(struct nlp_policy){ 1, NLP_EXACTLY, 1 }, 1, NLP_WRONG_SIZE, 1, 20, 2));
+    expect("at least 2", validates(WHOLE, &(struct nlp_policy){ 1, NLP_AT_LEAST, 2 }, 1, NLP_WRONG_SIZE, 1, 4, 1));
+    expect("at most 1", validates(WHOLE, &(struct nlp_policy){ 1, NLP_AT_MOST, 1 }, 1, NLP_WRONG_SIZE, 1, 20, 2));
+    expect("kind 0", validates(WHOLE, &(struct nlp_policy){ 0, NLP_AT_MOST, 3 }, 1, NLP_WRONG_SIZE, 0, 40, 4));
+    expect("a row with a flag", validates(WHOLE, &(struct nlp_policy){ 0x8002, NLP_EXACTLY, 3 }, 1, NLP_OK, 99, 98, 97));
+    expect("a row of kind 0xffff", validates(WHOLE, &(struct nlp_policy){ 0xffff, NLP_EXACTLY, 3 }, 1, NLP_OK, 99, 98, 97));
+}
+
 /* Returns whether each getter of an integer returns this result, and changes nothing. */
 static bool refuse_all(const uint8_t *bytes, size_t len, struct nlp_attr attr, uint32_t result)
 {
@@ -227,6 +258,7 @@ int main(void)
     finds();
     lengths();
     tables();
+    policies();
     gets_numbers();
     gets_bytes();
     puts_values();

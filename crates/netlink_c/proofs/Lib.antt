@@ -1,6 +1,7 @@
 mod EndLemmas
 mod ItemLemmas
 mod MessageLemmas
+mod PolicyLemmas
 mod PutLemmas
 mod RefusalLemmas
 mod Texts

@@ -8,6 +8,7 @@ pub mod Parts
 pub mod Put
 pub mod Steps
 pub mod Items
+pub mod Policies
 pub mod Gets
 pub mod Messages
 pub mod Texts

@@ -88,7 +88,7 @@ fn clear(table: &mut [AttributeItem])
 /// ends where the view ends.
 #[tactic(auto, using(crate::proofs::ItemLemmas::item_held))]
 #[inline(always)]
-fn item_of(size: usize, nla: &NlaBuffer<&[u8]>) -> AttributeItem
+pub(crate) fn item_of(size: usize, nla: &NlaBuffer<&[u8]>) -> AttributeItem
     requires whole { HoldsAttribute (shown nla.now) }
     requires inside { length (shown nla.now) ≤ size }
     ensures { result ≡ item_at (size - length (shown nla.now)) (attribute_of (shown nla.now)) }

@@ -20,6 +20,7 @@ pub mod kinds;
 pub mod messages;
 pub mod normal;
 pub mod place;
+pub mod policy;
 pub mod protocol_type;
 pub mod put;
 pub mod replies;
