@@ -6,7 +6,7 @@
 //! an error, except for `nlp_attrs_is_canonical`, which returns a `bool`, and `nlp_replies_begin`,
 //! which returns nothing. For an error such as `FrameShort`, the result is the number of that
 //! variant of `DecodeError`, and the numbers of the error are written into a `FaultNumbers`. No
-//! function has a `requires` clause. In C, a slice is a pointer and a number of bytes.
+//! function has a `requires` clause. In C, a slice is a pointer and the number of its elements.
 #![tactic(auto)]
 
 pub mod any;
