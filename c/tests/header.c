@@ -27,9 +27,10 @@ static void constants(void)
         { "NLP_FRAME_CUT", NLP_FRAME_CUT, 10 }, { "NLP_FRAME_LENGTH", NLP_FRAME_LENGTH, 11 }, { "NLP_DONE_SHORT", NLP_DONE_SHORT, 12 },
         { "NLP_ERROR_SHORT", NLP_ERROR_SHORT, 13 }, { "NLP_REFUSED", NLP_REFUSED, 14 }, { "NLP_FRAME_TOO_LONG", NLP_FRAME_TOO_LONG, 15 },
         { "NLP_NO_MEMORY", NLP_NO_MEMORY, 16 }, { "NLP_END", NLP_END, 32 }, { "NLP_TOO_LONG", NLP_TOO_LONG, 33 },
-        { "NLP_NO_PLACE", NLP_NO_PLACE, 34 }, { "NLP_MESSAGE", NLP_MESSAGE, 1 }, { "NLP_DONE", NLP_DONE, 2 },
+        { "NLP_NO_PLACE", NLP_NO_PLACE, 34 }, { "NLP_WRONG_SIZE", NLP_WRONG_SIZE, 35 }, { "NLP_MESSAGE", NLP_MESSAGE, 1 }, { "NLP_DONE", NLP_DONE, 2 },
         { "NLP_ACKNOWLEDGED", NLP_ACKNOWLEDGED, 3 }, { "NLP_REJECTED", NLP_REJECTED, 4 }, { "NLP_OVERRUN", NLP_OVERRUN, 5 },
-        { "NLP_OTHER", NLP_OTHER, 6 }, { "NLA_F_NESTED", NLP_KIND_NESTED, 1 << 15 },
+        { "NLP_OTHER", NLP_OTHER, 6 }, { "NLP_EXACTLY", NLP_EXACTLY, 1 }, { "NLP_AT_LEAST", NLP_AT_LEAST, 2 },
+        { "NLP_AT_MOST", NLP_AT_MOST, 3 }, { "NLA_F_NESTED", NLP_KIND_NESTED, 1 << 15 },
         { "NLA_F_NET_BYTEORDER", NLP_KIND_NET_BYTEORDER, 1 << 14 }, { "NLA_TYPE_MASK", NLP_KIND_MASK, 0x3fff },
     };
     for (size_t at = 0; at < sizeof rows / sizeof rows[0]; at++)
@@ -54,6 +55,11 @@ AT(nlp_header, 12, uint32_t, port_number);
 AT(nlp_attr, 0, uint16_t, kind);
 AT(nlp_attr, 8, size_t, offset);
 AT(nlp_attr, 16, size_t, size);
+AT(nlp_policy, 0, uint16_t, kind);
+AT(nlp_policy, 2, uint16_t, shape);
+AT(nlp_policy, 8, size_t, size);
+AT(nlp_message, 0, struct nlp_header, header);
+AT(nlp_message, 16, struct nlp_part, payload);
 AT(nlp_error, 0, int32_t, code);
 AT(nlp_error, 8, struct nlp_part, request);
 AT(nlp_error, 24, struct nlp_part, attributes);
@@ -75,6 +81,7 @@ typedef uint8_t *out;
 typedef size_t *place;
 typedef struct nlp_fault *fault;
 typedef struct nlp_part *part;
+typedef const struct nlp_attr *attr;
 
 /* Each function has exactly this type. */
 #define IS(name, result, ...) _Static_assert(_Generic(&name, result (*)(__VA_ARGS__): 1, default: 0), #name)
@@ -87,6 +94,20 @@ IS_CALL(nlp_error_body, in, size_t, uint16_t, struct nlp_error *, fault);
 IS_CALL(nlp_done_body, in, size_t, int32_t *, part, fault);
 IS_CALL(nlp_frames_next, in, size_t, place, part, fault);
 IS_CALL(nlp_attrs_next, in, size_t, place, struct nlp_attr *, fault);
+IS_CALL(nlp_messages_next, in, size_t, place, struct nlp_message *, fault);
+IS_CALL(nlp_message_attrs, const struct nlp_message *, size_t, part);
+IS_CALL(nlp_attrs_find, in, size_t, uint16_t, struct nlp_attr *, fault);
+IS_CALL(nlp_attrs_table, in, size_t, struct nlp_attr *, size_t, fault);
+IS_CALL(nlp_attrs_validate, in, size_t, const struct nlp_policy *, size_t, struct nlp_attr *, fault);
+IS_CALL(nlp_get_u8, in, size_t, attr, uint8_t *);
+IS_CALL(nlp_get_u16, in, size_t, attr, uint16_t *);
+IS_CALL(nlp_get_u32, in, size_t, attr, uint32_t *);
+IS_CALL(nlp_get_u64, in, size_t, attr, uint64_t *);
+IS_CALL(nlp_get_be16, in, size_t, attr, uint16_t *);
+IS_CALL(nlp_get_be32, in, size_t, attr, uint32_t *);
+IS_CALL(nlp_get_be64, in, size_t, attr, uint64_t *);
+IS_CALL(nlp_get_bytes, in, size_t, attr, out, size_t);
+IS_CALL(nlp_get_str, in, size_t, attr, part);
 IS(nlp_replies_begin, void, const struct nlp_header *, uint32_t, struct nlp_replies *);
 IS_CALL(nlp_replies_next, in, size_t, place, struct nlp_replies *, struct nlp_reply *, fault);
 IS_CALL(nlp_ext_ack_text, in, size_t, part);
@@ -102,6 +123,10 @@ IS_CALL(nlp_attr_put_u8, out, size_t, place, uint16_t, uint8_t);
 IS_CALL(nlp_attr_put_u16, out, size_t, place, uint16_t, uint16_t);
 IS_CALL(nlp_attr_put_u32, out, size_t, place, uint16_t, uint32_t);
 IS_CALL(nlp_attr_put_u64, out, size_t, place, uint16_t, uint64_t);
+IS_CALL(nlp_attr_put_be16, out, size_t, place, uint16_t, uint16_t);
+IS_CALL(nlp_attr_put_be32, out, size_t, place, uint16_t, uint32_t);
+IS_CALL(nlp_attr_put_be64, out, size_t, place, uint16_t, uint64_t);
+IS_CALL(nlp_attr_put_flag, out, size_t, place, uint16_t);
 IS_CALL(nlp_attr_put_str, out, size_t, place, uint16_t, in, size_t);
 IS_CALL(nlp_nest_begin, out, size_t, place, uint16_t);
 IS_CALL(nlp_nest_end, out, size_t, size_t, size_t);
