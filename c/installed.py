@@ -81,10 +81,11 @@ def run_plus(prefix, lib, folder):
         skip("cplusplus", "the machine has no C++ compiler")
         return
     program = os.path.join(folder, "plus")
-    words = ["c++", "-std=c++11", *WARNINGS, os.path.join(HERE, "tests", "plus.cpp"), "-o", program]
-    made = run([*words, "-I", os.path.join(prefix, "include"), "-L", lib, "-lnetlink_packet"])
-    holds = made.returncode == 0 and run([program], LD_LIBRARY_PATH=lib).stdout == "4: 1400\n"
-    note("a program in C++", holds, made.stderr)
+    for standard in "c++11", "c++17":
+        words = ["c++", f"-std={standard}", *WARNINGS, os.path.join(HERE, "tests", "plus.cpp"), "-o", program]
+        made = run([*words, "-I", os.path.join(prefix, "include"), "-L", lib, "-lnetlink_packet"])
+        holds = made.returncode == 0 and run([program], LD_LIBRARY_PATH=lib).stdout == "4: 1400\n"
+        note(f"a program in {standard}", holds, made.stderr)
 
 
 def run_cmake(prefix, folder):

@@ -14,7 +14,7 @@ sys.path.append(os.path.join(os.path.dirname(HERE), "tests"))
 from libraries import TOP, kit  # noqa: E402 (it is in that folder)
 
 # The standard headers that heap.c, the tests and the examples include. The toolchain's clang has none.
-HEADERS = "inttypes stdbool stddef stdint stdio stdlib string sys/socket unistd".split()
+HEADERS = "inttypes stdbool stddef stdint stdio stdlib string sys/mman sys/socket unistd".split()
 
 
 def compiler():
@@ -62,10 +62,10 @@ def captured(*names):
     return [os.path.join(TOP, "examples", "captured", name + ".bin") for name in names]
 
 
-def has_route_socket():
-    """Returns whether this machine can open a socket of route netlink."""
+def has_route_socket(socket_of=0):
+    """Returns whether this machine can open a socket of route netlink, or of another kind of netlink (16: generic)."""
     try:
-        with socket.socket(socket.AF_NETLINK, socket.SOCK_RAW, 0):
+        with socket.socket(socket.AF_NETLINK, socket.SOCK_RAW, socket_of):
             return True
     except OSError:
         return False

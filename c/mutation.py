@@ -18,6 +18,7 @@ ALIKE = [
     ["nlp_ext_ack_text", "nlp_ext_ack_cookie", "nlp_ext_ack_policy"],
     ["nlp_ext_ack_offset", "nlp_ext_ack_missing_type", "nlp_ext_ack_missing_nest"],
     ["nlp_attrs_normalize", "nlp_frame_normalize"],
+    *([f"nlp_attr_put_u{width}", f"nlp_attr_put_be{width}"] for width in (16, 32, 64)),
     ["Refusal::NoRoom", "Refusal::TooLong", "Refusal::NoPlace"],
     ["Fault::Refused", "Fault::TooLong", "Fault::OutOfMemory"],
     ["Fault::FrameShort", "Fault::DoneShort", "Fault::ErrorShort"],
@@ -84,8 +85,9 @@ def results_of(kind):
 
 
 def changed_parts(line):
-    """Yields the line with each part replaced. Comments stay."""
-    code = re.split(r"//|/\*", line)[0]
+    """Yields the line with each part replaced. Comments stay, and so do the arguments that the compiler checks for NULL:
+    they only add warnings."""
+    code = re.split(r"//|/\*|NLP_(?:CHECKED|NONNULL)\(", line)[0]
     for pattern, change in PARTS:
         for found in pattern.finditer(code):
             yield line[: found.start()] + change(found[0]) + line[found.end() :]
@@ -114,7 +116,8 @@ def rust_lines(lines):
 
 
 def header_lines(lines):
-    """Yields the same for the header: other values, other types of fields and functions, and fields that are exchanged."""
+    """Yields the same for the header: other values, other types of fields and functions, fields that are exchanged, and
+    statements that are left out."""
     in_comment, in_struct = False, False
     for at, line in enumerate(lines):
         in_comment = in_comment or line.startswith("/*")
@@ -125,6 +128,8 @@ def header_lines(lines):
                 for found in re.finditer(rf"(?<![\w(]){old}\b(?!\))", code):
                     yield at, line[: found.start()] + new + line[found.end() :]
         in_struct = line.startswith("struct ") and line.endswith("{") or in_struct and line != "};"
+        if not in_comment and not in_struct and STATEMENT.match(line) and line.count("(") == line.count(")"):
+            yield at, ""
         if in_struct and lines[at + 1].startswith("    ") and line.startswith("    "):
             yield at, f"{lines[at + 1]}\n{line}{TWO}"
         in_comment = in_comment and "*/" not in line

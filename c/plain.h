@@ -45,8 +45,18 @@ int64_t send(int fd, const void *bytes, size_t size, int flags);
 int64_t recv(int fd, void *bytes, size_t size, int flags);
 int close(int fd);
 
+#define PROT_NONE 0
+#define PROT_READ 1
+#define PROT_WRITE 2
+#define MAP_PRIVATE 2
+#define MAP_ANONYMOUS 0x20
+#define MAP_FAILED ((void *)-1)
+void *mmap(void *at, size_t size, int protection, int flags, int fd, int64_t offset);
+int mprotect(void *at, size_t size, int protection);
+
 int memcmp(const void *left, const void *right, size_t size);
 void *memcpy(void *to, const void *from, size_t size);
+void *memchr(const void *bytes, int value, size_t size);
 void *memset(void *bytes, int value, size_t size);
 size_t strlen(const char *text);
 

@@ -1,6 +1,6 @@
 //! libmnl, as a C program calls it.
 
-use std::ffi::{c_int, c_void};
+use std::ffi::{c_int, c_uint, c_void};
 
 extern "C" {
     fn mnl_nlmsg_ok(nlh: *const c_void, len: c_int) -> bool;
@@ -13,6 +13,13 @@ extern "C" {
     fn mnl_attr_get_type(attr: *const c_void) -> u16;
     fn mnl_attr_get_payload_len(attr: *const c_void) -> u16;
     fn mnl_attr_get_payload(attr: *const c_void) -> *mut c_void;
+    fn mnl_attr_type_valid(attr: *const c_void, max: u16) -> c_int;
+    fn mnl_attr_parse(
+        nlh: *const c_void,
+        offset: c_uint,
+        call: extern "C" fn(*const c_void, *mut c_void) -> c_int,
+        data: *mut c_void,
+    ) -> c_int;
     fn mnl_attr_put_u32_check(nlh: *mut c_void, buflen: usize, kind: u16, data: u32) -> bool;
     fn mnl_attr_put_check(nlh: *mut c_void, buflen: usize, kind: u16, len: usize, data: *const c_void) -> bool;
 }
@@ -76,6 +83,50 @@ pub fn split(bytes: &[u8]) -> usize {
     unsafe {
         while mnl_nlmsg_ok(frame, left) {
             sum += mnl_nlmsg_get_payload_len(frame) + 16;
+            frame = mnl_nlmsg_next(frame, &mut left);
+        }
+    }
+    sum
+}
+
+struct Table {
+    attributes: *mut *const c_void,
+    most: u16,
+}
+
+/// Puts an attribute into a table by kind, as the callbacks of libmnl's examples do.
+extern "C" fn enter(attr: *const c_void, table: *mut c_void) -> c_int {
+    unsafe {
+        let table = &*table.cast::<Table>();
+        if mnl_attr_type_valid(attr, table.most) > 0 {
+            *table.attributes.add(mnl_attr_get_type(attr) as usize) = attr;
+        }
+    }
+    1
+}
+
+/// Fills a table of `count` entries, and returns the size of the value of the last.
+pub fn table(frame: &[u8], count: usize, out: &mut [u8]) -> usize {
+    unsafe {
+        let attributes = &mut out.align_to_mut::<*const c_void>().1[..count];
+        attributes.fill(std::ptr::null());
+        let mut table = Table { attributes: attributes.as_mut_ptr(), most: (count - 1) as u16 };
+        mnl_attr_parse(frame.as_ptr().cast(), 0, enter, (&raw mut table).cast());
+        mnl_attr_get_payload_len(attributes[count - 1]) as usize
+    }
+}
+
+/// Reads the type and the size of each message, and locates its payload.
+pub fn messages(bytes: &[u8]) -> usize {
+    let mut frame = bytes.as_ptr().cast::<c_void>();
+    let mut left = bytes.len() as c_int;
+    let mut sum = 0;
+    unsafe {
+        while mnl_nlmsg_ok(frame, left) {
+            let payload = mnl_nlmsg_get_payload(frame) as usize - frame as usize;
+            let header = frame.cast::<u8>();
+            sum += header.add(4).cast::<u16>().read_unaligned() as usize;
+            sum += header.cast::<u32>().read_unaligned() as usize - payload;
             frame = mnl_nlmsg_next(frame, &mut left);
         }
     }

@@ -36,6 +36,15 @@ fn block(count: usize) -> Vec<u8> {
     bytes
 }
 
+/// Returns a frame of type 18 whose payload is a block of `count` attributes.
+fn message(count: usize) -> Vec<u8> {
+    let mut bytes = frame(0);
+    bytes.extend(block(count));
+    let size = bytes.len() as u32;
+    bytes[..4].copy_from_slice(&size.to_ne_bytes());
+    bytes
+}
+
 /// Returns a datagram of `count` frames of 20 bytes.
 fn datagram(count: usize) -> Vec<u8> {
     (0..count).flat_map(|_| frame(4)).collect()
@@ -50,7 +59,8 @@ fn input(case: &str, size: usize) -> Vec<u8> {
             bytes.pop();
             bytes
         }
-        "split" => datagram(size),
+        "split" | "messages" => datagram(size),
+        "table" => message(size),
         _ => block(size),
     }
 }
@@ -78,6 +88,10 @@ fn once(case: &str, library: &str, size: usize, bytes: &[u8], out: &mut [u8]) ->
         ("split", "ours") => ours::split(bytes),
         ("split", "rust") => rust_crate::split(bytes),
         ("split", "libmnl") => libmnl::split(bytes),
+        ("table", "ours") => ours::table(&bytes[16..], size, out),
+        ("table", "libmnl") => libmnl::table(bytes, size, out),
+        ("messages", "ours") => ours::messages(bytes),
+        ("messages", "libmnl") => libmnl::messages(bytes),
         _ => panic!("no such case: {case} {library}"),
     }
 }
@@ -92,6 +106,8 @@ fn print_cases() {
         ("put", "ours rust libmnl", &COUNTS[..]),
         ("normalise", "ours rust libmnl", &COUNTS[..]),
         ("split", "ours rust libmnl", &COUNTS[..]),
+        ("table", "ours libmnl", &COUNTS[..]),
+        ("messages", "ours libmnl", &COUNTS[..]),
     ] {
         for size in sizes {
             println!("{case} {size} {libraries}");
@@ -106,7 +122,8 @@ fn main() {
     };
     let (size, times): (usize, usize) = (size.parse().unwrap(), times.parse().unwrap());
     let bytes = input(case, size);
-    let mut out = vec![0; 32 + bytes.len()];
+    // A table of this library has 24 bytes for each attribute of 8.
+    let mut out = vec![0; 32 + 4 * bytes.len()];
     let mut sum = 0usize;
     let start = std::time::Instant::now();
     for _ in 0..times {

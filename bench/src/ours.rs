@@ -34,12 +34,27 @@ struct Attr {
     size: usize,
 }
 
+#[repr(C)]
+#[derive(Clone, Copy, Default)]
+struct Message {
+    header: Header,
+    payload: Part,
+}
+
 extern "C" {
     fn nlp_frame_check(bytes: *const u8, len: usize, fault: *mut Fault) -> u32;
     fn nlp_frame_header(bytes: *const u8, len: usize, header: *mut Header, fault: *mut Fault) -> u32;
     fn nlp_frame_payload(bytes: *const u8, len: usize, payload: *mut Part, fault: *mut Fault) -> u32;
     fn nlp_frames_next(bytes: *const u8, len: usize, cursor: *mut usize, item: *mut Part, fault: *mut Fault) -> u32;
     fn nlp_attrs_next(bytes: *const u8, len: usize, cursor: *mut usize, item: *mut Attr, fault: *mut Fault) -> u32;
+    fn nlp_attrs_table(bytes: *const u8, len: usize, table: *mut Attr, count: usize, fault: *mut Fault) -> u32;
+    fn nlp_messages_next(
+        bytes: *const u8,
+        len: usize,
+        cursor: *mut usize,
+        item: *mut Message,
+        fault: *mut Fault,
+    ) -> u32;
     fn nlp_attr_put_u32(buffer: *mut u8, capacity: usize, cursor: *mut usize, kind: u16, value: u32) -> u32;
     fn nlp_attrs_normalize(
         bytes: *const u8,
@@ -118,6 +133,27 @@ pub fn split(bytes: &[u8]) -> usize {
     let mut sum = 0;
     while unsafe { nlp_frames_next(bytes.as_ptr(), bytes.len(), &mut at, &mut item, &mut fault) } == 0 {
         sum += item.size;
+    }
+    sum
+}
+
+/// Fills a table of `count` entries, and returns the size of the value of the last.
+pub fn table(block: &[u8], count: usize, out: &mut [u8]) -> usize {
+    let mut fault = Fault::default();
+    unsafe {
+        let table = &mut out.align_to_mut::<Attr>().1[..count];
+        nlp_attrs_table(block.as_ptr(), block.len(), table.as_mut_ptr(), count, &mut fault);
+        table[count - 1].size
+    }
+}
+
+pub fn messages(bytes: &[u8]) -> usize {
+    let mut at = 0;
+    let mut item = Message::default();
+    let mut fault = Fault::default();
+    let mut sum = 0;
+    while unsafe { nlp_messages_next(bytes.as_ptr(), bytes.len(), &mut at, &mut item, &mut fault) } == 0 {
+        sum += item.header.message_type as usize + item.payload.size;
     }
     sum
 }

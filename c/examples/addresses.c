@@ -7,16 +7,18 @@
 enum { NLMSG_ERROR = 2, NLMSG_DONE = 3, RTM_NEWADDR = 20, IFADDRMSG = 8, IFA_ADDRESS = 1 };
 
 /* Prints one message, like libmnl's callback with mnl_attr_for_each. */
-static int print_address(const uint8_t *payload, size_t len)
+static int print_address(const uint8_t *bytes, const struct nlp_message *message)
 {
-    if (len < IFADDRMSG)
-        return -1;
-    const uint8_t *block = payload + IFADDRMSG;
+    const uint8_t *payload = bytes + message->payload.offset;
     size_t at = 0;
+    struct nlp_part part;
     struct nlp_attr attr;
     struct nlp_fault fault;
     uint32_t answer;
-    while ((answer = nlp_attrs_next(block, len - IFADDRMSG, &at, &attr, &fault)) == NLP_OK) {
+    if (nlp_message_attrs(message, IFADDRMSG, &part) != NLP_OK)
+        return -1;
+    const uint8_t *block = bytes + part.offset;
+    while ((answer = nlp_attrs_next(block, part.size, &at, &attr, &fault)) == NLP_OK) {
         if ((attr.kind & NLP_KIND_MASK) != IFA_ADDRESS)
             continue;
         printf("%u ", (unsigned)nlp_u32(payload + 4));
@@ -27,24 +29,20 @@ static int print_address(const uint8_t *payload, size_t len)
     return answer == NLP_END ? 0 : -1;
 }
 
-/* Walks the frames of a datagram, like mnl_cb_run. Returns 1 if more datagrams follow, 0 after the last
+/* Walks the messages of a datagram, like mnl_cb_run. Returns 1 if more datagrams follow, 0 after the last
  * message, or -1. */
 static int run(const uint8_t *bytes, size_t len)
 {
     size_t at = 0;
-    struct nlp_part frame, payload;
-    struct nlp_header header;
+    struct nlp_message message;
     struct nlp_fault fault;
     uint32_t answer;
-    while ((answer = nlp_frames_next(bytes, len, &at, &frame, &fault)) == NLP_OK) {
-        const uint8_t *message = bytes + frame.offset;
-        nlp_frame_header(message, frame.size, &header, &fault);
-        nlp_frame_payload(message, frame.size, &payload, &fault);
-        if (header.message_type == NLMSG_DONE)
+    while ((answer = nlp_messages_next(bytes, len, &at, &message, &fault)) == NLP_OK) {
+        if (message.header.message_type == NLMSG_DONE)
             return 0;
-        if (header.message_type == NLMSG_ERROR)
+        if (message.header.message_type == NLMSG_ERROR)
             return -1;
-        if (header.message_type == RTM_NEWADDR && print_address(message + payload.offset, payload.size) != 0)
+        if (message.header.message_type == RTM_NEWADDR && print_address(bytes, &message) != 0)
             return -1;
     }
     return answer == NLP_END ? 1 : -1;

@@ -2,25 +2,34 @@
  *
  * netlink_packet.h: netlink messages, read and written in place.
  *
- * The functions below are compiled from code that is proved: each meets its contract for every
- * input, reads and writes only the bytes that it is passed, never overflows, and returns. "Proved:"
- * states a function's contract in plain words. Nothing checks the C caller, which must guarantee:
+ * The functions up to "plain C" are compiled from code that is proved: each meets its contract for every
+ * input, reads and writes only the bytes that it is passed, never overflows, and returns. "Proved:" states
+ * a function's contract in plain words. Nothing checks the C caller, which must guarantee:
  *
- *  - A pointer and a length are bytes that the function may read (const) or write, and no other
- *    thread writes them meanwhile. If the length is 0, the pointer may be NULL.
+ *  - A pointer and a length are bytes that the function may read (const) or write, and no other thread
+ *    writes them meanwhile. If the length is 0, the pointer may be NULL. The same holds for the elements
+ *    of a table, of a policy, and of the kinds of a path.
  *  - Pointers to cursors and structs are not NULL. The memory passed to one call does not overlap,
  *    except for bytes that are only read.
  *
- * Sizes, offsets, cursors and lengths are in bytes. All numbers on the wire are in native byte
- * order; the library is for 64-bit little-endian machines. No function keeps a pointer or owns
- * memory after it returns. Only the four functions that say so allocate.
+ * Sizes, offsets, cursors and lengths are in bytes. Bytes need no alignment. All numbers on the wire are in
+ * native byte order, except those that a function's name calls _be. No function keeps a pointer or owns
+ * memory after it returns. Only the four functions that say so allocate. The library has no other state, so
+ * threads may call it at once.
  *
- * A function returns NLP_OK, another result below, or the number of an error (1 to 16, except 8,
- * which is NLP_NO_ROOM); struct nlp_fault then holds the error's other numbers. Proved of each
- * function: NLP_OK and NLP_END leave the fault unchanged. Any other result leaves all other outputs
- * unchanged, except the cursor of a walk, the state of an answer, `*size` at NLP_NO_ROOM, and the
- * outputs of nlp_ext_ack_path, nlp_attrs_find, nlp_attrs_table and nlp_attrs_validate. NLP_NO_ROOM and
- * NLP_WRONG_SIZE leave the fault unchanged too; of NLP_NO_ROOM no contract states that.
+ * What a call returns, and what it then changes:
+ *
+ *  - NLP_OK: the outputs are written. The fault is unchanged.
+ *  - NLP_END: nothing is left to walk. Nothing is changed.
+ *  - The number of an error (5 to 16, except 8): a function with a fault writes the fault, with the numbers
+ *    that the enum below lists for this error.
+ *  - NLP_NO_ROOM, NLP_TOO_LONG, NLP_NO_PLACE, NLP_WRONG_SIZE and NLP_WRONG_SHAPE leave the fault unchanged;
+ *    of NLP_NO_ROOM no contract states that.
+ *
+ * Proved of each function: unless it returns NLP_OK, it changes nothing but the fault, the cursor of a walk,
+ * the state of an answer, `*size` at NLP_NO_ROOM, the offset of nlp_attrs_validate, and the outputs of
+ * nlp_ext_ack_path, nlp_attrs_find and nlp_attrs_table. So you may set an output to a default value, and
+ * ignore the result of a getter. The compiler warns if you ignore any other result.
  *
  * If you know libmnl:
  *
@@ -28,16 +37,20 @@
  *   nlh->nlmsg_type, nlh->nlmsg_flags    message.header.message_type, message.header.flags
  *   mnl_nlmsg_get_payload                bytes + message.payload.offset, message.payload.size
  *   mnl_attr_parse with a callback       nlp_message_attrs, and nlp_attrs_table over that block
- *   mnl_attr_for_each                    nlp_attrs_next, on the bytes after the sub-protocol's struct
+ *   mnl_attr_for_each                    nlp_attrs_next over that block
+ *   mnl_attr_parse_nested                nlp_attrs_table over block + attr.offset, attr.size
  *   mnl_attr_for_each_nested             nlp_attrs_next over block + attr.offset, attr.size
  *   mnl_attr_get_type                    attr.kind & NLP_KIND_MASK
  *   mnl_attr_get_payload, _payload_len   block + attr.offset, attr.size
- *   mnl_attr_validate, mnl_attr_get_u32  nlp_get_u32, which checks the size
+ *   mnl_attr_validate, mnl_attr_get_u32  nlp_get_u32, which checks the size; nlp_attrs_validate for all
  *   mnl_attr_get_str                     nlp_get_str: a part, since the value may lack the final zero
- *   mnl_nlmsg_put_header, _extra_header  nlp_frame_put, and nlp_frame_end once all is put
- *   mnl_attr_put_check, _u32_check, ..   nlp_attr_put, nlp_attr_put_u32, ..
- *   mnl_attr_nest_start, _end, _cancel   nlp_nest_begin, nlp_nest_end; to cancel, restore the old cursor
+ *   mnl_nlmsg_put_header, _extra_header  nlp_writer_frame, and nlp_writer_frame_end once all is put
+ *   mnl_attr_put_u32, .._strz            nlp_writer_put_u32, nlp_writer_put_str, ..: check writer.failed
+ *   mnl_attr_put_u32_check, ..           nlp_attr_put_u32, ..: check each result
+ *   mnl_attr_nest_start, _end, _cancel   nlp_writer_nest, nlp_writer_nest_end, nlp_writer_nest_cancel
  *   mnl_cb_run                           nlp_replies_next, which also says when the answer is complete
+ *
+ * c/examples has rtnl-link-dump and genl-family-get of libmnl over this header.
  */
 #ifndef NETLINK_PACKET_H
 #define NETLINK_PACKET_H
@@ -45,6 +58,22 @@
 #include <stdbool.h>
 #include <stddef.h>
 #include <stdint.h>
+#include <string.h>
+
+#if !defined(__x86_64__) || defined(__ILP32__) || !defined(__linux__)
+#error "the netlink_packet library is built for Linux on x86-64, with 64-bit pointers"
+#endif
+
+/* The compiler warns if a call ignores the result (NLP_RESULT, NLP_CHECKED), or passes NULL for one of these
+ * arguments (NLP_NONNULL, NLP_CHECKED). */
+#if defined(__GNUC__)
+#define NLP_RESULT __attribute__((warn_unused_result))
+#define NLP_NONNULL(...) __attribute__((nonnull(__VA_ARGS__)))
+#else
+#define NLP_RESULT
+#define NLP_NONNULL(...)
+#endif
+#define NLP_CHECKED(...) NLP_RESULT NLP_NONNULL(__VA_ARGS__)
 
 #ifdef __cplusplus
 extern "C" {
@@ -52,24 +81,28 @@ extern "C" {
 
 /* ---- results --------------------------------------------------------------------------------- */
 
+/* The right column has the numbers that the fault then holds; a number that it does not name is 0. */
 enum {
     NLP_OK = 0,
-    NLP_ATTR_SHORT = 5,     /* fewer than 4 bytes are left                   size, wanted = 4      */
-    NLP_ATTR_CUT = 6,       /* an attribute's length is above what is left   size, wanted = length */
-    NLP_ATTR_LENGTH = 7,    /* an attribute's length is below 4              size = 4, wanted = length */
-    NLP_NO_ROOM = 8,        /* the output does not fit in the buffer; only `*size` changes         */
-    NLP_FRAME_SHORT = 9,    /* fewer than 16 bytes                           size                  */
-    NLP_FRAME_CUT = 10,     /* a frame's length is above what there is       size, wanted = length */
-    NLP_FRAME_LENGTH = 11,  /* a frame's length is below 16                  wanted = length       */
-    NLP_DONE_SHORT = 12,    /* the body of a done message is below 4 bytes   size                  */
-    NLP_ERROR_SHORT = 13,   /* the body of an error message is below 4 bytes size                  */
-    NLP_REFUSED = 14,       /* a message type is 0, or 5 to 15                                     */
-    NLP_FRAME_TOO_LONG = 15, /* a message's length does not fit in 32 bits                         */
-    NLP_NO_MEMORY = 16,     /* malloc returned NULL                                                */
-    NLP_END = 32,           /* a walk is at its end                                                */
-    NLP_TOO_LONG = 33,      /* more than a length field can count; nothing is changed              */
-    NLP_NO_PLACE = 34,      /* there is no such location or attribute; nothing is changed          */
-    NLP_WRONG_SIZE = 35     /* a value has another size, or a payload is shorter than its fixed header */
+    NLP_ATTR_SHORT = 5,      /* fewer than 4 bytes are left               size: what is left; wanted: 4 */
+    NLP_ATTR_CUT = 6,        /* an attribute's length is above what       size: what is left; */
+                             /* is left                                   wanted: the length field */
+    NLP_ATTR_LENGTH = 7,     /* an attribute's length is below 4          size: 4; wanted: the length field */
+    NLP_NO_ROOM = 8,         /* the output does not fit in the buffer; only `*size` changes */
+    NLP_FRAME_SHORT = 9,     /* fewer than 16 bytes                       size: what is left */
+    NLP_FRAME_CUT = 10,      /* a frame's length is above what is left    size: what is left; */
+                             /*                                           wanted: the length field */
+    NLP_FRAME_LENGTH = 11,   /* a frame's length is below 16              wanted: the length field */
+    NLP_DONE_SHORT = 12,     /* a done body is below 4 bytes              size: that of the body */
+    NLP_ERROR_SHORT = 13,    /* an error body is below 4 bytes            size: that of the body */
+    NLP_REFUSED = 14,        /* a message type is 0, or 5 to 15 */
+    NLP_FRAME_TOO_LONG = 15, /* a message's length does not fit in 32 bits */
+    NLP_NO_MEMORY = 16,      /* malloc returned NULL */
+    NLP_END = 32,            /* a walk is at its end */
+    NLP_TOO_LONG = 33,       /* more than a length field can count */
+    NLP_NO_PLACE = 34,       /* there is no such location or attribute */
+    NLP_WRONG_SIZE = 35,     /* a value has another size, or a payload is shorter than its fixed header */
+    NLP_WRONG_SHAPE = 36     /* a value does not have the shape that a policy states */
 };
 
 /* What a frame means to a request. `code` is 0 and the other parts have size 0 where the last column
@@ -83,11 +116,20 @@ enum {
     NLP_OTHER = 6           /* no part of the answer: it has other numbers, or follows the end     */
 };
 
-/* What a row of a policy states of the size of a value. */
+/* The shapes of a policy, as the kernel's NLA_* have them. Any other number: any value. */
 enum {
-    NLP_EXACTLY = 1,
-    NLP_AT_LEAST = 2,
-    NLP_AT_MOST = 3
+    NLP_EXACTLY = 1,        /* `size` bytes                                 NLA_EXACT_LEN */
+    NLP_AT_LEAST = 2,       /* at least `size` bytes                        NLA_MIN_LEN */
+    NLP_AT_MOST = 3,        /* at most `size` bytes                         NLA_BINARY */
+    NLP_U8 = 4,             /* 1 byte                                       NLA_U8 */
+    NLP_U16 = 5,            /* 2 bytes                                      NLA_U16 */
+    NLP_U32 = 6,            /* 4 bytes                                      NLA_U32 */
+    NLP_U64 = 7,            /* 8 bytes                                      NLA_U64 */
+    NLP_FLAG = 8,           /* no bytes                                     NLA_FLAG */
+    NLP_STRING = 9,         /* at least 1 byte, and at most `size` without  NLA_STRING */
+                            /* a zero at the end; any number if that is 0 */
+    NLP_NUL_STRING = 10,    /* the same, and one of the bytes is zero       NLA_NUL_STRING */
+    NLP_NESTED = 11         /* no bytes, or at least 4                      NLA_NESTED */
 };
 
 /* The flag bits of an attribute's kind (linux/netlink.h: NLA_F_NESTED and so on). */
@@ -98,8 +140,8 @@ enum {
 /* The numbers of an error. */
 struct nlp_fault {
     uint32_t cause;  /* its number */
-    uint32_t inside; /* 1 if the error was found inside a larger call, else 0 */
-    size_t size;     /* the bytes available, or 0; for NLP_ATTR_LENGTH always 4, the minimum */
+    uint32_t inside; /* 1 for the errors 9 to 13 of nlp_frame_normalize and 12 and 13 of nlp_replies_next, else 0 */
+    size_t size;     /* the bytes available, or as the results above list it */
     size_t wanted;   /* the value of a length field or the size needed, or 0 */
 };
 
@@ -125,23 +167,23 @@ struct nlp_attr {
     size_t size;   /* the size of its value */
 };
 
-/* A row of a policy: the size that the values of a kind have. */
+/* A row of a policy: the shape that the values of a kind have. */
 struct nlp_policy {
     uint16_t kind;  /* without flag bits */
-    uint16_t shape; /* NLP_EXACTLY, NLP_AT_LEAST or NLP_AT_MOST; any other number: any size */
-    size_t size;
+    uint16_t shape; /* NLP_EXACTLY to NLP_NESTED */
+    size_t size;    /* for the shapes that name it */
 };
 
 /* A message of a datagram. */
 struct nlp_message {
     struct nlp_header header;
-    struct nlp_part payload; /* from the start of the datagram */
+    struct nlp_part payload; /* from the start of the datagram, without padding */
 };
 
 /* The body of an error message. */
 struct nlp_error {
     int32_t code;               /* 0 for an acknowledgement, else a negative errno */
-    struct nlp_part request;    /* the header of the request, and what is present of its payload */
+    struct nlp_part request;    /* the header of the request, and what is present of its payload and padding */
     struct nlp_part attributes; /* the attributes of the extended acknowledgement; size 0 if none */
 };
 
@@ -169,77 +211,9 @@ struct nlp_reply {
     struct nlp_part attributes; /* the attributes of the extended acknowledgement */
 };
 
-/* ---- get ------------------------------------------------------------------------------------- */
-
-/* Checks that the bytes begin with a complete frame: NLP_OK, NLP_FRAME_SHORT, _CUT or _LENGTH.
- * Proved: NLP_OK if and only if len >= 16 and 16 <= length field <= len; else the one error, with its
- * numbers. */
-uint32_t nlp_frame_check(const uint8_t *bytes, size_t len, struct nlp_fault *fault);
-
-/* Reads the five fields of the header: NLP_OK or NLP_FRAME_SHORT. The length field may hold any value.
- * Proved: `header` holds the value of each field; an error leaves it unchanged. */
-uint32_t nlp_frame_header(const uint8_t *bytes, size_t len, struct nlp_header *header,
-                          struct nlp_fault *fault);
-
-/* Locates the payload of a complete frame: NLP_OK, or the error of nlp_frame_check.
- * Proved: the part is from offset 16 up to the length field; an error leaves `payload` unchanged. */
-uint32_t nlp_frame_payload(const uint8_t *bytes, size_t len, struct nlp_part *payload,
-                           struct nlp_fault *fault);
-
-/* Reads the body of an error message (type 2, NLMSG_ERROR): NLP_OK or NLP_ERROR_SHORT. `bytes` are the
- * message's payload, and `flags` those of its header: NLM_F_ACK_TLVS (0x200) means that attributes
- * follow the request, and NLM_F_CAPPED (0x100) that only the header of the request is present.
- * Proved: the code is the first 4 bytes, signed. The request and then the attributes are the bytes
- * after it; the flags and the request's length determine where the attributes start. If there are
- * fewer than 20 bytes, all are the request's. */
-uint32_t nlp_error_body(const uint8_t *bytes, size_t len, uint16_t flags, struct nlp_error *body,
-                        struct nlp_fault *fault);
-
-/* Reads the body of a done message (type 3, NLMSG_DONE): NLP_OK or NLP_DONE_SHORT.
- * Proved: the code is the first 4 bytes, signed, and the rest is all others; an error changes neither. */
-uint32_t nlp_done_body(const uint8_t *bytes, size_t len, int32_t *code, struct nlp_part *rest,
-                       struct nlp_fault *fault);
-
 /* ---- iterate --------------------------------------------------------------------------------- */
 
-/* Walks a datagram of route netlink: its frames, and the attributes after a struct ifinfomsg (16 bytes):
- *
- *     while (nlp_frames_next(bytes, len, &next, &frame, &fault) == NLP_OK) {
- *         const uint8_t *message = bytes + frame.offset;
- *         nlp_frame_header(message, frame.size, &header, &fault);    // NLP_OK: the frame is complete
- *         nlp_frame_payload(message, frame.size, &payload, &fault);  // NLP_OK too
- *         const uint8_t *body = message + payload.offset;
- *         if (header.message_type != RTM_NEWLINK || payload.size < 16)
- *             continue;
- *         size_t at = 0;
- *         while (nlp_attrs_next(body + 16, payload.size - 16, &at, &attr, &fault) == NLP_OK)
- *             use(attr.kind & NLP_KIND_MASK, body + 16 + attr.offset, attr.size);
- *     }
- *
- * The bytes need no alignment. c/examples/addresses.c is a complete program of this kind. */
-
-/* Reads the frame at `*cursor`; set it to 0 before the first call. Returns NLP_OK, with the frame in
- * `*item`, excluding padding, and the cursor moved past that padding; NLP_END; or NLP_FRAME_SHORT,
- * _CUT or _LENGTH, once, with the cursor moved to the end.
- * Proved: the bytes at the old cursor are that frame, its padding, and then the bytes at the new
- * cursor. NLP_END if and only if the cursor is at or past the end. An error is that of the bytes
- * starting at the cursor. */
-uint32_t nlp_frames_next(const uint8_t *bytes, size_t len, size_t *cursor, struct nlp_part *item,
-                         struct nlp_fault *fault);
-
-/* Reads the attribute at `*cursor`; set it to 0 before the first call. Returns NLP_OK, with the attribute
- * in `*item` and the cursor moved past its padding; NLP_END; or NLP_ATTR_SHORT, _CUT or _LENGTH, once,
- * with the cursor moved to the end. To walk a nest, call this function on its value. If the block must
- * be well formed, check the result that ended the loop: it is NLP_END or an error.
- *
- * Proved: the bytes at the old cursor are that attribute, its padding, and then the bytes at the new
- * cursor. NLP_END if and only if the cursor is at or past the end. An error is that of the bytes
- * starting at the cursor. */
-uint32_t nlp_attrs_next(const uint8_t *bytes, size_t len, size_t *cursor, struct nlp_attr *item,
-                        struct nlp_fault *fault);
-
-/* Reads the message at `*cursor` as nlp_frames_next reads a frame, with the same results. NLP_OK: `*item`
- * is its header and where its payload is. Nothing that follows can fail for this frame.
+/* Walks a datagram of route netlink: its messages, and the attributes after a struct ifinfomsg:
  *
  *     while (nlp_messages_next(bytes, len, &at, &message, &fault) == NLP_OK)
  *         if (message.header.message_type == RTM_NEWLINK
@@ -250,9 +224,16 @@ uint32_t nlp_attrs_next(const uint8_t *bytes, size_t len, size_t *cursor, struct
  *                 use(mtu);
  *         }
  *
- * Proved: what is proved of nlp_frames_next, and that the fields and the payload are those of the frame. */
+ * c/examples/rtnl-link-dump.c and addresses.c are complete programs of this kind. */
+
+/* Reads the message at `*cursor`; set it to 0 before the first call. Returns NLP_OK, with the header and the
+ * payload in `*item`, and the cursor moved past the message and its padding; NLP_END; or NLP_FRAME_SHORT,
+ * _CUT or _LENGTH, once, with the cursor moved to the end.
+ * Proved: the bytes at the old cursor are a frame with this header and this payload, its padding, and then the
+ * bytes at the new cursor. NLP_END if and only if the cursor is at or past the end. An error is that of the
+ * bytes starting at the cursor. */
 uint32_t nlp_messages_next(const uint8_t *bytes, size_t len, size_t *cursor, struct nlp_message *item,
-                           struct nlp_fault *fault);
+                           struct nlp_fault *fault) NLP_CHECKED(3, 4, 5);
 
 /* Locates the attributes of a message: what is after a fixed header of `fixed_len` bytes and its padding
  * (struct ifinfomsg, genlmsghdr). NLP_OK; NLP_WRONG_SIZE if the payload has fewer than `fixed_len` bytes; or
@@ -260,7 +241,24 @@ uint32_t nlp_messages_next(const uint8_t *bytes, size_t len, size_t *cursor, str
  * writes. The offset is from the start of the datagram.
  * Proved: which result, and that the part is the rest of the payload, or is empty if the payload ends
  * within the padding. */
-uint32_t nlp_message_attrs(const struct nlp_message *message, size_t fixed_len, struct nlp_part *attributes);
+uint32_t nlp_message_attrs(const struct nlp_message *message, size_t fixed_len, struct nlp_part *attributes)
+    NLP_CHECKED(1, 3);
+
+/* Reads the attribute at `*cursor`; set it to 0 before the first call. Returns NLP_OK, with the attribute
+ * in `*item` and the cursor moved past its padding; NLP_END; or NLP_ATTR_SHORT, _CUT or _LENGTH, once,
+ * with the cursor moved to the end. To walk a nest, call this function on its value. If the block must
+ * be well formed, check the result that ended the loop: it is NLP_END or an error.
+ *
+ * Proved: the bytes at the old cursor are that attribute, its padding, and then the bytes at the new
+ * cursor. NLP_END if and only if the cursor is at or past the end. An error is that of the bytes
+ * starting at the cursor. */
+uint32_t nlp_attrs_next(const uint8_t *bytes, size_t len, size_t *cursor, struct nlp_attr *item,
+                        struct nlp_fault *fault) NLP_CHECKED(3, 4, 5);
+
+/* Reads the frame at `*cursor`, as nlp_messages_next reads a message; `*item` is the frame, without its padding.
+ * Proved: the same. */
+uint32_t nlp_frames_next(const uint8_t *bytes, size_t len, size_t *cursor, struct nlp_part *item,
+                         struct nlp_fault *fault) NLP_CHECKED(3, 4, 5);
 
 /* ---- attributes by kind ---------------------------------------------------------------------- */
 
@@ -271,7 +269,7 @@ uint32_t nlp_message_attrs(const struct nlp_message *message, size_t fixed_len, 
  * The kernel takes the last one too (nla_parse). nla_find of the Rattle library takes the first.
  * Proved: which attribute it is, and which result. */
 uint32_t nlp_attrs_find(const uint8_t *block, size_t len, uint16_t kind, struct nlp_attr *item,
-                        struct nlp_fault *fault);
+                        struct nlp_fault *fault) NLP_NONNULL(4, 5);
 
 /* Fills a table by kind in one pass: table[k] becomes the last attribute of kind k, for each k below
  * `count`, comparing kinds without their flag bits. If there is none, its kind, offset and size become 0; a
@@ -279,16 +277,17 @@ uint32_t nlp_attrs_find(const uint8_t *block, size_t len, uint16_t kind, struct 
  * before it. Write a table's size as the highest kind that you read plus 1.
  * Proved: each entry, and which result. */
 uint32_t nlp_attrs_table(const uint8_t *block, size_t len, struct nlp_attr *table, size_t count,
-                         struct nlp_fault *fault);
+                         struct nlp_fault *fault) NLP_NONNULL(5);
 
-/* Checks a block against a policy of `count` rows: each attribute must have the size that each row of its
- * kind states, and an attribute without a row may have any. Two rows of a kind state a range. Compares kinds
- * without the attribute's flag bits. NLP_WRONG_SIZE: `*item` is the first attribute that does not have its
- * size, even if the walk ends in an error later. Otherwise the error that ends the walk, or NLP_OK. A getter
- * then never returns NLP_WRONG_SIZE if a row states that the kind has exactly the getter's size.
- * Proved: which result, and which attribute; only NLP_WRONG_SIZE changes `*item`. */
+/* Checks a block against a policy of `count` rows: each attribute must have the shape that each row of its
+ * kind states, and an attribute without a row may have any value. Two rows of a kind state a range. Compares
+ * kinds without the attribute's flag bits. NLP_OK if the walk of the block ends without an error and each
+ * attribute has its shapes. Otherwise what comes first, and `*offset` is where its header is: NLP_WRONG_SHAPE,
+ * for an attribute; or the error that ends the walk. To read the attribute, call nlp_attrs_next with a cursor
+ * of `*offset`. After NLP_OK, nlp_get_u32 never returns NLP_WRONG_SIZE for a kind with a row NLP_U32, and so on.
+ * Proved: which result, and which offset. */
 uint32_t nlp_attrs_validate(const uint8_t *block, size_t len, const struct nlp_policy *policy, size_t count,
-                            struct nlp_attr *item, struct nlp_fault *fault);
+                            size_t *offset, struct nlp_fault *fault) NLP_CHECKED(5, 6);
 
 /* Each of these reads the value of an attribute of the block: an entry of nlp_attrs_table, or what
  * nlp_attrs_find or nlp_attrs_next wrote. NLP_OK; NLP_NO_PLACE if its offset is 0, or if it ends after the
@@ -296,21 +295,60 @@ uint32_t nlp_attrs_validate(const uint8_t *block, size_t len, const struct nlp_p
  * _u16, _u32 and _u64 are in native byte order, and _be16, _be32 and _be64 in big-endian order. The
  * byte-order bit of the kind does not matter.
  * Proved of each: which of the three, and what is written; any result but NLP_OK changes nothing. */
-uint32_t nlp_get_u8(const uint8_t *block, size_t len, const struct nlp_attr *item, uint8_t *value);
-uint32_t nlp_get_u16(const uint8_t *block, size_t len, const struct nlp_attr *item, uint16_t *value);
-uint32_t nlp_get_u32(const uint8_t *block, size_t len, const struct nlp_attr *item, uint32_t *value);
-uint32_t nlp_get_u64(const uint8_t *block, size_t len, const struct nlp_attr *item, uint64_t *value);
-uint32_t nlp_get_be16(const uint8_t *block, size_t len, const struct nlp_attr *item, uint16_t *value);
-uint32_t nlp_get_be32(const uint8_t *block, size_t len, const struct nlp_attr *item, uint32_t *value);
-uint32_t nlp_get_be64(const uint8_t *block, size_t len, const struct nlp_attr *item, uint64_t *value);
+uint32_t nlp_get_u8(const uint8_t *block, size_t len, const struct nlp_attr *item, uint8_t *value)
+    NLP_NONNULL(3, 4);
+uint32_t nlp_get_u16(const uint8_t *block, size_t len, const struct nlp_attr *item, uint16_t *value)
+    NLP_NONNULL(3, 4);
+uint32_t nlp_get_u32(const uint8_t *block, size_t len, const struct nlp_attr *item, uint32_t *value)
+    NLP_NONNULL(3, 4);
+uint32_t nlp_get_u64(const uint8_t *block, size_t len, const struct nlp_attr *item, uint64_t *value)
+    NLP_NONNULL(3, 4);
+uint32_t nlp_get_be16(const uint8_t *block, size_t len, const struct nlp_attr *item, uint16_t *value)
+    NLP_NONNULL(3, 4);
+uint32_t nlp_get_be32(const uint8_t *block, size_t len, const struct nlp_attr *item, uint32_t *value)
+    NLP_NONNULL(3, 4);
+uint32_t nlp_get_be64(const uint8_t *block, size_t len, const struct nlp_attr *item, uint64_t *value)
+    NLP_NONNULL(3, 4);
 uint32_t nlp_get_bytes(const uint8_t *block, size_t len, const struct nlp_attr *item, uint8_t *bytes,
-                       size_t size);
+                       size_t size) NLP_NONNULL(3);
 
 /* Locates the C string in the value of an attribute: the bytes before the first zero, or the whole value
  * if it has no zero. NLP_OK; or NLP_NO_PLACE if its offset is 0, or if it ends after the block. The offset
- * is from the start of the block.
+ * is from the start of the block. Print it with printf("%.*s", (int)text.size, (const char *)block + text.offset).
  * Proved: the part has no zero, and is followed by a zero or by the end of the value. */
-uint32_t nlp_get_str(const uint8_t *block, size_t len, const struct nlp_attr *item, struct nlp_part *text);
+uint32_t nlp_get_str(const uint8_t *block, size_t len, const struct nlp_attr *item, struct nlp_part *text)
+    NLP_NONNULL(3, 4);
+
+/* ---- one frame ------------------------------------------------------------------------------- */
+
+/* Checks that the bytes begin with a complete frame: NLP_OK, NLP_FRAME_SHORT, _CUT or _LENGTH.
+ * Proved: NLP_OK if and only if len >= 16 and 16 <= length field <= len; else the one error, with its
+ * numbers. */
+uint32_t nlp_frame_check(const uint8_t *bytes, size_t len, struct nlp_fault *fault) NLP_CHECKED(3);
+
+/* Reads the five fields of the header: NLP_OK or NLP_FRAME_SHORT. The length field may hold any value.
+ * Proved: `header` holds the value of each field; an error leaves it unchanged. */
+uint32_t nlp_frame_header(const uint8_t *bytes, size_t len, struct nlp_header *header,
+                          struct nlp_fault *fault) NLP_CHECKED(3, 4);
+
+/* Locates the payload of a complete frame: NLP_OK, or the error of nlp_frame_check.
+ * Proved: the part is from offset 16 up to the length field; an error leaves `payload` unchanged. */
+uint32_t nlp_frame_payload(const uint8_t *bytes, size_t len, struct nlp_part *payload,
+                           struct nlp_fault *fault) NLP_CHECKED(3, 4);
+
+/* Reads the body of an error message (type 2, NLMSG_ERROR): NLP_OK or NLP_ERROR_SHORT. `bytes` are the
+ * message's payload, and `flags` those of its header: NLM_F_ACK_TLVS (0x200) means that attributes
+ * follow the request, and NLM_F_CAPPED (0x100) that only the header of the request is present.
+ * Proved: the code is the first 4 bytes, signed. The request and then the attributes are the bytes after it.
+ * The request is all of them without NLM_F_ACK_TLVS, or if they are too few for the request; 16 bytes with
+ * NLM_F_CAPPED; and otherwise its length with its padding. */
+uint32_t nlp_error_body(const uint8_t *bytes, size_t len, uint16_t flags, struct nlp_error *body,
+                        struct nlp_fault *fault) NLP_CHECKED(4, 5);
+
+/* Reads the body of a done message (type 3, NLMSG_DONE): NLP_OK or NLP_DONE_SHORT.
+ * Proved: the code is the first 4 bytes, signed, and the rest is all others; an error changes neither. */
+uint32_t nlp_done_body(const uint8_t *bytes, size_t len, int32_t *code, struct nlp_part *rest,
+                       struct nlp_fault *fault) NLP_CHECKED(3, 4, 5);
 
 /* ---- answers --------------------------------------------------------------------------------- */
 
@@ -326,13 +364,14 @@ uint32_t nlp_get_str(const uint8_t *block, size_t len, const struct nlp_attr *it
  *
  * The answer to a rejected request ends with NLP_REJECTED and a code, and that of a dump that fails later
  * with NLP_DONE and a code. Two requests can share a socket: each has its own state, which reads every
- * datagram. c/examples/answer.c is a complete program. */
+ * datagram. c/examples/rtnl-link-dump.c and answer.c are complete programs. */
 
 /* Sets `*replies` to the state in which the answer is open and nothing was read. Takes the sequence
  * number, the port number and NLM_F_ACK from the header of the request that is sent. `is_dump` is not 0 if
  * the request is a dump; its flags do not show that: NLM_F_DUMP also means NLM_F_REPLACE | NLM_F_EXCL.
  * Proved: the state has these values, and neither `ended` nor `interrupted`. */
-void nlp_replies_begin(const struct nlp_header *header, uint32_t is_dump, struct nlp_replies *replies);
+void nlp_replies_begin(const struct nlp_header *header, uint32_t is_dump, struct nlp_replies *replies)
+    NLP_NONNULL(1, 3);
 
 /* Reads frames at `*cursor` until one is not a noop, and moves the cursor past it; set the cursor to 0
  * before the first call for a datagram. Updates `*replies`. Returns NLP_OK, with what the frame means in
@@ -344,7 +383,7 @@ void nlp_replies_begin(const struct nlp_header *header, uint32_t is_dump, struct
  * says. The parts are those of the frame. Its padding ends at the new cursor. Only noops are skipped.
  * It does not matter which datagram holds a frame. Frames with other numbers change nothing. */
 uint32_t nlp_replies_next(const uint8_t *bytes, size_t len, size_t *cursor, struct nlp_replies *replies,
-                          struct nlp_reply *reply, struct nlp_fault *fault);
+                          struct nlp_reply *reply, struct nlp_fault *fault) NLP_CHECKED(3, 4, 5, 6);
 
 /* Each of these reads the first attribute of its kind in the attributes of an extended acknowledgement,
  * counting those before an error: NLP_OK, or NLP_NO_PLACE if there is none. For an integer, NLP_NO_PLACE
@@ -358,12 +397,12 @@ uint32_t nlp_replies_next(const uint8_t *bytes, size_t len, size_t *cursor, stru
  *   _missing_type   the kind of the attribute that the request lacks
  *   _missing_nest   the offset, in the request, of the nest that lacks it; NLP_NO_PLACE: the top level
  */
-uint32_t nlp_ext_ack_text(const uint8_t *attributes, size_t len, struct nlp_part *text);
-uint32_t nlp_ext_ack_offset(const uint8_t *attributes, size_t len, uint32_t *offset);
-uint32_t nlp_ext_ack_cookie(const uint8_t *attributes, size_t len, struct nlp_part *cookie);
-uint32_t nlp_ext_ack_policy(const uint8_t *attributes, size_t len, struct nlp_part *policy);
-uint32_t nlp_ext_ack_missing_type(const uint8_t *attributes, size_t len, uint32_t *kind);
-uint32_t nlp_ext_ack_missing_nest(const uint8_t *attributes, size_t len, uint32_t *offset);
+uint32_t nlp_ext_ack_text(const uint8_t *attributes, size_t len, struct nlp_part *text) NLP_NONNULL(3);
+uint32_t nlp_ext_ack_offset(const uint8_t *attributes, size_t len, uint32_t *offset) NLP_NONNULL(3);
+uint32_t nlp_ext_ack_cookie(const uint8_t *attributes, size_t len, struct nlp_part *cookie) NLP_NONNULL(3);
+uint32_t nlp_ext_ack_policy(const uint8_t *attributes, size_t len, struct nlp_part *policy) NLP_NONNULL(3);
+uint32_t nlp_ext_ack_missing_type(const uint8_t *attributes, size_t len, uint32_t *kind) NLP_NONNULL(3);
+uint32_t nlp_ext_ack_missing_nest(const uint8_t *attributes, size_t len, uint32_t *offset) NLP_NONNULL(3);
 
 /* Writes the kinds of the attributes that contain the offset of the error, without their flag bits: that
  * of the outermost, then that of the one in its value, and so on. `request` is the request that was sent,
@@ -373,12 +412,13 @@ uint32_t nlp_ext_ack_missing_nest(const uint8_t *attributes, size_t len, uint32_
  * Proved: these are the kinds, as far as there is room; nothing after them in the array is changed. */
 uint32_t nlp_ext_ack_path(const uint8_t *attributes, size_t len, const uint8_t *request,
                           size_t request_len, size_t fixed_len, uint16_t *kinds, size_t capacity,
-                          size_t *count);
+                          size_t *count) NLP_NONNULL(8);
 
 /* ---- put ------------------------------------------------------------------------------------- */
 
 /* Each of these writes at `*cursor` into a buffer of `capacity` bytes, pads with zeros, and moves the
- * cursor past that; or it returns NLP_TOO_LONG or NLP_NO_ROOM and changes nothing. Proved of each:
+ * cursor past that; or it returns NLP_TOO_LONG or NLP_NO_ROOM and changes nothing. A struct nlp_writer calls
+ * them without a check of each. Proved of each:
  *
  *  - which of the three it returns;
  *  - the bytes at the old cursor encode what was put, and no others are changed;
@@ -389,73 +429,90 @@ uint32_t nlp_ext_ack_path(const uint8_t *attributes, size_t len, const uint8_t *
  * sub-protocol's struct before the attributes (struct ifinfomsg, genlmsghdr). Ignores `header->length`.
  * Keep the old cursor: it is the `start` of nlp_frame_end. */
 uint32_t nlp_frame_put(uint8_t *buffer, size_t capacity, size_t *cursor,
-                       const struct nlp_header *header, const uint8_t *fixed, size_t fixed_len);
+                       const struct nlp_header *header, const uint8_t *fixed, size_t fixed_len)
+    NLP_CHECKED(3, 4);
 
 /* Puts an attribute, its kind unchanged. NLP_TOO_LONG if the value has more than 65531 bytes. */
 uint32_t nlp_attr_put(uint8_t *buffer, size_t capacity, size_t *cursor, uint16_t kind,
-                      const uint8_t *value, size_t len);
+                      const uint8_t *value, size_t len) NLP_CHECKED(3);
 
 /* Puts an attribute whose value is an integer, in native byte order. */
-uint32_t nlp_attr_put_u8(uint8_t *buffer, size_t capacity, size_t *cursor, uint16_t kind, uint8_t value);
-uint32_t nlp_attr_put_u16(uint8_t *buffer, size_t capacity, size_t *cursor, uint16_t kind, uint16_t value);
-uint32_t nlp_attr_put_u32(uint8_t *buffer, size_t capacity, size_t *cursor, uint16_t kind, uint32_t value);
-uint32_t nlp_attr_put_u64(uint8_t *buffer, size_t capacity, size_t *cursor, uint16_t kind, uint64_t value);
+uint32_t nlp_attr_put_u8(uint8_t *buffer, size_t capacity, size_t *cursor, uint16_t kind, uint8_t value)
+    NLP_CHECKED(3);
+uint32_t nlp_attr_put_u16(uint8_t *buffer, size_t capacity, size_t *cursor, uint16_t kind, uint16_t value)
+    NLP_CHECKED(3);
+uint32_t nlp_attr_put_u32(uint8_t *buffer, size_t capacity, size_t *cursor, uint16_t kind, uint32_t value)
+    NLP_CHECKED(3);
+uint32_t nlp_attr_put_u64(uint8_t *buffer, size_t capacity, size_t *cursor, uint16_t kind, uint64_t value)
+    NLP_CHECKED(3);
 
 /* Puts an attribute whose value is an integer, in big-endian byte order. The kind is unchanged: add
  * NLP_KIND_NET_BYTEORDER to it if the sub-protocol wants that. */
-uint32_t nlp_attr_put_be16(uint8_t *buffer, size_t capacity, size_t *cursor, uint16_t kind, uint16_t value);
-uint32_t nlp_attr_put_be32(uint8_t *buffer, size_t capacity, size_t *cursor, uint16_t kind, uint32_t value);
-uint32_t nlp_attr_put_be64(uint8_t *buffer, size_t capacity, size_t *cursor, uint16_t kind, uint64_t value);
+uint32_t nlp_attr_put_be16(uint8_t *buffer, size_t capacity, size_t *cursor, uint16_t kind, uint16_t value)
+    NLP_CHECKED(3);
+uint32_t nlp_attr_put_be32(uint8_t *buffer, size_t capacity, size_t *cursor, uint16_t kind, uint32_t value)
+    NLP_CHECKED(3);
+uint32_t nlp_attr_put_be64(uint8_t *buffer, size_t capacity, size_t *cursor, uint16_t kind, uint64_t value)
+    NLP_CHECKED(3);
 
 /* Puts an attribute without a value, whose presence is a flag. */
-uint32_t nlp_attr_put_flag(uint8_t *buffer, size_t capacity, size_t *cursor, uint16_t kind);
+uint32_t nlp_attr_put_flag(uint8_t *buffer, size_t capacity, size_t *cursor, uint16_t kind) NLP_CHECKED(3);
 
 /* Puts an attribute whose value is a C string: the `len` bytes and one zero. */
 uint32_t nlp_attr_put_str(uint8_t *buffer, size_t capacity, size_t *cursor, uint16_t kind,
-                          const uint8_t *text, size_t len);
+                          const uint8_t *text, size_t len) NLP_CHECKED(3);
 
 /* Begins a nest: puts an attribute with no value yet, whose kind has the nested bit set and the
  * byte-order bit clear. Keep the old cursor: it is the `start` of nlp_nest_end. */
-uint32_t nlp_nest_begin(uint8_t *buffer, size_t capacity, size_t *cursor, uint16_t kind);
+uint32_t nlp_nest_begin(uint8_t *buffer, size_t capacity, size_t *cursor, uint16_t kind) NLP_CHECKED(3);
 
 /* End a nest and a frame: set the length field at `start` to cursor - start. Return NLP_OK; NLP_NO_PLACE
  * unless cursor <= capacity and cursor - start is a multiple of 4 and at least 4 (16 for a frame); or
  * NLP_TOO_LONG. Change no byte outside the length field.
  * Proved: the bytes at `start` are then an attribute whose value is the bytes from start + 4 to the
  * cursor, or a frame that is the bytes from start to the cursor. */
-uint32_t nlp_nest_end(uint8_t *buffer, size_t capacity, size_t cursor, size_t start);
-uint32_t nlp_frame_end(uint8_t *buffer, size_t capacity, size_t cursor, size_t start);
+uint32_t nlp_nest_end(uint8_t *buffer, size_t capacity, size_t cursor, size_t start) NLP_RESULT;
+uint32_t nlp_frame_end(uint8_t *buffer, size_t capacity, size_t cursor, size_t start) NLP_RESULT;
 
 /* ---- in place, and canonical forms ----------------------------------------------------------- */
 
 /* Overwrites the value of the attribute at `index`, which counts from 0: NLP_OK or NLP_NO_PLACE.
  * Proved: NLP_OK if and only if there is such an attribute with a value of this size. Only the bytes of
  * that value are then changed, and otherwise none. */
-uint32_t nlp_attr_write(uint8_t *block, size_t block_len, size_t index, const uint8_t *value, size_t len);
+uint32_t nlp_attr_write(uint8_t *block, size_t block_len, size_t index, const uint8_t *value, size_t len)
+    NLP_RESULT;
 
 /* Returns whether the bytes are a canonical block: attributes, each with all of its padding, as zeros.
  * Proved: true if and only if they are. */
-bool nlp_attrs_is_canonical(const uint8_t *bytes, size_t len);
+bool nlp_attrs_is_canonical(const uint8_t *bytes, size_t len) NLP_RESULT;
 
 /* Writes the canonical block of the bytes: NLP_OK, and it is the first `*size` bytes of the buffer;
  * NLP_NO_ROOM, and `*size` is the size needed; the error that ends the walk; or NLP_NO_MEMORY. Allocates
  * at most once, for the size of the block.
  * Proved: the block encodes the attributes that the walk yields; only NLP_OK changes the buffer. */
 uint32_t nlp_attrs_normalize(const uint8_t *bytes, size_t len, uint8_t *buffer, size_t capacity,
-                             size_t *size, struct nlp_fault *fault);
+                             size_t *size, struct nlp_fault *fault) NLP_CHECKED(5, 6);
 
 /* Sets `*canonical` to 1 if the bytes are a canonical frame, else to 0: NLP_OK or NLP_NO_MEMORY. If the
  * type is 16 or greater, the payload may be any bytes, and a copy of it may be allocated.
  * Proved: 1 if and only if nlp_frame_normalize leaves the bytes unchanged. */
 uint32_t nlp_frame_is_canonical(const uint8_t *bytes, size_t len, uint32_t *canonical,
-                                struct nlp_fault *fault);
+                                struct nlp_fault *fault) NLP_CHECKED(3, 4);
 
 /* Writes the canonical frame of the message at the start of the bytes: NLP_OK, and it is the first `*size`
  * bytes of the buffer; NLP_NO_ROOM, and `*size` is the size needed; the error if the message is rejected;
- * or NLP_NO_MEMORY. Allocates for the payload and for the frame.
+ * or NLP_NO_MEMORY. Allocates for the payload and for the frame. The frame has the header of the message, with
+ * the length of the frame, and by its type:
+ *
+ *  - 1, noop: no payload, whatever the message has;
+ *  - 2, error: the payload. It is rejected if it has fewer than 4 bytes;
+ *  - 3, done: the payload, or 4 zeros if it has no bytes. It is rejected if it has 1 to 3 bytes;
+ *  - 4, overrun, or 16 and greater: the payload;
+ *  - 0, or 5 to 15: it is rejected (NLP_REFUSED).
+ *
  * Proved: the frame is the one canonical frame of that message; only NLP_OK changes the buffer. */
 uint32_t nlp_frame_normalize(const uint8_t *bytes, size_t len, uint8_t *buffer, size_t capacity,
-                             size_t *size, struct nlp_fault *fault);
+                             size_t *size, struct nlp_fault *fault) NLP_CHECKED(5, 6);
 
 /* ---- text ------------------------------------------------------------------------------------ */
 
@@ -464,9 +521,15 @@ uint32_t nlp_frame_normalize(const uint8_t *bytes, size_t len, uint8_t *buffer, 
  * numbers identify no error, or one that holds a string (1, 14); or NLP_NO_MEMORY. Allocates for the text.
  * Proved: the text is the library's text of that error; NLP_NO_PLACE for all other numbers; only NLP_OK
  * changes the buffer. */
-uint32_t nlp_fault_text(const struct nlp_fault *fault, uint8_t *buffer, size_t capacity, size_t *size);
+uint32_t nlp_fault_text(const struct nlp_fault *fault, uint8_t *buffer, size_t capacity, size_t *size)
+    NLP_CHECKED(1, 4);
 
-/* ---- integers in values: plain C, not proved --------------------------------------------------- */
+/* ---- plain C, not proved ----------------------------------------------------------------------- */
+
+/* The functions from here to the end are compiled into your program, and nothing is proved of them. They call
+ * the functions above. c/test tests them, under sanitizers too. */
+
+/* ---- integers in values */
 
 /* The integer in the 2, 4 or 8 bytes of a value, in native byte order. Check attr.size first; these
  * functions do not. */
@@ -483,6 +546,301 @@ static inline uint32_t nlp_u32(const uint8_t *value)
 static inline uint64_t nlp_u64(const uint8_t *value)
 {
     return nlp_u32(value) | (uint64_t)nlp_u32(value + 4) << 32;
+}
+
+/* ---- a fault that may be NULL */
+
+/* NAME_opt does what NAME does. Its fault may be NULL. */
+static inline NLP_RESULT uint32_t nlp_messages_next_opt(const uint8_t *bytes, size_t len, size_t *cursor,
+                                                        struct nlp_message *item, struct nlp_fault *fault)
+{
+    struct nlp_fault own;
+    return nlp_messages_next(bytes, len, cursor, item, fault == NULL ? &own : fault);
+}
+
+static inline NLP_RESULT uint32_t nlp_attrs_next_opt(const uint8_t *bytes, size_t len, size_t *cursor,
+                                                     struct nlp_attr *item, struct nlp_fault *fault)
+{
+    struct nlp_fault own;
+    return nlp_attrs_next(bytes, len, cursor, item, fault == NULL ? &own : fault);
+}
+
+static inline NLP_RESULT uint32_t nlp_frames_next_opt(const uint8_t *bytes, size_t len, size_t *cursor,
+                                                      struct nlp_part *item, struct nlp_fault *fault)
+{
+    struct nlp_fault own;
+    return nlp_frames_next(bytes, len, cursor, item, fault == NULL ? &own : fault);
+}
+
+static inline NLP_RESULT uint32_t nlp_replies_next_opt(const uint8_t *bytes, size_t len, size_t *cursor,
+                                                       struct nlp_replies *replies, struct nlp_reply *reply,
+                                                       struct nlp_fault *fault)
+{
+    struct nlp_fault own;
+    return nlp_replies_next(bytes, len, cursor, replies, reply, fault == NULL ? &own : fault);
+}
+
+static inline uint32_t nlp_attrs_find_opt(const uint8_t *block, size_t len, uint16_t kind,
+                                          struct nlp_attr *item, struct nlp_fault *fault)
+{
+    struct nlp_fault own;
+    return nlp_attrs_find(block, len, kind, item, fault == NULL ? &own : fault);
+}
+
+static inline uint32_t nlp_attrs_table_opt(const uint8_t *block, size_t len, struct nlp_attr *table,
+                                           size_t count, struct nlp_fault *fault)
+{
+    struct nlp_fault own;
+    return nlp_attrs_table(block, len, table, count, fault == NULL ? &own : fault);
+}
+
+static inline NLP_RESULT uint32_t nlp_attrs_validate_opt(const uint8_t *block, size_t len,
+                                                         const struct nlp_policy *policy, size_t count,
+                                                         size_t *offset, struct nlp_fault *fault)
+{
+    struct nlp_fault own;
+    return nlp_attrs_validate(block, len, policy, count, offset, fault == NULL ? &own : fault);
+}
+
+static inline NLP_RESULT uint32_t nlp_frame_check_opt(const uint8_t *bytes, size_t len,
+                                                      struct nlp_fault *fault)
+{
+    struct nlp_fault own;
+    return nlp_frame_check(bytes, len, fault == NULL ? &own : fault);
+}
+
+static inline NLP_RESULT uint32_t nlp_frame_header_opt(const uint8_t *bytes, size_t len,
+                                                       struct nlp_header *header, struct nlp_fault *fault)
+{
+    struct nlp_fault own;
+    return nlp_frame_header(bytes, len, header, fault == NULL ? &own : fault);
+}
+
+static inline NLP_RESULT uint32_t nlp_frame_payload_opt(const uint8_t *bytes, size_t len,
+                                                        struct nlp_part *payload, struct nlp_fault *fault)
+{
+    struct nlp_fault own;
+    return nlp_frame_payload(bytes, len, payload, fault == NULL ? &own : fault);
+}
+
+static inline NLP_RESULT uint32_t nlp_error_body_opt(const uint8_t *bytes, size_t len, uint16_t flags,
+                                                     struct nlp_error *body, struct nlp_fault *fault)
+{
+    struct nlp_fault own;
+    return nlp_error_body(bytes, len, flags, body, fault == NULL ? &own : fault);
+}
+
+static inline NLP_RESULT uint32_t nlp_done_body_opt(const uint8_t *bytes, size_t len, int32_t *code,
+                                                    struct nlp_part *rest, struct nlp_fault *fault)
+{
+    struct nlp_fault own;
+    return nlp_done_body(bytes, len, code, rest, fault == NULL ? &own : fault);
+}
+
+static inline NLP_RESULT uint32_t nlp_attrs_normalize_opt(const uint8_t *bytes, size_t len, uint8_t *buffer,
+                                                          size_t capacity, size_t *size,
+                                                          struct nlp_fault *fault)
+{
+    struct nlp_fault own;
+    return nlp_attrs_normalize(bytes, len, buffer, capacity, size, fault == NULL ? &own : fault);
+}
+
+static inline NLP_RESULT uint32_t nlp_frame_is_canonical_opt(const uint8_t *bytes, size_t len,
+                                                             uint32_t *canonical, struct nlp_fault *fault)
+{
+    struct nlp_fault own;
+    return nlp_frame_is_canonical(bytes, len, canonical, fault == NULL ? &own : fault);
+}
+
+static inline NLP_RESULT uint32_t nlp_frame_normalize_opt(const uint8_t *bytes, size_t len, uint8_t *buffer,
+                                                          size_t capacity, size_t *size,
+                                                          struct nlp_fault *fault)
+{
+    struct nlp_fault own;
+    return nlp_frame_normalize(bytes, len, buffer, capacity, size, fault == NULL ? &own : fault);
+}
+
+/* ---- messages of an answer */
+
+/* Reads the header and locates the payload of what nlp_replies_next wrote for the same bytes, as
+ * nlp_messages_next does for a frame: NLP_OK, because that frame is complete. */
+static inline uint32_t nlp_reply_message(const uint8_t *bytes, const struct nlp_reply *reply,
+                                         struct nlp_message *message)
+{
+    size_t at = reply->frame.offset;
+    return nlp_messages_next_opt(bytes, at + reply->frame.size, &at, message, NULL);
+}
+
+/* ---- a writer, which remembers a failure */
+
+/* Writes messages without a check of each call:
+ *
+ *     struct nlp_writer writer = nlp_writer_begin(buffer, sizeof buffer);
+ *     const struct nlp_frame_mark frame = nlp_writer_frame(&writer, &header, &link, sizeof link);
+ *     nlp_writer_put_str(&writer, IFLA_IFNAME, "veth-b");
+ *     const struct nlp_nest_mark nest = nlp_writer_nest(&writer, IFLA_LINKINFO);
+ *     nlp_writer_put_str(&writer, IFLA_INFO_KIND, "veth");
+ *     nlp_writer_nest_end(&writer, nest);
+ *     nlp_writer_frame_end(&writer, frame);
+ *     if (writer.failed == NLP_OK)
+ *         send(fd, buffer, writer.at, 0);
+ *
+ * Once a call fails, the calls after it do nothing. */
+struct nlp_writer {
+    uint8_t *buffer;
+    size_t capacity;
+    size_t at;       /* how many bytes are written */
+    uint32_t failed; /* NLP_OK, or the result of the call that failed: NLP_TOO_LONG, NLP_NO_ROOM, NLP_NO_PLACE */
+};
+
+/* Where a frame begins, and where a nest begins. They are two types, so that the compiler rejects a call that
+ * ends one by the other. */
+struct nlp_frame_mark {
+    size_t start;
+};
+
+struct nlp_nest_mark {
+    size_t start;
+};
+
+/* Begins to write into a buffer. */
+static inline NLP_RESULT struct nlp_writer nlp_writer_begin(uint8_t *buffer, size_t capacity)
+{
+    const struct nlp_writer writer = { buffer, capacity, 0, NLP_OK };
+    return writer;
+}
+
+/* Begins a frame, as nlp_frame_put does. */
+static inline NLP_RESULT struct nlp_frame_mark nlp_writer_frame(struct nlp_writer *writer,
+                                                                const struct nlp_header *header,
+                                                                const void *fixed, size_t fixed_len)
+{
+    const struct nlp_frame_mark mark = { writer->at };
+    if (writer->failed == NLP_OK)
+        writer->failed = nlp_frame_put(writer->buffer, writer->capacity, &writer->at, header,
+                                       (const uint8_t *)fixed, fixed_len);
+    return mark;
+}
+
+/* Ends a frame, as nlp_frame_end does. */
+static inline void nlp_writer_frame_end(struct nlp_writer *writer, struct nlp_frame_mark mark)
+{
+    if (writer->failed == NLP_OK)
+        writer->failed = nlp_frame_end(writer->buffer, writer->capacity, writer->at, mark.start);
+}
+
+/* Writes two bytes of the header of a frame. NLP_NO_PLACE if no header was written at the mark. */
+static inline void nlp_writer_set(struct nlp_writer *writer, struct nlp_frame_mark mark, size_t offset,
+                                  uint16_t value)
+{
+    if (writer->failed == NLP_OK && (mark.start > writer->at || writer->at - mark.start < 16))
+        writer->failed = NLP_NO_PLACE;
+    if (writer->failed == NLP_OK) {
+        writer->buffer[mark.start + offset] = (uint8_t)value;
+        writer->buffer[mark.start + offset + 1] = (uint8_t)(value >> 8);
+    }
+}
+
+/* Sets the type of a message after its header was written. */
+static inline void nlp_writer_set_type(struct nlp_writer *writer, struct nlp_frame_mark mark, uint16_t type)
+{
+    nlp_writer_set(writer, mark, 4, type);
+}
+
+/* Sets the flags of a message after its header was written. */
+static inline void nlp_writer_set_flags(struct nlp_writer *writer, struct nlp_frame_mark mark, uint16_t flags)
+{
+    nlp_writer_set(writer, mark, 6, flags);
+}
+
+/* Begins a nest, as nlp_nest_begin does. */
+static inline NLP_RESULT struct nlp_nest_mark nlp_writer_nest(struct nlp_writer *writer, uint16_t kind)
+{
+    const struct nlp_nest_mark mark = { writer->at };
+    if (writer->failed == NLP_OK)
+        writer->failed = nlp_nest_begin(writer->buffer, writer->capacity, &writer->at, kind);
+    return mark;
+}
+
+/* Ends a nest, as nlp_nest_end does. */
+static inline void nlp_writer_nest_end(struct nlp_writer *writer, struct nlp_nest_mark mark)
+{
+    if (writer->failed == NLP_OK)
+        writer->failed = nlp_nest_end(writer->buffer, writer->capacity, writer->at, mark.start);
+}
+
+/* Takes back a nest that is not ended, and what was put into it. */
+static inline void nlp_writer_nest_cancel(struct nlp_writer *writer, struct nlp_nest_mark mark)
+{
+    if (writer->failed == NLP_OK && mark.start > writer->at)
+        writer->failed = NLP_NO_PLACE;
+    if (writer->failed == NLP_OK)
+        writer->at = mark.start;
+}
+
+/* Puts an attribute, as nlp_attr_put does. */
+static inline void nlp_writer_put(struct nlp_writer *writer, uint16_t kind, const void *value, size_t len)
+{
+    if (writer->failed == NLP_OK)
+        writer->failed = nlp_attr_put(writer->buffer, writer->capacity, &writer->at, kind,
+                                      (const uint8_t *)value, len);
+}
+
+/* Each of these puts an attribute, as nlp_attr_put_u8 and so on do. */
+static inline void nlp_writer_put_u8(struct nlp_writer *writer, uint16_t kind, uint8_t value)
+{
+    if (writer->failed == NLP_OK)
+        writer->failed = nlp_attr_put_u8(writer->buffer, writer->capacity, &writer->at, kind, value);
+}
+
+static inline void nlp_writer_put_u16(struct nlp_writer *writer, uint16_t kind, uint16_t value)
+{
+    if (writer->failed == NLP_OK)
+        writer->failed = nlp_attr_put_u16(writer->buffer, writer->capacity, &writer->at, kind, value);
+}
+
+static inline void nlp_writer_put_u32(struct nlp_writer *writer, uint16_t kind, uint32_t value)
+{
+    if (writer->failed == NLP_OK)
+        writer->failed = nlp_attr_put_u32(writer->buffer, writer->capacity, &writer->at, kind, value);
+}
+
+static inline void nlp_writer_put_u64(struct nlp_writer *writer, uint16_t kind, uint64_t value)
+{
+    if (writer->failed == NLP_OK)
+        writer->failed = nlp_attr_put_u64(writer->buffer, writer->capacity, &writer->at, kind, value);
+}
+
+static inline void nlp_writer_put_be16(struct nlp_writer *writer, uint16_t kind, uint16_t value)
+{
+    if (writer->failed == NLP_OK)
+        writer->failed = nlp_attr_put_be16(writer->buffer, writer->capacity, &writer->at, kind, value);
+}
+
+static inline void nlp_writer_put_be32(struct nlp_writer *writer, uint16_t kind, uint32_t value)
+{
+    if (writer->failed == NLP_OK)
+        writer->failed = nlp_attr_put_be32(writer->buffer, writer->capacity, &writer->at, kind, value);
+}
+
+static inline void nlp_writer_put_be64(struct nlp_writer *writer, uint16_t kind, uint64_t value)
+{
+    if (writer->failed == NLP_OK)
+        writer->failed = nlp_attr_put_be64(writer->buffer, writer->capacity, &writer->at, kind, value);
+}
+
+static inline void nlp_writer_put_flag(struct nlp_writer *writer, uint16_t kind)
+{
+    if (writer->failed == NLP_OK)
+        writer->failed = nlp_attr_put_flag(writer->buffer, writer->capacity, &writer->at, kind);
+}
+
+/* Puts an attribute whose value is a C string, with its zero. */
+static inline void nlp_writer_put_str(struct nlp_writer *writer, uint16_t kind, const char *text)
+{
+    if (writer->failed == NLP_OK)
+        writer->failed = nlp_attr_put_str(writer->buffer, writer->capacity, &writer->at, kind,
+                                          (const uint8_t *)text, strlen(text));
 }
 
 #ifdef __cplusplus

@@ -97,35 +97,69 @@ static void tables(void)
     expect("a table of no bytes", nlp_attrs_table(NULL, 0, table, 2, &fault) == NLP_OK && is_attr(&table[0], 0, 0, 0) && is_attr(&table[1], 0, 0, 0));
 }
 
-/* Returns whether the block is valid, or has this attribute as its first that is not. */
-static bool validates(size_t len, const struct nlp_policy *policy, size_t count, uint32_t result, uint16_t kind, size_t offset, size_t size)
+/* Returns whether the block has this result and this offset, which is 99 if it is unchanged. */
+static bool validates(size_t len, const struct nlp_policy *policy, size_t count, uint32_t result, size_t offset)
 {
     struct nlp_fault fault = { 96, 0, 0, 0 };
-    struct nlp_attr attr = { 99, 98, 97 };
-    uint32_t got = nlp_attrs_validate(block, len, policy, count, &attr, &fault);
-    return got == result && is_attr(&attr, kind, offset, size)
-        && (result == NLP_ATTR_CUT ? is_fault(&fault, 6, 6, 9) : is_fault(&fault, 96, 0, 0));
+    size_t at = 99;
+    uint32_t got = nlp_attrs_validate(block, len, policy, count, &at, &fault);
+    return got == result && at == offset && (result == NLP_ATTR_CUT ? is_fault(&fault, 6, 6, 9) : is_fault(&fault, 96, 0, 0));
 }
 
 static void policies(void)
 {
     const struct nlp_policy fits[6] = { { 2, NLP_EXACTLY, 4 }, { 1, NLP_AT_LEAST, 1 }, { 1, NLP_AT_MOST, 2 }, { 5, NLP_EXACTLY, 0 },
-        { 2, 0, 3 }, { 2, 4, 3 } };
+        { 2, 0, 3 }, { 2, 12, 3 } };
     const struct nlp_policy two[2] = { { 3, NLP_EXACTLY, 4 }, { 2, NLP_EXACTLY, 3 } };
-    expect("a policy that fits", validates(WHOLE, fits, 6, NLP_OK, 99, 98, 97));
-    expect("a policy of no rows", validates(WHOLE, NULL, 0, NLP_OK, 99, 98, 97));
-    expect("a policy and no bytes", validates(0, two, 2, NLP_OK, 99, 98, 97));
-    expect("a policy that fits before an error", validates(sizeof block, fits, 6, NLP_ATTR_CUT, 99, 98, 97));
-    expect("the first in the block", validates(WHOLE, two, 2, NLP_WRONG_SIZE, 0x8002, 12, 4));
-    expect("the first before an error", validates(sizeof block, two, 2, NLP_WRONG_SIZE, 0x8002, 12, 4));
-    expect("a policy of one row", validates(WHOLE, two, 1, NLP_WRONG_SIZE, 0x4003, 28, 8));
-    expect("exactly 2", validates(WHOLE, &(struct nlp_policy){ 1, NLP_EXACTLY, 2 }, 1, NLP_WRONG_SIZE, 1, 4, 1));
-    expect("exactly 1", validates(WHOLE, &(struct nlp_policy){ 1, NLP_EXACTLY, 1 }, 1, NLP_WRONG_SIZE, 1, 20, 2));
-    expect("at least 2", validates(WHOLE, &(struct nlp_policy){ 1, NLP_AT_LEAST, 2 }, 1, NLP_WRONG_SIZE, 1, 4, 1));
-    expect("at most 1", validates(WHOLE, &(struct nlp_policy){ 1, NLP_AT_MOST, 1 }, 1, NLP_WRONG_SIZE, 1, 20, 2));
-    expect("kind 0", validates(WHOLE, &(struct nlp_policy){ 0, NLP_AT_MOST, 3 }, 1, NLP_WRONG_SIZE, 0, 40, 4));
-    expect("a row with a flag", validates(WHOLE, &(struct nlp_policy){ 0x8002, NLP_EXACTLY, 3 }, 1, NLP_OK, 99, 98, 97));
-    expect("a row of kind 0xffff", validates(WHOLE, &(struct nlp_policy){ 0xffff, NLP_EXACTLY, 3 }, 1, NLP_OK, 99, 98, 97));
+    expect("a policy that fits", validates(WHOLE, fits, 6, NLP_OK, 99));
+    expect("a policy of no rows", validates(WHOLE, NULL, 0, NLP_OK, 99));
+    expect("a policy of no rows and an error", validates(sizeof block, NULL, 0, NLP_ATTR_CUT, 48));
+    expect("a policy and no bytes", validates(0, two, 2, NLP_OK, 99));
+    expect("a policy that fits before an error", validates(sizeof block, fits, 6, NLP_ATTR_CUT, 48));
+    expect("the first in the block", validates(WHOLE, two, 2, NLP_WRONG_SHAPE, 8));
+    expect("the first before an error", validates(sizeof block, two, 2, NLP_WRONG_SHAPE, 8));
+    expect("a policy of one row", validates(WHOLE, two, 1, NLP_WRONG_SHAPE, 24));
+    expect("a row with a flag", validates(WHOLE, &(struct nlp_policy){ 0x8002, NLP_EXACTLY, 3 }, 1, NLP_OK, 99));
+    expect("a row of kind 0xffff", validates(WHOLE, &(struct nlp_policy){ 0xffff, NLP_EXACTLY, 3 }, 1, NLP_OK, 99));
+}
+
+/* Returns whether a value of kind 7 has a shape, or the error for another shape. */
+static bool has_shape(const char *value, size_t size, uint16_t shape, size_t stated)
+{
+    uint8_t bytes[20];
+    const struct nlp_policy row = { 7, shape, stated };
+    struct nlp_fault fault = { 96, 0, 0, 0 };
+    size_t at = 0, offset = 99;
+    if (nlp_attr_put(bytes, sizeof bytes, &at, 0x4007, (const uint8_t *)value, size) != NLP_OK)
+        return false;
+    uint32_t result = nlp_attrs_validate(bytes, at, &row, 1, &offset, &fault);
+    expect("the offset and the fault of a shape", offset == (result == NLP_OK ? 99u : 0u) && is_fault(&fault, 96, 0, 0));
+    return result == NLP_OK || result != NLP_WRONG_SHAPE;
+}
+
+/* The shapes, by what lib/nlattr.c of the kernel accepts for the NLA_* of the same name. */
+static void shapes(void)
+{
+    static const uint16_t sizes[5][2] = { { NLP_U8, 1 }, { NLP_U16, 2 }, { NLP_U32, 4 }, { NLP_U64, 8 }, { NLP_FLAG, 0 } };
+    bool integers = true, counts = true, nests = true;
+    for (size_t size = 0; size <= 9; size++) {
+        for (size_t row = 0; row < 5; row++)
+            integers = integers && has_shape("123456789", size, sizes[row][0], 5) == (size == sizes[row][1]);
+        counts = counts && has_shape("123456789", size, NLP_EXACTLY, 3) == (size == 3) && has_shape("123456789", size, NLP_AT_LEAST, 3) == (size >= 3)
+            && has_shape("123456789", size, NLP_AT_MOST, 3) == (size <= 3) && has_shape("123456789", size, 0, 3) && has_shape("123456789", size, 12, 3);
+        nests = nests && has_shape("123456789", size, NLP_NESTED, 5) == (size == 0 || size >= 4);
+    }
+    expect("the sizes of integers and flags", integers);
+    expect("exactly, at least and at most", counts);
+    expect("the sizes of nests", nests);
+    expect("a string", has_shape("lo", 2, NLP_STRING, 0) && has_shape("lo", 3, NLP_STRING, 0) && has_shape("", 1, NLP_STRING, 0));
+    expect("no bytes are no string", !has_shape("", 0, NLP_STRING, 0) && !has_shape("", 0, NLP_NUL_STRING, 0));
+    expect("the most of a string", has_shape("lo", 2, NLP_STRING, 2) && has_shape("lo", 3, NLP_STRING, 2) && !has_shape("lo2", 3, NLP_STRING, 2)
+        && !has_shape("lo\0", 4, NLP_STRING, 2) && has_shape("", 1, NLP_STRING, 1));
+    expect("a string with a zero", has_shape("lo", 3, NLP_NUL_STRING, 0) && !has_shape("lo", 2, NLP_NUL_STRING, 0) && has_shape("", 1, NLP_NUL_STRING, 0)
+        && has_shape("l\0o", 3, NLP_NUL_STRING, 0) && has_shape("\0o", 2, NLP_NUL_STRING, 0));
+    expect("the most of a string with a zero", has_shape("lo", 3, NLP_NUL_STRING, 2) && !has_shape("lo2", 4, NLP_NUL_STRING, 2)
+        && !has_shape("lo", 2, NLP_NUL_STRING, 2) && !has_shape("l\0o", 3, NLP_NUL_STRING, 2) && has_shape("l\0o", 4, NLP_NUL_STRING, 3));
 }
 
 /* Returns whether each getter of an integer returns this result, and changes nothing. */
@@ -259,6 +293,7 @@ int main(void)
     lengths();
     tables();
     policies();
+    shapes();
     gets_numbers();
     gets_bytes();
     puts_values();

@@ -27,10 +27,13 @@ static void constants(void)
         { "NLP_FRAME_CUT", NLP_FRAME_CUT, 10 }, { "NLP_FRAME_LENGTH", NLP_FRAME_LENGTH, 11 }, { "NLP_DONE_SHORT", NLP_DONE_SHORT, 12 },
         { "NLP_ERROR_SHORT", NLP_ERROR_SHORT, 13 }, { "NLP_REFUSED", NLP_REFUSED, 14 }, { "NLP_FRAME_TOO_LONG", NLP_FRAME_TOO_LONG, 15 },
         { "NLP_NO_MEMORY", NLP_NO_MEMORY, 16 }, { "NLP_END", NLP_END, 32 }, { "NLP_TOO_LONG", NLP_TOO_LONG, 33 },
-        { "NLP_NO_PLACE", NLP_NO_PLACE, 34 }, { "NLP_WRONG_SIZE", NLP_WRONG_SIZE, 35 }, { "NLP_MESSAGE", NLP_MESSAGE, 1 }, { "NLP_DONE", NLP_DONE, 2 },
+        { "NLP_NO_PLACE", NLP_NO_PLACE, 34 }, { "NLP_WRONG_SIZE", NLP_WRONG_SIZE, 35 },
+        { "NLP_WRONG_SHAPE", NLP_WRONG_SHAPE, 36 }, { "NLP_MESSAGE", NLP_MESSAGE, 1 }, { "NLP_DONE", NLP_DONE, 2 },
         { "NLP_ACKNOWLEDGED", NLP_ACKNOWLEDGED, 3 }, { "NLP_REJECTED", NLP_REJECTED, 4 }, { "NLP_OVERRUN", NLP_OVERRUN, 5 },
         { "NLP_OTHER", NLP_OTHER, 6 }, { "NLP_EXACTLY", NLP_EXACTLY, 1 }, { "NLP_AT_LEAST", NLP_AT_LEAST, 2 },
-        { "NLP_AT_MOST", NLP_AT_MOST, 3 }, { "NLA_F_NESTED", NLP_KIND_NESTED, 1 << 15 },
+        { "NLP_AT_MOST", NLP_AT_MOST, 3 }, { "NLP_U8", NLP_U8, 4 }, { "NLP_U16", NLP_U16, 5 }, { "NLP_U32", NLP_U32, 6 },
+        { "NLP_U64", NLP_U64, 7 }, { "NLP_FLAG", NLP_FLAG, 8 }, { "NLP_STRING", NLP_STRING, 9 },
+        { "NLP_NUL_STRING", NLP_NUL_STRING, 10 }, { "NLP_NESTED", NLP_NESTED, 11 }, { "NLA_F_NESTED", NLP_KIND_NESTED, 1 << 15 },
         { "NLA_F_NET_BYTEORDER", NLP_KIND_NET_BYTEORDER, 1 << 14 }, { "NLA_TYPE_MASK", NLP_KIND_MASK, 0x3fff },
     };
     for (size_t at = 0; at < sizeof rows / sizeof rows[0]; at++)
@@ -75,6 +78,12 @@ AT(nlp_reply, 4, int32_t, code);
 AT(nlp_reply, 8, struct nlp_part, frame);
 AT(nlp_reply, 24, struct nlp_part, request);
 AT(nlp_reply, 40, struct nlp_part, attributes);
+AT(nlp_writer, 0, uint8_t *, buffer);
+AT(nlp_writer, 8, size_t, capacity);
+AT(nlp_writer, 16, size_t, at);
+AT(nlp_writer, 24, uint32_t, failed);
+AT(nlp_frame_mark, 0, size_t, start);
+AT(nlp_nest_mark, 0, size_t, start);
 
 typedef const uint8_t *in;
 typedef uint8_t *out;
@@ -82,6 +91,8 @@ typedef size_t *place;
 typedef struct nlp_fault *fault;
 typedef struct nlp_part *part;
 typedef const struct nlp_attr *attr;
+typedef const struct nlp_policy *policy;
+typedef struct nlp_writer *writer;
 
 /* Each function has exactly this type. */
 #define IS(name, result, ...) _Static_assert(_Generic(&name, result (*)(__VA_ARGS__): 1, default: 0), #name)
@@ -98,7 +109,7 @@ IS_CALL(nlp_messages_next, in, size_t, place, struct nlp_message *, fault);
 IS_CALL(nlp_message_attrs, const struct nlp_message *, size_t, part);
 IS_CALL(nlp_attrs_find, in, size_t, uint16_t, struct nlp_attr *, fault);
 IS_CALL(nlp_attrs_table, in, size_t, struct nlp_attr *, size_t, fault);
-IS_CALL(nlp_attrs_validate, in, size_t, const struct nlp_policy *, size_t, struct nlp_attr *, fault);
+IS_CALL(nlp_attrs_validate, in, size_t, policy, size_t, place, fault);
 IS_CALL(nlp_get_u8, in, size_t, attr, uint8_t *);
 IS_CALL(nlp_get_u16, in, size_t, attr, uint16_t *);
 IS_CALL(nlp_get_u32, in, size_t, attr, uint32_t *);
@@ -140,6 +151,40 @@ IS_CALL(nlp_fault_text, const struct nlp_fault *, out, size_t, place);
 IS(nlp_u16, uint16_t, in);
 IS(nlp_u32, uint32_t, in);
 IS(nlp_u64, uint64_t, in);
+IS_CALL(nlp_messages_next_opt, in, size_t, place, struct nlp_message *, fault);
+IS_CALL(nlp_attrs_next_opt, in, size_t, place, struct nlp_attr *, fault);
+IS_CALL(nlp_frames_next_opt, in, size_t, place, part, fault);
+IS_CALL(nlp_replies_next_opt, in, size_t, place, struct nlp_replies *, struct nlp_reply *, fault);
+IS_CALL(nlp_attrs_find_opt, in, size_t, uint16_t, struct nlp_attr *, fault);
+IS_CALL(nlp_attrs_table_opt, in, size_t, struct nlp_attr *, size_t, fault);
+IS_CALL(nlp_attrs_validate_opt, in, size_t, policy, size_t, place, fault);
+IS_CALL(nlp_frame_check_opt, in, size_t, fault);
+IS_CALL(nlp_frame_header_opt, in, size_t, struct nlp_header *, fault);
+IS_CALL(nlp_frame_payload_opt, in, size_t, part, fault);
+IS_CALL(nlp_error_body_opt, in, size_t, uint16_t, struct nlp_error *, fault);
+IS_CALL(nlp_done_body_opt, in, size_t, int32_t *, part, fault);
+IS_CALL(nlp_attrs_normalize_opt, in, size_t, out, size_t, place, fault);
+IS_CALL(nlp_frame_is_canonical_opt, in, size_t, uint32_t *, fault);
+IS_CALL(nlp_frame_normalize_opt, in, size_t, out, size_t, place, fault);
+IS_CALL(nlp_reply_message, in, const struct nlp_reply *, struct nlp_message *);
+IS(nlp_writer_begin, struct nlp_writer, out, size_t);
+IS(nlp_writer_frame, struct nlp_frame_mark, writer, const struct nlp_header *, const void *, size_t);
+IS(nlp_writer_frame_end, void, writer, struct nlp_frame_mark);
+IS(nlp_writer_set_type, void, writer, struct nlp_frame_mark, uint16_t);
+IS(nlp_writer_set_flags, void, writer, struct nlp_frame_mark, uint16_t);
+IS(nlp_writer_nest, struct nlp_nest_mark, writer, uint16_t);
+IS(nlp_writer_nest_end, void, writer, struct nlp_nest_mark);
+IS(nlp_writer_nest_cancel, void, writer, struct nlp_nest_mark);
+IS(nlp_writer_put, void, writer, uint16_t, const void *, size_t);
+IS(nlp_writer_put_u8, void, writer, uint16_t, uint8_t);
+IS(nlp_writer_put_u16, void, writer, uint16_t, uint16_t);
+IS(nlp_writer_put_u32, void, writer, uint16_t, uint32_t);
+IS(nlp_writer_put_u64, void, writer, uint16_t, uint64_t);
+IS(nlp_writer_put_be16, void, writer, uint16_t, uint16_t);
+IS(nlp_writer_put_be32, void, writer, uint16_t, uint32_t);
+IS(nlp_writer_put_be64, void, writer, uint16_t, uint64_t);
+IS(nlp_writer_put_flag, void, writer, uint16_t);
+IS(nlp_writer_put_str, void, writer, uint16_t, const char *);
 
 static void integers(void)
 {

@@ -253,7 +253,8 @@ static int follow_datagram(const struct bytes *datagram, struct nlp_replies *rep
         long action;
         step.frame = datagram->at + part.offset;
         step.size = part.size;
-        nlp_frame_header(step.frame, step.size, &step.header, &fault);
+        if (nlp_frame_header(step.frame, step.size, &step.header, &fault) != NLP_OK)
+            return 0;
         if (step.header.message_type != NLMSG_NOOP) {
             step.answer = nlp_replies_next(datagram->at, datagram->len, &at, replies, &step.reply, &fault);
             if (at != walk || (step.answer == NLP_OK

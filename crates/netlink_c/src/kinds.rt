@@ -10,7 +10,7 @@ use crate::walk::AttributeItem;
 use netlink_packet_core::{NLA_F_NET_BYTEORDER, NLA_HEADER_SIZE, NlaBuffer, NlasIterator};
 
 /// The entry of a table for a kind that no attribute has.
-const ABSENT: AttributeItem = AttributeItem {
+pub(crate) const ABSENT: AttributeItem = AttributeItem {
     kind: 0,
     offset: 0,
     size: 0,

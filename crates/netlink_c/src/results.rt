@@ -24,3 +24,6 @@ pub const NO_PLACE: u32 = 34;
 /// A value does not have the size that is asked for, or a payload is shorter than its fixed header.
 /// Nothing is changed.
 pub const WRONG_SIZE: u32 = 35;
+
+/// A value does not have the shape that a policy states. Nothing but the offset is changed.
+pub const WRONG_SHAPE: u32 = 36;

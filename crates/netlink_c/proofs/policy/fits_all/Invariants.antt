@@ -4,4 +4,4 @@ use Rattle.netlink_c.proofs.policy.fits_all.Given as goal
 
 -- the rows so far are met
 abbrev pub invariant-loop-row : goal.invariant-loop-row
-invariant-loop-row l = fits_rows l.policy l.item ≡ fits_rows (drop l.row-index l.policy) l.item
+invariant-loop-row l = fits_rows l.policy l.kind l.value ≡ fits_rows (drop l.row-index l.policy) l.kind l.value
