@@ -14,6 +14,13 @@ from wrapper import RUST, cargo, run_dump
 WARNINGS = ["-O1", "-Wall", "-Wextra", "-Werror", "-pedantic"]
 TOOLS = ["make", "cc", "ld", "objcopy", "ar", "nm", "realpath"]
 REQUEST = os.path.join(HERE, "examples", "request.c")
+# The files that state the version, each with the line that does. In the changelog, that is the first numbered heading.
+STATED = {
+    "c/include/netlink_packet.h": r'(?m)^#define NLP_VERSION "(.*)"$',
+    "rust/Cargo.toml": r'(?m)^version = "(.*)"$',
+    "rust/Cargo.lock": r'(?m)^name = "netlink-packet-proved"\nversion = "(.*)"$',
+    "CHANGELOG.md": r"(?m)^## (\d\S*) \(\d{4}-\d\d-\d\d\)$",
+}
 
 
 def run(words, text=True, **variables):
@@ -89,19 +96,23 @@ def run_plus(prefix, lib, folder):
 
 
 def run_cmake(prefix, folder):
-    """Builds a project by CMake with the shared and with the static library, and asks for a version that there is not."""
+    """Builds a project by CMake with the shared and with the static library. Asks for a newer version, and for an older
+    one with another second number, which this one does not replace."""
     if not shutil.which("cmake"):
         skip("cmake", "the machine has no CMake")
         return
     build, wanted = os.path.join(folder, "build"), version().rpartition(".")[0]
     words = ["cmake", "-S", os.path.join(HERE, "tests", "cmake"), f"-DCMAKE_PREFIX_PATH={prefix}"]
     made = run([*words, "-B", build, f"-DWANTED={wanted}"])
+    note("the version that CMake finds", f"-- netlink_packet {version()}\n" in made.stdout, made.stdout + made.stderr)
     made = run(["cmake", "--build", build]) if made.returncode == 0 else made
     for name in "netlink_packet", "static":
         holds = made.returncode == 0 and is_request([os.path.join(build, f"request_{name}")])
         note(f"a project by CMake: {name}", holds, made.stdout[-1000:] + made.stderr[-1000:])
-    made = run([*words, "-B", f"{build}-newer", "-DWANTED=9.9"])
-    note("CMake finds no newer version", made.returncode != 0 and "9.9" in made.stderr, made.stderr)
+    for other in "9.9", "0.1":
+        made = run([*words, "-B", f"{build}-{other}", f"-DWANTED={other}"])
+        holds = made.returncode != 0 and f'compatible with requested version "{other}"' in made.stderr
+        note(f"CMake finds no version {other}", holds, made.stderr)
 
 
 def run_wrapper(prefix, lib, folder):
@@ -126,10 +137,18 @@ def run_python(lib):
         run_dump(lambda: run(words))
 
 
+def run_versions():
+    """Tests that each file that states the version has that of c/VERSION."""
+    for name, line in STATED.items():
+        with open(os.path.join(TOP, name)) as file:
+            found = re.search(line, file.read())
+        holds = found and found[1] == version()
+        note(f"the version in {name}", holds, f"{found[1] if found else 'none'} instead of {version()}")
+
+
 def run_installed(folder):
     """Runs all, if the tools that the Makefile calls are installed."""
-    with open(os.path.join(TOP, "rust", "Cargo.toml")) as file:
-        note("the wrapper has the library's version", f'\nversion = "{version()}"\n' in file.read())
+    run_versions()
     missing = [it for it in TOOLS if not shutil.which(it)]
     if missing:
         skip("install", f"the machine has no {' and no '.join(missing)}")

@@ -29,7 +29,7 @@ ALIKE = [
 ]
 # What replaces a part of a line of Rust or C.
 PARTS = [
-    (re.compile(r"(?<![\w.\"'])(0x[0-9a-f]+|\d+)(?=[^\w.\"']|\.\.|u\b)"), lambda it: f"{int(it, 0) + 1}"),
+    (re.compile(r"(?<![\w.\"'])(0x[0-9a-f]+|\d+)(?=[^\w.\"']|\.\.|u\b|$)"), lambda it: f"{int(it, 0) + 1}"),
     *((re.compile(rf"(?<!\w){name}\b"), lambda it, to=(names * 2)[at + 1]: to) for names in ALIKE for at, name in enumerate(names)),
     (re.compile(r"=="), lambda it: "!="),
     (re.compile(r"!="), lambda it: "=="),

@@ -75,6 +75,12 @@
 #endif
 #define NLP_CHECKED(...) NLP_RESULT NLP_NONNULL(__VA_ARGS__)
 
+/* The version of the library. A program can test the numbers in an #if. */
+#define NLP_VERSION_MAJOR 0
+#define NLP_VERSION_MINOR 2
+#define NLP_VERSION_PATCH 0
+#define NLP_VERSION "0.2.0"
+
 #ifdef __cplusplus
 extern "C" {
 #endif

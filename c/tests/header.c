@@ -40,6 +40,15 @@ static void constants(void)
         expect(rows[at].name, rows[at].value == rows[at].wanted);
 }
 
+/* NLP_VERSION has the three numbers. c/test compares it with c/VERSION. */
+#define TEXT(number) #number
+#define DOTTED(major, minor, patch) TEXT(major) "." TEXT(minor) "." TEXT(patch)
+
+static void version(void)
+{
+    expect("NLP_VERSION", strcmp(NLP_VERSION, DOTTED(NLP_VERSION_MAJOR, NLP_VERSION_MINOR, NLP_VERSION_PATCH)) == 0);
+}
+
 /* The offset and the type of each field. */
 #define AT(type, offset, field_type, field) \
     _Static_assert(offsetof(struct type, field) == (offset) && _Generic(((struct type *)NULL)->field, field_type: 1, default: 0), #type " " #field)
@@ -198,6 +207,7 @@ static void integers(void)
 int main(void)
 {
     constants();
+    version();
     integers();
     printf("%d passed, %d failed\n", passed, failed);
     return failed != 0;
