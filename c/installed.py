@@ -1,5 +1,5 @@
 """Tests the installed library for c/test: installs it into a folder, moves that, and uses it there from C, C++, CMake,
-Rust and Python."""
+Rust and Python. Compares the files that state the version."""
 
 import os
 import re

@@ -1,5 +1,6 @@
 //! libmnl, as a C program calls it.
 
+use crate::found::Found;
 use std::ffi::{c_int, c_uint, c_void};
 
 extern "C" {
@@ -35,16 +36,23 @@ pub fn read(bytes: &[u8]) -> usize {
     }
 }
 
-pub fn walk(bytes: &[u8]) -> usize {
+/// Calls `see` for each attribute of a block.
+fn attributes(bytes: &[u8], mut see: impl FnMut(*const c_void)) {
     let mut attr = bytes.as_ptr().cast::<c_void>();
     let end = bytes.as_ptr_range().end as isize;
-    let mut sum = 0;
     unsafe {
         while mnl_attr_ok(attr, (end - attr as isize) as c_int) {
-            sum += mnl_attr_get_type(attr) as usize + mnl_attr_get_payload_len(attr) as usize;
+            see(attr);
             attr = mnl_attr_next(attr);
         }
     }
+}
+
+pub fn walk(bytes: &[u8]) -> usize {
+    let mut sum = 0;
+    attributes(bytes, |attr| unsafe {
+        sum += mnl_attr_get_type(attr) as usize + mnl_attr_get_payload_len(attr) as usize;
+    });
     sum
 }
 
@@ -59,15 +67,12 @@ pub fn put(count: usize, out: &mut [u8]) -> usize {
 }
 
 pub fn normalize(bytes: &[u8], out: &mut [u8]) -> usize {
-    let mut attr = bytes.as_ptr().cast::<c_void>();
-    let end = bytes.as_ptr_range().end as isize;
     unsafe {
         let frame = mnl_nlmsg_put_header(out.as_mut_ptr().cast());
-        while mnl_attr_ok(attr, (end - attr as isize) as c_int) {
+        attributes(bytes, |attr| {
             let size = mnl_attr_get_payload_len(attr) as usize;
             mnl_attr_put_check(frame, out.len(), mnl_attr_get_type(attr), size, mnl_attr_get_payload(attr));
-            attr = mnl_attr_next(attr);
-        }
+        });
         mnl_nlmsg_get_payload_len(frame)
     }
 }
@@ -76,16 +81,21 @@ pub fn refuse(bytes: &[u8]) -> usize {
     !unsafe { mnl_nlmsg_ok(bytes.as_ptr().cast(), bytes.len() as c_int) } as usize
 }
 
-pub fn split(bytes: &[u8]) -> usize {
+/// Calls `see` for each frame of a datagram.
+fn frames(bytes: &[u8], mut see: impl FnMut(*const c_void)) {
     let mut frame = bytes.as_ptr().cast::<c_void>();
     let mut left = bytes.len() as c_int;
-    let mut sum = 0;
     unsafe {
         while mnl_nlmsg_ok(frame, left) {
-            sum += mnl_nlmsg_get_payload_len(frame) + 16;
+            see(frame);
             frame = mnl_nlmsg_next(frame, &mut left);
         }
     }
+}
+
+pub fn split(bytes: &[u8]) -> usize {
+    let mut sum = 0;
+    frames(bytes, |frame| unsafe { sum += mnl_nlmsg_get_payload_len(frame) + 16 });
     sum
 }
 
@@ -105,30 +115,69 @@ extern "C" fn enter(attr: *const c_void, table: *mut c_void) -> c_int {
     1
 }
 
-/// Fills a table of `count` entries, and returns the size of the value of the last.
-pub fn table(frame: &[u8], count: usize, out: &mut [u8]) -> usize {
+/// Returns a table of `count` entries, which is filled.
+fn filled<'a>(frame: &[u8], count: usize, out: &'a mut [u8]) -> &'a [*const c_void] {
     unsafe {
         let attributes = &mut out.align_to_mut::<*const c_void>().1[..count];
         attributes.fill(std::ptr::null());
         let mut table = Table { attributes: attributes.as_mut_ptr(), most: (count - 1) as u16 };
         mnl_attr_parse(frame.as_ptr().cast(), 0, enter, (&raw mut table).cast());
-        mnl_attr_get_payload_len(attributes[count - 1]) as usize
+        attributes
     }
 }
 
-/// Reads the type and the size of each message, and locates its payload.
+/// Fills a table of `count` entries, and returns the size of the value of the last.
+pub fn table(frame: &[u8], count: usize, out: &mut [u8]) -> usize {
+    unsafe { mnl_attr_get_payload_len(filled(frame, count, out)[count - 1]) as usize }
+}
+
+/// Returns the type and the size of a message, and locates its payload.
+unsafe fn message(frame: *const c_void) -> (u16, usize, *mut c_void) {
+    let payload = mnl_nlmsg_get_payload(frame);
+    let header = frame.cast::<u8>();
+    let length = header.cast::<u32>().read_unaligned() as usize;
+    let kind = header.add(4).cast::<u16>().read_unaligned();
+    (kind, length - (payload as usize - frame as usize), payload)
+}
+
 pub fn messages(bytes: &[u8]) -> usize {
-    let mut frame = bytes.as_ptr().cast::<c_void>();
-    let mut left = bytes.len() as c_int;
     let mut sum = 0;
-    unsafe {
-        while mnl_nlmsg_ok(frame, left) {
-            let payload = mnl_nlmsg_get_payload(frame) as usize - frame as usize;
-            let header = frame.cast::<u8>();
-            sum += header.add(4).cast::<u16>().read_unaligned() as usize;
-            sum += header.cast::<u32>().read_unaligned() as usize - payload;
-            frame = mnl_nlmsg_next(frame, &mut left);
-        }
-    }
+    frames(bytes, |frame| {
+        let (kind, size, _payload) = unsafe { message(frame) };
+        sum += kind as usize + size;
+    });
     sum
+}
+
+/// Returns what one call of a case that writes no bytes found.
+pub fn found(case: &str, size: usize, bytes: &[u8], out: &mut [u8]) -> Found {
+    let mut found = Found::default();
+    let at = |place: *const c_void| place as usize - bytes.as_ptr() as usize;
+    let frame = |frame, found: &mut Found| found.item(0, at(frame), unsafe { mnl_nlmsg_get_payload_len(frame) } + 16);
+    let attribute = |attr, found: &mut Found| unsafe {
+        found.item(mnl_attr_get_type(attr), at(mnl_attr_get_payload(attr)), mnl_attr_get_payload_len(attr) as usize)
+    };
+    match case {
+        "view" => unsafe {
+            let frame = bytes.as_ptr().cast::<c_void>();
+            let kind = u16::from_ne_bytes([bytes[4], bytes[5]]);
+            found.item(kind, at(mnl_nlmsg_get_payload(frame)), mnl_nlmsg_get_payload_len(frame));
+        },
+        "refuse" => {
+            found.rejected(refuse(bytes) != 0);
+            frames(bytes, |it| frame(it, &mut found));
+        }
+        "walk" => attributes(bytes, |it| attribute(it, &mut found)),
+        "split" => frames(bytes, |it| frame(it, &mut found)),
+        "table" => filled(bytes, size, out).iter().for_each(|&it| match it.is_null() {
+            true => found.item(0, 16, 0),
+            false => attribute(it, &mut found),
+        }),
+        "messages" => frames(bytes, |frame| {
+            let (kind, size, payload) = unsafe { message(frame) };
+            found.item(kind, at(payload), size);
+        }),
+        _ => panic!("no such case: {case}"),
+    }
+    found
 }

@@ -1,9 +1,11 @@
 //! Runs one case in one library, a given number of times.
 //!
 //! `bench CASE LIBRARY SIZE TIMES` prints the sum of the results, so that those of the libraries can be compared, and
-//! the time. Without arguments, `bench` prints one line per case: its name, its size, and the libraries that have it.
-//! `run` counts the instructions.
+//! the time. `bench CASE LIBRARY SIZE bytes` prints in hexadecimal what one call wrote or found. Without arguments,
+//! `bench` prints one line per case: its name, its size, and the libraries that have it. `run` compares the bytes and
+//! counts the instructions.
 
+mod found;
 mod libmnl;
 mod ours;
 mod rust_crate;
@@ -65,6 +67,8 @@ fn input(case: &str, size: usize) -> Vec<u8> {
     }
 }
 
+// Inline, so that a count does not include a call of this function.
+#[inline(always)]
 fn once(case: &str, library: &str, size: usize, bytes: &[u8], out: &mut [u8]) -> usize {
     match (case, library) {
         ("read", "ours") | ("view", "ours") => ours::read(bytes),
@@ -88,11 +92,29 @@ fn once(case: &str, library: &str, size: usize, bytes: &[u8], out: &mut [u8]) ->
         ("split", "ours") => ours::split(bytes),
         ("split", "rust") => rust_crate::split(bytes),
         ("split", "libmnl") => libmnl::split(bytes),
-        ("table", "ours") => ours::table(&bytes[16..], size, out),
+        ("table", "ours") => ours::table(bytes, size, out),
         ("table", "libmnl") => libmnl::table(bytes, size, out),
         ("messages", "ours") => ours::messages(bytes),
         ("messages", "libmnl") => libmnl::messages(bytes),
         _ => panic!("no such case: {case} {library}"),
+    }
+}
+
+/// Returns what one call wrote, or what it found in the layout of `found`.
+fn output(case: &str, library: &str, size: usize, bytes: &[u8], out: &mut [u8]) -> Vec<u8> {
+    // A byte that a call counts as written but does not write keeps this value.
+    out.fill(0xee);
+    match (case, library) {
+        ("round_trip" | "put" | "normalise", _) => {
+            let written = once(case, library, size, bytes, out);
+            // libmnl writes attributes after the header of a frame.
+            let start = if library == "libmnl" { 16 } else { 0 };
+            out[start..start + written].to_vec()
+        }
+        (_, "ours") => ours::found(case, size, bytes, out).0,
+        (_, "rust") => rust_crate::found(case, bytes).0,
+        (_, "libmnl") => libmnl::found(case, size, bytes, out).0,
+        _ => panic!("no such library: {library}"),
     }
 }
 
@@ -120,10 +142,15 @@ fn main() {
     let [case, library, size, times] = &words[..] else {
         return print_cases();
     };
-    let (size, times): (usize, usize) = (size.parse().unwrap(), times.parse().unwrap());
+    let size: usize = size.parse().unwrap();
     let bytes = input(case, size);
     // A table of this library has 24 bytes for each attribute of 8.
     let mut out = vec![0; 32 + 4 * bytes.len()];
+    if times == "bytes" {
+        let bytes = output(case, library, size, &bytes, &mut out);
+        return println!("{}", bytes.iter().map(|it| format!("{it:02x}")).collect::<String>());
+    }
+    let times: usize = times.parse().unwrap();
     let mut sum = 0usize;
     let start = std::time::Instant::now();
     for _ in 0..times {

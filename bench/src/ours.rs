@@ -1,5 +1,7 @@
 //! The library of c/, by its C calls.
 
+use crate::found::Found;
+
 #[repr(C)]
 #[derive(Clone, Copy, Default)]
 struct Fault {
@@ -74,7 +76,8 @@ extern "C" {
     ) -> u32;
 }
 
-pub fn read(bytes: &[u8]) -> usize {
+/// Returns the header of a frame, and where its payload is.
+fn parts(bytes: &[u8]) -> Option<(Header, Part)> {
     let mut header = Header::default();
     let mut part = Part::default();
     let mut fault = Fault::default();
@@ -82,10 +85,14 @@ pub fn read(bytes: &[u8]) -> usize {
         if nlp_frame_header(bytes.as_ptr(), bytes.len(), &mut header, &mut fault) != 0
             || nlp_frame_payload(bytes.as_ptr(), bytes.len(), &mut part, &mut fault) != 0
         {
-            return 0;
+            return None;
         }
     }
-    header.message_type as usize + part.size
+    Some((header, part))
+}
+
+pub fn read(bytes: &[u8]) -> usize {
+    parts(bytes).map_or(0, |(header, part)| header.message_type as usize + part.size)
 }
 
 pub fn round_trip(bytes: &[u8], out: &mut [u8]) -> usize {
@@ -95,14 +102,19 @@ pub fn round_trip(bytes: &[u8], out: &mut [u8]) -> usize {
     size
 }
 
-pub fn walk(bytes: &[u8]) -> usize {
+/// Calls `see` for each attribute of a block.
+fn attributes(bytes: &[u8], mut see: impl FnMut(&Attr)) {
     let mut at = 0;
     let mut item = Attr::default();
     let mut fault = Fault::default();
-    let mut sum = 0;
     while unsafe { nlp_attrs_next(bytes.as_ptr(), bytes.len(), &mut at, &mut item, &mut fault) } == 0 {
-        sum += item.kind as usize + item.size;
+        see(&item);
     }
+}
+
+pub fn walk(bytes: &[u8]) -> usize {
+    let mut sum = 0;
+    attributes(bytes, |it| sum += it.kind as usize + it.size);
     sum
 }
 
@@ -126,34 +138,75 @@ pub fn refuse(bytes: &[u8]) -> usize {
     unsafe { nlp_frame_check(bytes.as_ptr(), bytes.len(), &mut fault) as usize }
 }
 
-pub fn split(bytes: &[u8]) -> usize {
+/// Calls `see` for each frame of a datagram.
+fn frames(bytes: &[u8], mut see: impl FnMut(&Part)) {
     let mut at = 0;
     let mut item = Part::default();
     let mut fault = Fault::default();
-    let mut sum = 0;
     while unsafe { nlp_frames_next(bytes.as_ptr(), bytes.len(), &mut at, &mut item, &mut fault) } == 0 {
-        sum += item.size;
+        see(&item);
     }
+}
+
+pub fn split(bytes: &[u8]) -> usize {
+    let mut sum = 0;
+    frames(bytes, |it| sum += it.size);
     sum
 }
 
-/// Fills a table of `count` entries, and returns the size of the value of the last.
-pub fn table(block: &[u8], count: usize, out: &mut [u8]) -> usize {
+/// Returns a table of `count` entries, which is filled.
+fn filled<'a>(block: &[u8], count: usize, out: &'a mut [u8]) -> &'a [Attr] {
     let mut fault = Fault::default();
     unsafe {
         let table = &mut out.align_to_mut::<Attr>().1[..count];
         nlp_attrs_table(block.as_ptr(), block.len(), table.as_mut_ptr(), count, &mut fault);
-        table[count - 1].size
+        table
+    }
+}
+
+/// Fills a table of `count` entries, and returns the size of the value of the last.
+pub fn table(frame: &[u8], count: usize, out: &mut [u8]) -> usize {
+    filled(&frame[16..], count, out)[count - 1].size
+}
+
+/// Calls `see` for each message of a datagram.
+fn each_message(bytes: &[u8], mut see: impl FnMut(&Message)) {
+    let mut at = 0;
+    let mut item = Message::default();
+    let mut fault = Fault::default();
+    while unsafe { nlp_messages_next(bytes.as_ptr(), bytes.len(), &mut at, &mut item, &mut fault) } == 0 {
+        see(&item);
     }
 }
 
 pub fn messages(bytes: &[u8]) -> usize {
-    let mut at = 0;
-    let mut item = Message::default();
-    let mut fault = Fault::default();
     let mut sum = 0;
-    while unsafe { nlp_messages_next(bytes.as_ptr(), bytes.len(), &mut at, &mut item, &mut fault) } == 0 {
-        sum += item.header.message_type as usize + item.payload.size;
-    }
+    each_message(bytes, |it| sum += it.header.message_type as usize + it.payload.size);
     sum
+}
+
+/// Returns what one call of a case that writes no bytes found.
+pub fn found(case: &str, size: usize, bytes: &[u8], out: &mut [u8]) -> Found {
+    let mut found = Found::default();
+    match case {
+        "read" => {
+            let (it, part) = parts(bytes).unwrap();
+            found.header(it.length, it.message_type, it.flags, it.sequence_number, it.port_number);
+            found.bytes(&bytes[part.offset..][..part.size]);
+        }
+        "view" => {
+            let (header, part) = parts(bytes).unwrap();
+            found.item(header.message_type, part.offset, part.size);
+        }
+        "refuse" => {
+            found.rejected(refuse(bytes) != 0);
+            frames(bytes, |it| found.item(0, it.offset, it.size));
+        }
+        "walk" => attributes(bytes, |it| found.item(it.kind, it.offset, it.size)),
+        "split" => frames(bytes, |it| found.item(0, it.offset, it.size)),
+        "table" => filled(&bytes[16..], size, out).iter().for_each(|it| found.item(it.kind, 16 + it.offset, it.size)),
+        "messages" => each_message(bytes, |it| found.item(it.header.message_type, it.payload.offset, it.payload.size)),
+        _ => panic!("no such case: {case}"),
+    }
+    found
 }

@@ -1,5 +1,6 @@
 //! The Rust crate.
 
+use crate::found::Found;
 use netlink_packet_core::{
     NetlinkBuffer, NetlinkDeserializable, NetlinkHeader, NetlinkMessage, NetlinkPayload, NetlinkSerializable,
 };
@@ -75,15 +76,25 @@ pub fn round_trip(bytes: &[u8], out: &mut [u8]) -> usize {
     }
 }
 
-pub fn walk(bytes: &[u8]) -> usize {
-    let mut sum = 0;
+/// Calls `see` with the kind and the value of each attribute of a block. Returns whether there is no error.
+fn attributes(bytes: &[u8], mut see: impl FnMut(u16, &[u8])) -> bool {
     for item in NlasIterator::new(bytes) {
         match item {
-            Ok(nla) => sum += nla.kind() as usize + nla.value().len(),
-            Err(_) => return 0,
+            Ok(nla) => see(nla.kind(), nla.value()),
+            Err(_) => return false,
         }
     }
-    sum
+    true
+}
+
+pub fn walk(bytes: &[u8]) -> usize {
+    let mut sum = 0;
+    let is_read = attributes(bytes, |kind, value| sum += kind as usize + value.len());
+    if is_read {
+        sum
+    } else {
+        0
+    }
 }
 
 struct Number {
@@ -134,16 +145,58 @@ pub fn refuse(bytes: &[u8]) -> usize {
     NetlinkBuffer::new_checked(bytes).is_err() as usize
 }
 
-pub fn split(bytes: &[u8]) -> usize {
+/// Calls `see` with the bytes from each frame of a datagram on, and its size. Returns whether there is no error.
+fn frames(bytes: &[u8], mut see: impl FnMut(&[u8], usize)) -> bool {
     let mut rest = bytes;
-    let mut sum = 0;
     while !rest.is_empty() {
         let size = match NetlinkBuffer::new_checked(rest) {
             Ok(view) => view.length() as usize,
-            Err(_) => return 0,
+            Err(_) => return false,
         };
-        sum += size;
+        see(rest, size);
         rest = &rest[((size + 3) / 4 * 4).min(rest.len())..];
     }
-    sum
+    true
+}
+
+pub fn split(bytes: &[u8]) -> usize {
+    let mut sum = 0;
+    let is_read = frames(bytes, |_, size| sum += size);
+    if is_read {
+        sum
+    } else {
+        0
+    }
+}
+
+/// Returns what one call of a case that writes no bytes found.
+pub fn found(case: &str, bytes: &[u8]) -> Found {
+    let mut found = Found::default();
+    let at = |part: &[u8]| part.as_ptr() as usize - bytes.as_ptr() as usize;
+    match case {
+        "read" => {
+            let message = NetlinkMessage::<Raw>::deserialize(bytes).unwrap();
+            let it = message.header;
+            found.header(it.length, it.message_type, it.flags, it.sequence_number, it.port_number);
+            if let NetlinkPayload::InnerMessage(raw) = message.payload {
+                found.bytes(&raw.bytes);
+            }
+        }
+        "view" => {
+            let view = NetlinkBuffer::new_checked(bytes).unwrap();
+            found.item(view.message_type(), at(view.payload()), view.payload().len());
+        }
+        "refuse" => {
+            found.rejected(refuse(bytes) != 0);
+            frames(bytes, |rest, size| found.item(0, at(rest), size));
+        }
+        "walk" => {
+            attributes(bytes, |kind, value| found.item(kind, at(value), value.len()));
+        }
+        "split" => {
+            frames(bytes, |rest, size| found.item(0, at(rest), size));
+        }
+        _ => panic!("no such case: {case}"),
+    }
+    found
 }
