@@ -49,8 +49,8 @@ PARTS = [
 ]
 # The first value of a variable that only the library writes. It stays, because no test can see another one.
 WRITTEN = re.compile(r" +let mut \w+ = 0;")
-# A statement that is left out.
-STATEMENT = re.compile(r"^ +(?=\S)(?!let |return |use |type |const |pub |mod |break|#)[^\n{}]*;$")
+# A statement that is left out. A line of an example in the documentation is none.
+STATEMENT = re.compile(r"^ +(?=\S)(?!//|let |return |use |type |const |pub |mod |break|#)[^\n{}]*;$")
 FUNCTION = re.compile(r"^ *(?:pub(?:\(crate\))? )?fn \w+.*?(?:-> (.*))? \{$")
 # What a function returns instead, by its type.
 RESULTS = {

@@ -1,6 +1,6 @@
 //! Asks the kernel for its links over a socket of route netlink, and prints the index and the name of each.
 
-use netlink_packet::{payload, Attributes, Header, Replies, Reply, Writer};
+use netlink_packet::{Header, Replies, Reply, Writer};
 use std::error::Error;
 use std::fs::File;
 use std::io::{Read, Write};
@@ -41,10 +41,9 @@ fn main() -> Result<(), Box<dyn Error>> {
         let size = file.read(&mut buffer)?;
         for reply in replies.read(&buffer[..size]) {
             match reply? {
-                Reply::Message(frame) if netlink_packet::header(frame)?.message_type == RTM_NEWLINK => {
-                    let (fixed, block) = payload(frame)?.split_at_checked(IFINFOMSG).ok_or("a short message")?;
-                    let name = Attributes::new(block).find(IFLA_IFNAME)?.ok_or("a link without a name")?;
-                    println!("{} {}", i32::from_ne_bytes(fixed[4..8].try_into()?), name.str()?);
+                Reply::Message(message) if message.header.message_type == RTM_NEWLINK => {
+                    let name = message.attributes(IFINFOMSG)?.find(IFLA_IFNAME)?.ok_or("a link without a name")?;
+                    println!("{} {}", i32::from_ne_bytes(message.payload[4..8].try_into()?), name.str()?);
                 }
                 Reply::Rejected { code, .. } | Reply::Done { code, .. } if code != 0 => {
                     return Err(std::io::Error::from_raw_os_error(-code).into());

@@ -7,6 +7,7 @@ use std::fmt;
 pub(crate) const OK: u32 = 0;
 pub(crate) const NO_ROOM: u32 = 8;
 pub(crate) const TOO_LONG: u32 = 33;
+pub(crate) const NO_PLACE: u32 = 34;
 
 /// Why bytes are rejected. Sizes and lengths are in bytes.
 #[derive(Clone, Copy, Debug, PartialEq, Eq)]
@@ -71,6 +72,13 @@ pub enum Fault {
         size: usize,
         /// Whether it was found inside a larger call.
         inside: bool,
+    },
+    /// The payload of a message has fewer bytes than its fixed header.
+    PayloadShort {
+        /// How many it has.
+        size: usize,
+        /// The size of the fixed header.
+        fixed: usize,
     },
     /// A message type is 0, or 5 to 15.
     Refused,
@@ -139,6 +147,9 @@ impl fmt::Display for Fault {
             Fault::ErrorShort { size, inside } => {
                 f.write_str(if inside { "failed parsing NLMSG_ERROR caused by " } else { "" })?;
                 body_line(f, "ErrorBuffer", size)
+            }
+            Fault::PayloadShort { size, fixed } => {
+                write!(f, "the payload has {size} bytes, fewer than its header of {fixed}")
             }
             Fault::Refused => f.write_str("the message type is 0, or 5 to 15"),
             Fault::TooLong => f.write_str("message does not fit a 32-bit length"),

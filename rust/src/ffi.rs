@@ -36,6 +36,13 @@ pub struct Attr {
 
 #[repr(C)]
 #[derive(Clone, Copy, Default)]
+pub struct Message {
+    pub header: Header,
+    pub payload: Part,
+}
+
+#[repr(C)]
+#[derive(Clone, Copy, Default)]
 pub struct ErrorBody {
     pub code: i32,
     pub request: Part,
@@ -70,7 +77,11 @@ extern "C" {
     pub fn nlp_error_body(bytes: In, len: usize, flags: u16, body: *mut ErrorBody, fault: *mut Fault) -> u32;
     pub fn nlp_done_body(bytes: In, len: usize, code: *mut i32, rest: *mut Part, fault: *mut Fault) -> u32;
     pub fn nlp_frames_next(bytes: In, len: usize, cursor: *mut usize, item: *mut Part, fault: *mut Fault) -> u32;
+    pub fn nlp_messages_next(bytes: In, len: usize, cursor: *mut usize, item: *mut Message, fault: *mut Fault) -> u32;
+    pub fn nlp_message_attrs(message: *const Message, fixed_len: usize, attributes: *mut Part) -> u32;
     pub fn nlp_attrs_next(bytes: In, len: usize, cursor: *mut usize, item: *mut Attr, fault: *mut Fault) -> u32;
+    pub fn nlp_attrs_find(block: In, len: usize, kind: u16, item: *mut Attr, fault: *mut Fault) -> u32;
+    pub fn nlp_attrs_table(block: In, len: usize, table: *mut Attr, count: usize, fault: *mut Fault) -> u32;
     pub fn nlp_replies_begin(header: *const Header, is_dump: u32, replies: *mut Replies);
     pub fn nlp_replies_next(
         bytes: In,

@@ -19,6 +19,16 @@ pub struct Header {
 }
 
 impl Header {
+    pub(crate) fn of(fields: &ffi::Header) -> Self {
+        Header {
+            length: fields.length,
+            message_type: fields.message_type,
+            flags: fields.flags,
+            sequence_number: fields.sequence_number,
+            port_number: fields.port_number,
+        }
+    }
+
     pub(crate) fn fields(&self) -> ffi::Header {
         ffi::Header {
             length: self.length,
@@ -64,13 +74,7 @@ pub fn header(bytes: &[u8]) -> Result<Header, Fault> {
     if answer != OK {
         return Err(Fault::of(&fault));
     }
-    Ok(Header {
-        length: fields.length,
-        message_type: fields.message_type,
-        flags: fields.flags,
-        sequence_number: fields.sequence_number,
-        port_number: fields.port_number,
-    })
+    Ok(Header::of(&fields))
 }
 
 /// Returns the payload of the complete frame that the bytes begin with. Returns [`Fault::FrameShort`],

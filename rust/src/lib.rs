@@ -12,8 +12,8 @@
 //! # Ok::<(), netlink_packet::Refusal>(())
 //! ```
 //!
-//! - To read, iterate over [`Frames`], take the [`header`] and the [`payload`] of each, and iterate over [`Attributes`]
-//!   or call [`Attributes::find`].
+//! - To read, iterate over [`Messages`], and take the [`attributes`](Message::attributes) of each: iterate over them,
+//!   or call [`Attributes::find`] or [`Attributes::table`].
 //! - To write, begin a [`Frame`] and its [`Nest`]s with a [`Writer`].
 //! - To send a request, and to read the answer to it, see [`Replies`] and `examples/dump.rs`.
 
@@ -33,5 +33,5 @@ pub use fault::{Fault, Refusal};
 pub use frame::{done_body, error_body, header, payload, DoneBody, ErrorBody, Header};
 pub use normal::{attributes_are_canonical, frame_is_canonical, normalize_attributes, normalize_frame, write_value};
 pub use replies::{Reading, Replies, Reply};
-pub use walk::{Attribute, Attributes, Frames};
+pub use walk::{Attribute, Attributes, Frames, Message, Messages};
 pub use write::{Frame, Nest, Writer};

@@ -4,14 +4,14 @@ use crate::ack::ExtendedAck;
 use crate::fault::{Fault, OK};
 use crate::ffi;
 use crate::frame::{part, Header};
-use crate::walk::END;
+use crate::walk::{Message, Messages, END};
 use std::iter::FusedIterator;
 
 /// What a frame means to a request.
 #[derive(Clone, Copy, Debug, PartialEq, Eq)]
 pub enum Reply<'a> {
-    /// A message of the answer: a frame without its padding.
-    Message(&'a [u8]),
+    /// A message of the answer.
+    Message(Message<'a>),
     /// The end of a multipart answer.
     Done {
         /// 0, or a negative errno.
@@ -35,22 +35,21 @@ pub enum Reply<'a> {
     },
     /// Data was lost. The kernel has never sent one.
     Overrun,
-    /// A frame that is no part of the answer: it has other numbers, or follows the end.
-    Other(&'a [u8]),
+    /// A message that is no part of the answer: it has other numbers, or follows the end.
+    Other(Message<'a>),
 }
 
 impl<'a> Reply<'a> {
-    fn of(bytes: &'a [u8], item: &ffi::Reply) -> Self {
-        let frame = part(bytes, item.frame);
+    fn of(bytes: &'a [u8], item: &ffi::Reply, message: Message<'a>) -> Self {
         let code = item.code;
         let ack = ExtendedAck { attributes: part(bytes, item.attributes) };
         match item.what {
-            1 => Reply::Message(frame),
+            1 => Reply::Message(message),
             2 => Reply::Done { code, ack },
             3 => Reply::Acknowledged { ack },
             4 => Reply::Rejected { code, request: part(bytes, item.request), ack },
             5 => Reply::Overrun,
-            _ => Reply::Other(frame),
+            _ => Reply::Other(message),
         }
     }
 }
@@ -118,7 +117,10 @@ impl<'a> Iterator for Reading<'_, 'a> {
         // SAFETY: the slice is live, and so are the four values.
         let answer = unsafe { ffi::nlp_replies_next(bytes, len, &mut self.cursor, state, &mut item, &mut fault) };
         match answer {
-            OK => Some(Ok(Reply::of(self.datagram, &item))),
+            // The frame is complete, so this is its message, and no error.
+            OK => Messages::new(part(self.datagram, item.frame))
+                .next()
+                .map(|read| read.map(|message| Reply::of(self.datagram, &item, message))),
             END => None,
             _ => Some(Err(Fault::of(&fault))),
         }

@@ -1,8 +1,8 @@
-//! The frames of a datagram and the attributes of a block, one after another.
+//! The messages of a datagram and the attributes of a block, one after another or by kind.
 
-use crate::fault::{Fault, OK};
+use crate::fault::{Fault, NO_PLACE, OK};
 use crate::ffi;
-use crate::frame::part;
+use crate::frame::{part, Header};
 use std::iter::FusedIterator;
 
 pub(crate) const END: u32 = 32;
@@ -19,6 +19,10 @@ pub struct Attribute<'a> {
 }
 
 impl<'a> Attribute<'a> {
+    fn of(bytes: &'a [u8], item: ffi::Attr) -> Self {
+        Attribute { kind: item.kind, value: part(bytes, ffi::Part { offset: item.offset, size: item.size }) }
+    }
+
     /// Returns the kind without its flag bits.
     pub fn number(&self) -> u16 {
         self.kind & KIND_MASK
@@ -105,12 +109,53 @@ impl<'a> Attributes<'a> {
         Attributes { bytes, cursor: 0 }
     }
 
-    /// Returns the first attribute whose kind, without its flag bits, is `number`, or `None` if there is none. Searches
-    /// from the next attribute on, and leaves the iterator unchanged. Returns the error that ends the block if no
-    /// attribute before it has this kind. It hides `Iterator::find`: call that one on `by_ref()`.
+    fn rest(&self) -> &'a [u8] {
+        &self.bytes[self.cursor..]
+    }
+
+    /// Returns the last attribute whose kind, without its flag bits, is `number`, or `None` if there is none. The
+    /// kernel takes the last one too. Reads from the next attribute to the end of the block, and leaves the iterator
+    /// unchanged. Returns the error that ends the block, even if an attribute before it has this kind; iterate to read
+    /// that one. To read several kinds, call [`table`](Attributes::table). It hides `Iterator::find`: call that one on
+    /// `by_ref()`.
     pub fn find(&self, number: u16) -> Result<Option<Attribute<'a>>, Fault> {
-        let mut rest = self.clone();
-        rest.by_ref().find(|item| item.as_ref().map_or(true, |it| it.number() == number)).transpose()
+        let rest = self.rest();
+        let mut item = ffi::Attr::default();
+        let mut fault = ffi::Fault::default();
+        // SAFETY: the slice is live, and so are both structs.
+        let answer = unsafe { ffi::nlp_attrs_find(rest.as_ptr(), rest.len(), number, &mut item, &mut fault) };
+        match answer {
+            OK => Ok(Some(Attribute::of(rest, item))),
+            NO_PLACE => Ok(None),
+            _ => Err(Fault::of(&fault)),
+        }
+    }
+
+    /// Returns a table of the attributes by kind, in one pass: entry `k` is the attribute that
+    /// [`find`](Attributes::find) returns for the kind `k`, the last one. Ignores the kinds from `N` on. Returns the
+    /// error that ends the block, and then no table; iterate to read the attributes before it.
+    ///
+    /// ```
+    /// # use netlink_packet::{Attributes, Fault};
+    /// const IFLA_IFNAME: usize = 3;
+    /// const IFLA_MTU: usize = 4;
+    ///
+    /// # let block = [8, 0, 4, 0, 0x78, 5, 0, 0];
+    /// let table: [_; IFLA_MTU + 1] = Attributes::new(&block).table()?;
+    /// assert_eq!(table[IFLA_MTU].map(|it| it.u32()).transpose()?, Some(1400));
+    /// assert_eq!(table[IFLA_IFNAME], None);
+    /// # Ok::<(), Fault>(())
+    /// ```
+    pub fn table<const N: usize>(&self) -> Result<[Option<Attribute<'a>>; N], Fault> {
+        let rest = self.rest();
+        let mut table = [ffi::Attr::default(); N];
+        let mut fault = ffi::Fault::default();
+        // SAFETY: the slice is live, and so are the array and the struct.
+        let answer = unsafe { ffi::nlp_attrs_table(rest.as_ptr(), rest.len(), table.as_mut_ptr(), N, &mut fault) };
+        if answer != OK {
+            return Err(Fault::of(&fault));
+        }
+        Ok(table.map(|item| (item.offset != 0).then(|| Attribute::of(rest, item))))
     }
 }
 
@@ -125,7 +170,7 @@ impl<'a> Iterator for Attributes<'a> {
             ffi::nlp_attrs_next(self.bytes.as_ptr(), self.bytes.len(), &mut self.cursor, &mut item, &mut fault)
         };
         match answer {
-            OK => Some(Ok(Attribute { kind: item.kind, value: &self.bytes[item.offset..item.offset + item.size] })),
+            OK => Some(Ok(Attribute::of(self.bytes, item))),
             END => None,
             _ => Some(Err(Fault::of(&fault))),
         }
@@ -134,7 +179,69 @@ impl<'a> Iterator for Attributes<'a> {
 
 impl FusedIterator for Attributes<'_> {}
 
-/// The frames of a datagram in order, each without its padding. An error is the last item.
+/// A message of a datagram.
+#[derive(Clone, Copy, Debug, PartialEq, Eq)]
+pub struct Message<'a> {
+    /// Its header.
+    pub header: Header,
+    /// What follows its header, without padding.
+    pub payload: &'a [u8],
+}
+
+impl<'a> Message<'a> {
+    /// Iterates over the attributes after a fixed header of `fixed` bytes and its padding. The fixed header is then
+    /// `&message.payload[..fixed]`. Returns [`Fault::PayloadShort`] if the payload has fewer bytes. There are no
+    /// attributes if the payload ends within the padding.
+    pub fn attributes(&self, fixed: usize) -> Result<Attributes<'a>, Fault> {
+        let payload = ffi::Part { offset: 0, size: self.payload.len() };
+        let message = ffi::Message { payload, ..Default::default() };
+        let mut place = ffi::Part::default();
+        // SAFETY: both structs are live.
+        let answer = unsafe { ffi::nlp_message_attrs(&message, fixed, &mut place) };
+        if answer != OK {
+            return Err(Fault::PayloadShort { size: self.payload.len(), fixed });
+        }
+        Ok(Attributes::new(part(self.payload, place)))
+    }
+}
+
+/// The messages of a datagram in order. An error is the last item.
+#[derive(Clone, Debug)]
+pub struct Messages<'a> {
+    bytes: &'a [u8],
+    cursor: usize,
+}
+
+impl<'a> Messages<'a> {
+    /// Starts at the first message.
+    pub fn new(bytes: &'a [u8]) -> Self {
+        Messages { bytes, cursor: 0 }
+    }
+}
+
+impl<'a> Iterator for Messages<'a> {
+    type Item = Result<Message<'a>, Fault>;
+
+    fn next(&mut self) -> Option<Self::Item> {
+        let mut item = ffi::Message::default();
+        let mut fault = ffi::Fault::default();
+        // SAFETY: the slice is live, and so are the three values.
+        let answer = unsafe {
+            ffi::nlp_messages_next(self.bytes.as_ptr(), self.bytes.len(), &mut self.cursor, &mut item, &mut fault)
+        };
+        match answer {
+            OK => Some(Ok(Message { header: Header::of(&item.header), payload: part(self.bytes, item.payload) })),
+            END => None,
+            _ => Some(Err(Fault::of(&fault))),
+        }
+    }
+}
+
+impl FusedIterator for Messages<'_> {}
+
+/// The bytes of each message of a datagram in order, without its padding, for
+/// [`normalize_frame`](crate::normalize_frame) and so on. To read the messages, use [`Messages`]. An error is the last
+/// item.
 #[derive(Clone, Debug)]
 pub struct Frames<'a> {
     bytes: &'a [u8],

@@ -2,11 +2,15 @@
 
 use netlink_packet::{
     attributes_are_canonical, done_body, error_body, frame_is_canonical, header, normalize_attributes, normalize_frame,
-    payload, write_value, Attribute, Attributes, DoneBody, ExtendedAck, Fault, Frames, Header, Refusal, Replies, Reply,
+    payload, write_value, Attribute, Attributes, DoneBody, ExtendedAck, Fault, Frames, Header, Message, Messages,
+    Refusal, Replies, Reply,
 };
 
 /// Two attributes, (1, aa) and (2 with the nested flag, 01020304).
 const TWO: [u8; 16] = [5, 0, 1, 0, 0xaa, 0, 0, 0, 8, 0, 2, 0x80, 1, 2, 3, 4];
+
+/// Four attributes: (1, aa), (2 with the nested flag, 01020304), (1 with the byte-order flag, bb) and (0, no bytes).
+const FOUR: [u8; 28] = [5, 0, 1, 0, 0xaa, 0, 0, 0, 8, 0, 2, 0x80, 1, 2, 3, 4, 5, 0, 1, 0x40, 0xbb, 0, 0, 0, 4, 0, 0, 0];
 
 /// A frame of type 18 with one attribute (1, aa), and 4 bytes after it.
 const FRAME: [u8; 28] = [24, 0, 0, 0, 18, 0, 1, 3, 7, 0, 0, 0, 9, 0, 0, 0, 5, 0, 1, 0, 0xaa, 0, 0, 0, 1, 2, 3, 4];
@@ -25,18 +29,53 @@ fn attributes_are_walked() {
 }
 
 #[test]
-fn attributes_are_found() {
-    let second = Attribute { kind: 0x8002, value: &[1, 2, 3, 4] };
-    let mut all = Attributes::new(&TWO);
-    assert_eq!(all.find(2), Ok(Some(second)));
-    assert_eq!((all.find(3), all.find(0x8002)), (Ok(None), Ok(None)));
-    assert!(all.find(1).unwrap().is_some() && all.next().is_some());
-    assert_eq!((all.find(1), all.find(2)), (Ok(None), Ok(Some(second))));
-    let cut = Attributes::new(&TWO[..15]);
-    assert_eq!(cut.find(1), Ok(Some(Attribute { kind: 1, value: &[0xaa] })));
-    assert_eq!(cut.find(2), Err(Fault::AttributeCut { size: 7, length: 8 }));
-    assert_eq!(Attributes::new(&[]).find(0), Ok(None));
+fn the_last_attribute_of_a_kind_is_found() {
+    let mut all = Attributes::new(&FOUR);
+    assert_eq!(all.find(0), Ok(Some(Attribute { kind: 0, value: &[] })));
+    assert_eq!(all.find(1), Ok(Some(Attribute { kind: 0x4001, value: &[0xbb] })));
+    assert_eq!(all.find(2), Ok(Some(Attribute { kind: 0x8002, value: &[1, 2, 3, 4] })));
+    assert_eq!([3, 0x4001, 0x8002].map(|kind| all.find(kind)), [Ok(None); 3]);
+    assert_eq!(all.next(), Some(Ok(Attribute { kind: 1, value: &[0xaa] })));
     assert_eq!(all.by_ref().find(|it| it.is_err()), None);
+    assert_eq!((Attributes::new(&[]).find(0), Attributes::new(&TWO[..5]).find(2)), (Ok(None), Ok(None)));
+    assert_eq!(Attributes::new(&TWO[..5]).find(1), Ok(Some(Attribute { kind: 1, value: &[0xaa] })));
+    let cut = Err(Fault::AttributeCut { size: 7, length: 8 });
+    assert_eq!([1, 2, 3].map(|kind| Attributes::new(&TWO[..15]).find(kind)), [cut; 3]);
+}
+
+#[test]
+fn attributes_are_in_a_table_by_kind() {
+    let zero = Some(Attribute { kind: 0, value: &[] });
+    let one = Some(Attribute { kind: 0x4001, value: &[0xbb] });
+    let two = Some(Attribute { kind: 0x8002, value: &[1, 2, 3, 4] });
+    let all = Attributes::new(&FOUR);
+    assert_eq!((all.table(), all.table()), (Ok([]), Ok([zero])));
+    assert_eq!((all.table(), all.table()), (Ok([zero, one]), Ok([zero, one, two, None, None])));
+    assert_eq!((Attributes::new(&[]).table(), Attributes::new(&[]).table()), (Ok([]), Ok([None, None])));
+    let [_, first] = Attributes::new(&TWO[..5]).table().unwrap();
+    assert_eq!(first, Some(Attribute { kind: 1, value: &[0xaa] }));
+    let cut = Fault::AttributeCut { size: 7, length: 8 };
+    assert_eq!(
+        (Attributes::new(&TWO[..15]).table::<0>(), Attributes::new(&TWO[..15]).table::<4>()),
+        (Err(cut), Err(cut))
+    );
+}
+
+#[test]
+fn kinds_are_found_from_the_next_attribute_on() {
+    let zero = Some(Attribute { kind: 0, value: &[] });
+    let one = Some(Attribute { kind: 0x4001, value: &[0xbb] });
+    let mut all = Attributes::new(&FOUR);
+    assert!(all.by_ref().take(2).all(|it| it.is_ok()));
+    assert_eq!((all.find(1), all.find(2), all.table()), (Ok(one), Ok(None), Ok([zero, one, None])));
+    assert_eq!(all.next(), one.map(Ok));
+    assert_eq!((all.find(0), all.find(1), all.table()), (Ok(zero), Ok(None), Ok([zero, None, None])));
+    assert_eq!(all.next(), zero.map(Ok));
+    for bytes in [&FOUR[..], &TWO[..5], &TWO[..15]] {
+        let mut all = Attributes::new(bytes);
+        assert!(all.by_ref().last().is_some());
+        assert_eq!((all.find(1), all.table()), (Ok(None), Ok([None, None])));
+    }
 }
 
 #[test]
@@ -91,6 +130,44 @@ fn frames_are_walked() {
 }
 
 #[test]
+fn messages_are_walked() {
+    /// A message of type 16 whose payload is 1 byte, with its padding, and one without a payload.
+    const BOTH: [u8; 36] = [
+        17, 0, 0, 0, 16, 0, 1, 3, 7, 0, 0, 0, 9, 0, 0, 0, 0xaa, 0, 0, 0, 16, 0, 0, 0, 17, 0, 2, 4, 8, 0, 0, 0, 1, 2, 3,
+        4,
+    ];
+    let first = Header { length: 17, message_type: 16, flags: 0x301, sequence_number: 7, port_number: 9 };
+    let second = Header { length: 16, message_type: 17, flags: 0x402, sequence_number: 8, port_number: 0x04030201 };
+    let all: Vec<_> = Messages::new(&BOTH).collect();
+    assert_eq!(all, [Ok(Message { header: first, payload: &[0xaa] }), Ok(Message { header: second, payload: &[] })]);
+    assert_eq!(Messages::new(&[]).next(), None);
+    let mut cut = Messages::new(&BOTH[..35]);
+    assert_eq!(cut.next(), Some(Ok(Message { header: first, payload: &[0xaa] })));
+    assert_eq!(cut.next(), Some(Err(Fault::FrameShort { size: 15, inside: false })));
+    assert_eq!((cut.next(), cut.next()), (None, None));
+    let error = Fault::FrameCut { size: 16, length: 17, inside: false };
+    assert_eq!(Messages::new(&BOTH[..16]).next(), Some(Err(error)));
+    let mut short = BOTH;
+    short[0] = 15;
+    assert_eq!(Messages::new(&short).next(), Some(Err(Fault::FrameLength { length: 15, inside: false })));
+}
+
+#[test]
+fn a_message_has_attributes_after_its_fixed_header() {
+    let message = |payload| Message { header: Header::default(), payload };
+    let kinds = |payload, fixed| -> Result<Vec<u16>, Fault> {
+        message(payload).attributes(fixed)?.map(|it| it.map(|it| it.kind)).collect()
+    };
+    assert_eq!((kinds(&TWO, 0), kinds(&TWO, 8), kinds(&TWO, 16)), (Ok(vec![1, 0x8002]), Ok(vec![0x8002]), Ok(vec![])));
+    assert_eq!((kinds(&TWO, 5), kinds(&TWO, 7)), (Ok(vec![0x8002]), Ok(vec![0x8002])));
+    assert_eq!((kinds(&TWO[..7], 5), kinds(&TWO[..7], 7), kinds(&[], 0)), (Ok(vec![]), Ok(vec![]), Ok(vec![])));
+    for (payload, fixed) in [(&TWO[..], 17), (&TWO[..7], 8), (&[], 1), (&TWO[..], usize::MAX)] {
+        assert_eq!(kinds(payload, fixed), Err(Fault::PayloadShort { size: payload.len(), fixed }));
+    }
+    assert_eq!(kinds(&TWO[..15], 8), Err(Fault::AttributeCut { size: 7, length: 8 }));
+}
+
+#[test]
 fn bodies_are_read() {
     let refusal = [0xea, 0xff, 0xff, 0xff, 16, 0, 0, 0, 18, 0, 5, 0, 1, 0, 0, 0, 0, 0, 0, 0, 4, 0, 1, 0];
     let body = error_body(&refusal, 0x300).unwrap();
@@ -119,6 +196,12 @@ fn normal_forms() {
     assert_eq!(write_value(&mut loose, 1, &[9]), Err(Refusal::NoPlace));
 }
 
+/// A message without a payload, from port 9.
+fn empty(flags: u16, sequence_number: u32) -> Message<'static> {
+    let header = Header { length: 16, message_type: 16, flags, sequence_number, port_number: 9 };
+    Message { header, payload: &[] }
+}
+
 /// The header of a request with sequence number 7.
 fn request(flags: u16) -> Header {
     Header { message_type: 18, flags, sequence_number: 7, ..Header::default() }
@@ -134,14 +217,16 @@ fn a_dump_is_read_to_its_end() {
     let none = ExtendedAck { attributes: &[] };
     let mut replies = Replies::dump(&request(0x301));
     let first = replies.read(&DUMP).next();
-    assert_eq!(first, Some(Ok(Reply::Message(&DUMP[16..32]))));
+    assert_eq!(first, Some(Ok(Reply::Message(empty(0x12, 7)))));
     assert!(!replies.has_ended() && replies.is_interrupted());
     let rest: Vec<_> = replies.read(&DUMP[32..]).collect();
-    assert_eq!(rest, [Ok(Reply::Other(&DUMP[32..48])), Ok(Reply::Done { code: 0, ack: none })]);
+    assert_eq!(rest, [Ok(Reply::Other(empty(2, 6))), Ok(Reply::Done { code: 0, ack: none })]);
     assert!(replies.has_ended());
-    assert_eq!(replies.read(&DUMP[16..32]).next(), Some(Ok(Reply::Other(&DUMP[16..32]))));
+    assert_eq!(replies.read(&DUMP[16..32]).next(), Some(Ok(Reply::Other(empty(0x12, 7)))));
+    let message = Message { header: header(&FRAME).unwrap(), payload: &FRAME[16..24] };
+    assert_eq!(Replies::dump(&request(0x301)).read(&FRAME).next(), Some(Ok(Reply::Message(message))));
     let mut other = Replies::dump(&Header { port_number: 8, ..request(0x301) });
-    assert_eq!(other.read(&DUMP[16..32]).next(), Some(Ok(Reply::Other(&DUMP[16..32]))));
+    assert_eq!(other.read(&DUMP[16..32]).next(), Some(Ok(Reply::Other(empty(0x12, 7)))));
 }
 
 #[test]
@@ -153,13 +238,13 @@ fn a_single_request_is_answered_once() {
     assert_eq!(replies.read(&SHORT).next(), Some(Err(Fault::ErrorShort { size: 3, inside: true })));
     assert_eq!(replies.read(&ONE[..12]).next(), Some(Err(Fault::FrameShort { size: 12, inside: false })));
     assert!(!replies.has_ended());
-    assert_eq!(replies.read(&ONE).next(), Some(Ok(Reply::Message(&ONE))));
+    assert_eq!(replies.read(&ONE).next(), Some(Ok(Reply::Message(empty(0, 7)))));
     assert!(replies.has_ended() && !replies.is_interrupted());
     let mut acknowledged = Replies::single(&request(5));
-    assert_eq!(acknowledged.read(&ONE).next(), Some(Ok(Reply::Message(&ONE))));
+    assert_eq!(acknowledged.read(&ONE).next(), Some(Ok(Reply::Message(empty(0, 7)))));
     assert!(!acknowledged.has_ended());
     let mut dump = Replies::dump(&request(0x301));
-    assert_eq!(dump.read(&ONE).next(), Some(Ok(Reply::Message(&ONE))));
+    assert_eq!(dump.read(&ONE).next(), Some(Ok(Reply::Message(empty(0, 7)))));
     assert!(!dump.has_ended());
 }
 

@@ -48,7 +48,8 @@ fn an_error_is_printed_without_memory() {
     let cut = Attributes::new(&[9, 0, 1, 0]).next().unwrap().unwrap_err();
     let before = COUNT.get();
     let mut printed = Fixed([0; 256], 0);
-    for fault in [cut, Fault::OutOfMemory, Fault::Refused, Fault::ErrorShort { size: 3, inside: true }] {
+    let [body, payload] = [Fault::ErrorShort { size: 3, inside: true }, Fault::PayloadShort { size: 3, fixed: 16 }];
+    for fault in [cut, Fault::OutOfMemory, Fault::Refused, Fault::NotUtf8 { valid: 2 }, body, payload] {
         printed.1 = 0;
         write!(printed, "{fault}").unwrap();
         if fault == cut {

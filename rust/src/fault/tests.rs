@@ -56,10 +56,12 @@ fn each_error_has_its_numbers_and_its_text() {
 }
 
 #[test]
-fn the_errors_of_values_have_texts() {
+fn the_other_errors_have_texts() {
     let number = Fault::InvalidNumber { expected: 4, received: 3 };
     assert_eq!(number.to_string(), "Invalid number. Expected 4 bytes, received 3 bytes");
     assert_eq!(library_text(&ffi::Fault { cause: 4, inside: 0, size: 3, wanted: 4 }), Some(number.to_string()));
+    let short = Fault::PayloadShort { size: 3, fixed: 16 };
+    assert_eq!(short.to_string(), "the payload has 3 bytes, fewer than its header of 16");
     assert_eq!(Fault::NotUtf8 { valid: 2 }.to_string(), "the string is not UTF-8 after 2 bytes");
 }
 
