@@ -14,7 +14,7 @@ sys.path.append(os.path.join(os.path.dirname(HERE), "tests"))
 from libraries import TOP, kit  # noqa: E402 (it is in that folder)
 
 # The standard headers that heap.c, the tests and the examples include. The toolchain's clang has none.
-HEADERS = "inttypes stdbool stddef stdint stdio stdlib string sys/mman sys/socket unistd".split()
+HEADERS = "inttypes signal stdbool stddef stdint stdio stdlib string sys/mman sys/socket unistd".split()
 
 
 def compiler():

@@ -12,6 +12,7 @@ typedef int int32_t;
 typedef long int64_t;
 typedef unsigned long size_t;
 #define SIZE_MAX 0xfffffffffffffffful
+#define UINT16_MAX 0xffff
 #define UINT32_MAX 0xffffffffu
 #define PRIu32 "u"
 
@@ -36,6 +37,12 @@ size_t fwrite(const void *bytes, size_t size, size_t count, FILE *file);
 void *malloc(size_t size);
 void *realloc(void *block, size_t size);
 void free(void *block);
+unsigned long strtoul(const char *text, char **end, int base);
+void abort(void) __attribute__((noreturn));
+
+#define SIGSEGV 11
+#define SIG_DFL ((void (*)(int))0)
+void (*signal(int number, void (*action)(int)))(int);
 
 #define AF_NETLINK 16
 #define SOCK_RAW 3

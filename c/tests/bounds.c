@@ -3,13 +3,9 @@
  * rows. Compares the results and the outputs with what the header states, as a model computes it. What is passed ends
  * where a page begins that cannot be read or written, or begins where such a page ends. */
 #define _DEFAULT_SOURCE
-#include "netlink_packet.h"
+#include "model.h"
 
 #include <stdio.h>
-#include <string.h>
-#include <sys/mman.h>
-
-#define PAGE 4096
 
 static int passed, failed;
 static uint8_t *pages[3];
@@ -24,22 +20,10 @@ static void expect(const char *what, bool holds)
     }
 }
 
-/* Makes pages between two that cannot be used. */
-static bool make_pages(void)
-{
-    for (size_t i = 0; i < 3; i++) {
-        uint8_t *all = mmap(NULL, 3 * PAGE, PROT_READ | PROT_WRITE, MAP_PRIVATE | MAP_ANONYMOUS, -1, 0);
-        if (all == MAP_FAILED || mprotect(all, PAGE, PROT_NONE) != 0 || mprotect(all + 2 * PAGE, PAGE, PROT_NONE) != 0)
-            return false;
-        pages[i] = all + PAGE;
-    }
-    return true;
-}
-
-/* Returns the place for `size` bytes of a page: at its end, or else at its start. */
+/* Returns the place for `size` bytes of some pages: at their end, or else at their start. */
 static void *place(size_t page, size_t size, bool at_end)
 {
-    return pages[page] + (at_end ? PAGE - size : 0);
+    return place_in(pages[page], size, at_end);
 }
 
 static uint32_t seed = 1;
@@ -58,114 +42,38 @@ static void fill(uint8_t *bytes, size_t len)
         bytes[i] = any(40) == 0 ? 0xff : i % 4 == 1 && any(8) != 0 ? 0 : usual[any(12)];
 }
 
-/* One step of a walk, by the header: the attribute at `*at`, or the end, or an error. */
-static uint32_t step(const uint8_t *block, size_t len, size_t *at, struct nlp_attr *item, struct nlp_fault *fault)
-{
-    size_t left = len - *at, said = left < 4 ? 0 : block[*at] + 256u * block[*at + 1];
-    if (left == 0)
-        return NLP_END;
-    if (left < 4 || said > left || said < 4) {
-        uint32_t cause = left < 4 ? NLP_ATTR_SHORT : said > left ? NLP_ATTR_CUT : NLP_ATTR_LENGTH;
-        *fault = (struct nlp_fault){ cause, 0, said < 4 && left >= 4 ? 4 : left, left < 4 ? 4 : said };
-        return cause;
-    }
-    *item = (struct nlp_attr){ (uint16_t)(block[*at + 2] + 256u * block[*at + 3]), *at + 4, said - 4 };
-    *at += said + (4 - said % 4) % 4;
-    *at = *at > len ? len : *at;
-    return NLP_OK;
-}
-
-static bool same_fault(const struct nlp_fault *f, const struct nlp_fault *g)
-{
-    return f->cause == g->cause && f->inside == g->inside && f->size == g->size && f->wanted == g->wanted;
-}
-
-static bool same_attr(const struct nlp_attr *a, const struct nlp_attr *b)
-{
-    return a->kind == b->kind && a->offset == b->offset && a->size == b->size;
-}
-
-/* The walk, and the last attribute of a kind. */
+/* The last attribute of a kind. */
 static bool finds(const uint8_t *block, size_t len, uint16_t kind)
 {
     struct nlp_fault fault = { 99, 98, 97, 96 }, wanted = fault;
-    struct nlp_attr item = { 95, 94, 93 }, last = item, one;
-    uint32_t result, found = NLP_NO_PLACE;
-    size_t at = 0;
-    while ((result = step(block, len, &at, &one, &wanted)) == NLP_OK)
-        if ((one.kind & NLP_KIND_MASK) == kind) {
-            last = one;
-            found = NLP_OK;
-        }
-    return nlp_attrs_find(block, len, kind, &item, &fault) == (result == NLP_END ? found : result)
-        && same_attr(&item, &last) && same_fault(&fault, &wanted);
+    struct nlp_attr item = { 95, 94, 93 }, last = item;
+    uint32_t result = model_find(block, len, kind, &last, &wanted);
+    return nlp_attrs_find(block, len, kind, &item, &fault) == result && same_attr(&item, &last) && same_fault(&fault, &wanted);
 }
 
 static bool fills_table(const uint8_t *block, size_t len, size_t count, bool at_end)
 {
     struct nlp_fault fault = { 99, 98, 97, 96 }, wanted = fault;
-    struct nlp_attr expected[4] = { { 0, 0, 0 }, { 0, 0, 0 }, { 0, 0, 0 }, { 0, 0, 0 } }, one;
+    struct nlp_attr expected[4] = { { 0, 0, 0 }, { 0, 0, 0 }, { 0, 0, 0 }, { 0, 0, 0 } };
     struct nlp_attr *table = place(1, count * sizeof *table, at_end);
-    uint32_t result;
-    size_t at = 0;
-    while ((result = step(block, len, &at, &one, &wanted)) == NLP_OK)
-        if ((one.kind & NLP_KIND_MASK) < count)
-            expected[one.kind & NLP_KIND_MASK] = one;
+    uint32_t result = model_table(block, len, expected, count, &wanted);
     memset(table, 0xee, count * sizeof *table);
-    bool holds = nlp_attrs_table(block, len, table, count, &fault) == (result == NLP_END ? NLP_OK : result) && same_fault(&fault, &wanted);
+    bool holds = nlp_attrs_table(block, len, table, count, &fault) == result && same_fault(&fault, &wanted);
     for (size_t i = 0; i < count; i++)
         holds = holds && same_attr(&table[i], &expected[i]);
     return holds;
-}
-
-/* Whether a value has a shape, by the header. */
-static bool fits(const uint8_t *value, size_t size, uint16_t shape, size_t stated)
-{
-    static const size_t sizes[5] = { 1, 2, 4, 8, 0 };
-    size_t text = size != 0 && value[size - 1] == 0 ? size - 1 : size;
-    bool is_string = size != 0 && (stated == 0 || text <= stated);
-    if (shape >= NLP_U8 && shape <= NLP_FLAG)
-        return size == sizes[shape - NLP_U8];
-    return shape == NLP_EXACTLY ? size == stated : shape == NLP_AT_LEAST ? size >= stated : shape == NLP_AT_MOST ? size <= stated
-        : shape == NLP_STRING ? is_string : shape == NLP_NUL_STRING ? is_string && memchr(value, 0, size) != NULL
-        : shape == NLP_NESTED ? size == 0 || size >= 4 : true;
 }
 
 static bool validates(const uint8_t *block, size_t len, size_t count, bool at_end)
 {
     struct nlp_fault fault = { 99, 98, 97, 96 }, wanted = fault;
     struct nlp_policy *policy = place(1, count * sizeof *policy, at_end);
-    struct nlp_attr one;
-    uint32_t result;
-    size_t at = 0, start = 0, offset = 95;
+    size_t offset = 95, expected = 95;
     for (size_t i = 0; i < count; i++)
         policy[i] = (struct nlp_policy){ (uint16_t)(any(8) == 0 ? 0xffff : any(3)), (uint16_t)any(13), any(6) };
-    while ((result = step(block, len, &at, &one, &wanted)) == NLP_OK) {
-        for (size_t i = 0; i < count; i++)
-            if ((one.kind & NLP_KIND_MASK) == policy[i].kind && !fits(block + one.offset, one.size, policy[i].shape, policy[i].size))
-                result = NLP_WRONG_SHAPE;
-        if (result != NLP_OK)
-            break;
-        start = at;
-    }
-    return nlp_attrs_validate(block, len, policy, count, &offset, &fault) == (result == NLP_END ? NLP_OK : result)
-        && offset == (result == NLP_END ? 95 : start) && same_fault(&fault, &wanted);
-}
-
-/* What a getter of `size` bytes returns, by the header. */
-static uint32_t get_result(size_t len, const struct nlp_attr *item, size_t size)
-{
-    if (item->offset == 0 || item->offset > len || item->size > len - item->offset)
-        return NLP_NO_PLACE;
-    return item->size == size ? NLP_OK : NLP_WRONG_SIZE;
-}
-
-static uint64_t number(const uint8_t *value, size_t size, bool is_big)
-{
-    uint64_t sum = 0;
-    for (size_t i = 0; i < size; i++)
-        sum = sum << 8 | value[is_big ? i : size - 1 - i];
-    return sum;
+    uint32_t result = model_validate(block, len, policy, count, &expected, &wanted);
+    return nlp_attrs_validate(block, len, policy, count, &offset, &fault) == result
+        && offset == expected && same_fault(&fault, &wanted);
 }
 
 #define GETS(name, type, width, is_big) do { \
@@ -214,24 +122,13 @@ static bool gets_all(const uint8_t *block, size_t len, bool at_end)
     return holds;
 }
 
-/* The message at a cursor, by the header. */
+/* The message at a cursor. */
 static bool reads_message(const uint8_t *bytes, size_t len, size_t at)
 {
     struct nlp_fault fault = { 99, 98, 97, 96 }, wanted = fault;
     struct nlp_message item = { { 1, 2, 3, 4, 5 }, { 6, 7 } }, expected = item;
-    size_t left = at < len ? len - at : 0, next = at, cursor = at;
-    uint32_t result = NLP_END, said = left < 16 ? 0 : (uint32_t)number(bytes + at, 4, false);
-    if (left > 0 && (left < 16 || said > left || said < 16)) {
-        result = left < 16 ? NLP_FRAME_SHORT : said > left ? NLP_FRAME_CUT : NLP_FRAME_LENGTH;
-        wanted = (struct nlp_fault){ result, 0, left >= 16 && said < 16 ? 0 : left, said };
-        next = len;
-    } else if (left > 0) {
-        memcpy(&expected.header, bytes + at, 16);
-        expected.payload = (struct nlp_part){ at + 16, said - 16 };
-        result = NLP_OK;
-        next = at + said + (4 - said % 4) % 4;
-        next = next > len ? len : next;
-    }
+    size_t next = at, cursor = at;
+    uint32_t result = message_step(bytes, len, &next, &expected, &wanted);
     return nlp_messages_next(bytes, len, &cursor, &item, &fault) == result && cursor == next && same_fault(&fault, &wanted)
         && memcmp(&item, &expected, sizeof item) == 0;
 }
@@ -271,8 +168,9 @@ int main(void)
 {
     static const uint16_t kinds[6] = { 0, 1, 2, 0x3fff, 0x8001, 0xffff };
     bool found = true, filled = true, valid = true, got = true, read = true, put = true;
-    if (!make_pages())
-        return 1;
+    for (size_t i = 0; i < 3; i++)
+        if ((pages[i] = guarded_pages()) == NULL)
+            return 1;
     for (int turn = 0; turn < 4000; turn++) {
         const bool at_end = turn % 2 == 0;
         const size_t len = (size_t)turn / 2 % 21;
