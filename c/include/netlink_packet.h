@@ -20,7 +20,8 @@
  * What a call returns, and what it then changes:
  *
  *  - NLP_OK: the outputs are written. The fault is unchanged.
- *  - NLP_END: nothing is left to walk. Nothing is changed.
+ *  - NLP_END: nothing is left to walk. Nothing is changed, except that nlp_replies_next may have moved past
+ *    noops.
  *  - The number of an error (5 to 16, except 8): a function with a fault writes the fault, with the numbers
  *    that the enum below lists for this error.
  *  - NLP_NO_ROOM, NLP_TOO_LONG, NLP_NO_PLACE, NLP_WRONG_SIZE and NLP_WRONG_SHAPE leave the fault unchanged;
@@ -347,7 +348,8 @@ uint32_t nlp_frame_payload(const uint8_t *bytes, size_t len, struct nlp_part *pa
  * follow the request, and NLM_F_CAPPED (0x100) that only the header of the request is present.
  * Proved: the code is the first 4 bytes, signed. The request and then the attributes are the bytes after it.
  * The request is all of them without NLM_F_ACK_TLVS, or if they are too few for the request; 16 bytes with
- * NLM_F_CAPPED; and otherwise its length with its padding. */
+ * NLM_F_CAPPED; and otherwise its length with its padding, where a length below 16 counts as 16. The request
+ * of nlp_replies_next differs for such a length: it is taken as it is. The kernel never sends one. */
 uint32_t nlp_error_body(const uint8_t *bytes, size_t len, uint16_t flags, struct nlp_error *body,
                         struct nlp_fault *fault) NLP_CHECKED(4, 5);
 
@@ -383,7 +385,8 @@ void nlp_replies_begin(const struct nlp_header *header, uint32_t is_dump, struct
  * before the first call for a datagram. Updates `*replies`. Returns NLP_OK, with what the frame means in
  * `*reply`; NLP_END if nothing is left in the datagram; NLP_FRAME_SHORT, _CUT or _LENGTH, with the cursor
  * moved to the end; or NLP_DONE_SHORT or NLP_ERROR_SHORT if a done or error message of the answer is too
- * short, with the cursor moved past it. After an error the answer is still open.
+ * short, with the cursor moved past it. After an error the answer is still open. A noop can set `interrupted`,
+ * so NLP_END can change the cursor and `*replies`.
  *
  * Proved: which frames belong to the answer, what each means, which one ends it, and what `interrupted`
  * says. The parts are those of the frame. Its padding ends at the new cursor. Only noops are skipped.
