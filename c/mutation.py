@@ -117,11 +117,11 @@ def rust_lines(lines):
 
 def header_lines(lines):
     """Yields the same for the header: other values, other types of fields and functions, fields that are exchanged, and
-    statements that are left out."""
+    statements that are left out. An #error stays: where these tests run, it is not compiled."""
     in_comment, in_struct = False, False
     for at, line in enumerate(lines):
         in_comment = in_comment or line.startswith("/*")
-        if not in_comment and not line.startswith(("#if", "#endif", "#include", "extern", '}')):
+        if not in_comment and not line.startswith(("#if", "#error", "#endif", "#include", "extern", '}')):
             yield from ((at, it) for it in changed_parts(line))
             code = line.partition("/*")[0]
             for old, new in FIELD_TYPES.items():
