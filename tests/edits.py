@@ -19,8 +19,9 @@ this one). An edit counts only if the crate is proved without it, so first prove
 its proved functions and then its name. A crate is started once it and the libraries below it are proved, and is proved
 again only if no function was named, because `rt ci` took it from an earlier run. The first check of a crate that is not
 proved here runs alone, and the work that it keeps serves the others. Runs N checks in parallel (default: one per
-processor). --log keeps what each check prints. If no crate is named, also tries the edits of tests/edits/, each of
-which states what this script must print for it.
+processor). --log keeps what each check prints, each line prefixed with the seconds since its start, so the lines
+`checked NAME` show what each function costs. If no crate is named, also tries the edits of tests/edits/, each of which
+states what this script must print for it.
 """
 
 import argparse
@@ -32,6 +33,7 @@ import shutil
 import subprocess
 import sys
 import tempfile
+import time
 from concurrent.futures import Future
 from queue import PriorityQueue
 from threading import Thread
@@ -120,13 +122,16 @@ class Checked:
             own = os.path.join(room, "kept")
             if kept:
                 kept.lend(own)
-            words = [*words, "--jobs", "1", *(["--incremental", own] if kept else [])]
+            words = [*words, "--jobs", "1", "--progress", *(["--incremental", own] if kept else [])]
             words += [word for path in only for word in ("--only", path)]
             how = {"cwd": os.path.join(room, "crate"), "stdin": subprocess.DEVNULL, "stdout": subprocess.PIPE}
-            ran = subprocess.run(words, **how, stderr=subprocess.STDOUT, text=True, errors="replace")
+            begun, self.timed = time.monotonic(), []
+            with subprocess.Popen(words, **how, stderr=subprocess.STDOUT, text=True, errors="replace") as run:
+                for line in run.stdout:
+                    self.timed.append((time.monotonic() - begun, line))
             if kept:
                 kept.add(own)
-        self.status, self.output = ran.returncode, ran.stdout.rstrip("\n")
+        self.status, self.output = run.returncode, "".join(line for _, line in self.timed).rstrip("\n")
 
     def last(self):
         return self.output.rpartition("\n")[2]
@@ -267,7 +272,7 @@ class Crate:
         checked = Checked(self.words, texts, kept, [f"{self.name}::{it}" for it in paths])
         if self.log:
             with open(os.path.join(self.log, f"{self.name}.{name}.txt"), "w", encoding="utf-8") as file:
-                file.write(checked.output)
+                file.writelines(f"{seconds:6.1f} {line}" for seconds, line in checked.timed)
         return checked
 
     def together(self, batch):
@@ -396,7 +401,7 @@ def options(words):
     parser.add_argument(
         "--lanes", type=int, default=len(os.sched_getaffinity(0)), help="number of checks to run in parallel"
     )
-    parser.add_argument("--log", help="write what each check prints to a file in this folder")
+    parser.add_argument("--log", help="write what each check prints, with times, to a file in this folder")
     parser.add_argument("crates", nargs="*", help="crates to test (default: all)")
     return parser.parse_args(words)
 
