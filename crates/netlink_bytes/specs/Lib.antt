@@ -9,6 +9,7 @@ pub mod Numbers
 pub mod Storage
 pub mod StorageLaws
 pub mod Text
+pub mod TextLaws
 pub mod Traits
 pub mod WalkItems
 pub mod Walks

@@ -7,6 +7,7 @@ mod context;
 mod copies;
 mod error;
 mod fields;
+mod hexadecimal;
 pub mod laws;
 mod nonzero;
 mod numbers;
@@ -19,6 +20,7 @@ pub use crate::context::ErrorContext;
 pub use crate::copies::copy_of;
 pub use crate::error::DecodeError;
 pub use crate::fields::{i32_at, put_i32, put_u16, put_u32, u16_at, u32_at};
+pub use crate::hexadecimal::{hex_pair, push_hex};
 pub use crate::nonzero::NonZeroI32;
 pub use crate::numbers::signed::{
     emit_i16, emit_i16_be, emit_i16_le, emit_i32, emit_i32_be, emit_i32_le, emit_i64, emit_i64_be,

@@ -1,32 +1,21 @@
 -- The text of a message: one line per attribute; the attributes of a nest follow it, indented.
 -- Every line ends with a line feed, 10.
-use Rattle.std.specs.Prelude.{ℕ, zero, suc, ◌+◌, ◌/◌, ◌%◌, not, ◌==◌, ◌&&◌, List, [], ◌∷◌, ◌++◌, length, take, drop, nat_le, nat_lt, codes, decimal, Option, Some, None, if◌then◌else◌}
+use Rattle.std.specs.Prelude.{ℕ, zero, suc, ◌+◌, not, ◌==◌, ◌&&◌, List, [], ◌∷◌, ◌++◌, length, take, drop, nat_le, nat_lt, codes, decimal, Option, Some, None, if◌then◌else◌}
 use Rattle.std.specs.Fmt.{signed_decimal}
 use Rattle.netlink_packet_core.specs.Attribute.{Attribute, padded_size}
 use Rattle.netlink_packet_core.specs.Numbers.{number_be, number_le, signed}
 use Rattle.netlink_packet_core.specs.Reading.{starts_whole}
+use Rattle.netlink_packet_core.specs.Text.{hex_pair, hex_text}
 use Rattle.netlink_packet_core.specs.Views.{attribute_of}
 use Rattle.netlink_family.specs.Shapes.{Field, Row, by_nest, has_shape, nest_levels, nest_of, row_in, shape_in}
 use Rattle.netlink_family.specs.Strings.{until_nul}
 use Rattle.netlink_family.specs.declared.shape.Shape.{Shape}
 use Rattle.netlink_family.specs.declared.shape.Shape.TheVariants.{Flag, U8, U16, U32, U64, I32, I64, Be16, Be32, Be64, ExactLen, Ip, NulStr, Str, MinLen, Nested, Bytes}
 
--- a hexadecimal digit in lower case
-abbrev pub hex_digit : ℕ → ℕ
-hex_digit n = if nat_lt n 10 then 48 + n else 87 + n
-
--- a byte as two hexadecimal digits
-abbrev pub hex_pair : ℕ → List ℕ
-hex_pair b = hex_digit (b / 16) ∷ (hex_digit (b % 16) ∷ [])
-
 -- the texts of bytes, one after another
 abbrev pub each_of : (ℕ → List ℕ) → List ℕ → List ℕ
 each_of of_byte [] = []
 each_of of_byte (b ∷ more) = of_byte b ++ each_of of_byte more
-
-abbrev pub hex_text : List ℕ → List ℕ
-hex_text [] = codes "-"
-hex_text (b ∷ more) = each_of hex_pair (b ∷ more)
 
 -- a byte of a string: itself if it is printable ASCII but not a backslash, else a backslash and two
 -- hexadecimal digits

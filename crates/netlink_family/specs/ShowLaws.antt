@@ -8,9 +8,10 @@ use Rattle.netlink_packet_core.specs.Reading.{starts_whole}
 use Rattle.netlink_packet_core.specs.StartLaws.{nothing_starts, starts-attribute_of, starts-length, starts-rest}
 use Rattle.netlink_packet_core.specs.Views.{attribute_of}
 use Rattle.netlink_packet_core.specs.Walk.{IsFault, Starts}
+use Rattle.netlink_packet_core.specs.Text.{hex_text}
 use Rattle.netlink_family.specs.ErrorLaws.{malformed_whole, whole_starts}
 use Rattle.netlink_family.specs.Shapes.{Row, by_nest, nest_of, shape_in}
-use Rattle.netlink_family.specs.Show.{value_line, before_error, each_of, first_byte, label_text, escaped, lines_in, shaped_text, hex_text, value_lines}
+use Rattle.netlink_family.specs.Show.{value_line, before_error, each_of, first_byte, label_text, escaped, lines_in, shaped_text, value_lines}
 use Rattle.netlink_family.specs.Strings.{until_nul}
 use Rattle.netlink_family.specs.Values.{IsValueOf, value_shape}
 use Rattle.netlink_family.specs.declared.shape.Shape.{Shape}

@@ -3,7 +3,7 @@
 ghost use Rattle.std.specs.Prelude.{◌≡◌, ◌+◌, ◌<◌, ◌++◌, [], ◌∷◌, IfOk, OnOk, decimal, drop, string_bytes, take, true};
 ghost use Rattle.std.specs.Fmt.{signed_decimal};
 ghost use Rattle.netlink_family.specs.Shapes.{fields_in, rows_in, are_sorted};
-ghost use Rattle.netlink_family.specs.Show.{value_line, each_of, field_lines, fixed_size, label_text, hex_digit, hex_pair, indent, escaped, lines_in, message_text, name_in, hex_text, value_lines, value_text};
+ghost use Rattle.netlink_family.specs.Show.{value_line, each_of, field_lines, fixed_size, label_text, indent, escaped, lines_in, message_text, name_in, value_lines, value_text};
 ghost use Rattle.netlink_family.specs.ShowLaws.{decoded_text};
 
 use crate::family::{Table, rows_of};
@@ -11,7 +11,7 @@ use crate::header_view::Field;
 use crate::shape::{NEST_LEVELS, Row, Shape, TOP, find_row, has_shape, policy_of, row_shape};
 use crate::value::{Value, bytes_until_nul, value_in};
 use crate::view::MessageView;
-use netlink_packet_core::NlasIterator;
+use netlink_packet_core::{NlasIterator, hex_pair, push_hex};
 use std::alloc::{AllocError, Global};
 use std::fmt::Write;
 
@@ -270,26 +270,6 @@ fn push_signed(text: &mut String, number: i64) -> Result<(), AllocError>
     }
 }
 
-/// Appends bytes as two hexadecimal digits each, or `-` if there are none.
-fn push_hex(text: &mut String, bytes: &[u8]) -> Result<(), AllocError>
-    ensures { OnOk result (string_bytes text.new ≡ string_bytes text.old ++ hex_text bytes.now) }
-{
-    if bytes.is_empty() {
-        return text.push_str("-");
-    }
-    push_hex_pairs(text, bytes)
-}
-
-/// Appends bytes as two hexadecimal digits each.
-fn push_hex_pairs(text: &mut String, bytes: &[u8]) -> Result<(), AllocError>
-    ensures { OnOk result (string_bytes text.new ≡ string_bytes text.old ++ each_of hex_pair bytes.now) }
-{
-    for byte in bytes {
-        push_hex_pair(text, *byte)?;
-    }
-    Ok(())
-}
-
 /// Appends the bytes of a string, each as a printable character or escaped.
 fn push_escaped_bytes(text: &mut String, bytes: &[u8]) -> Result<(), AllocError>
     ensures { OnOk result (string_bytes text.new ≡ string_bytes text.old ++ each_of escaped bytes.now) }
@@ -308,24 +288,6 @@ fn push_escaped(text: &mut String, byte: u8) -> Result<(), AllocError>
         return text.push(char::from(byte));
     }
     text.push_str("\\")?;
-    push_hex_pair(text, byte)?;
+    text.push_str(hex_pair(byte))?;
     Ok(())
-}
-
-/// Appends a byte as two hexadecimal digits.
-fn push_hex_pair(text: &mut String, byte: u8) -> Result<(), AllocError>
-    ensures { OnOk result (string_bytes text.new ≡ string_bytes text.old ++ hex_pair byte) }
-{
-    push_hex_digit(text, byte / 16)?;
-    push_hex_digit(text, byte % 16)?;
-    Ok(())
-}
-
-/// Appends a hexadecimal digit.
-fn push_hex_digit(text: &mut String, digit: u8) -> Result<(), AllocError>
-    requires small { digit < 16 }
-    ensures { OnOk result (string_bytes text.new ≡ string_bytes text.old ++ (hex_digit digit ∷ [])) }
-{
-    let escaped = if digit < 10 { 48 + digit } else { 87 + digit };
-    text.push(char::from(escaped))
 }

@@ -1,28 +1,9 @@
 -- What has been appended so far, part by part.
-use Rattle.std.proofs.Common.{◌≡◌, ℕ, zero, suc, ◌+◌, ◌/◌, ◌%◌, ◌<◌, List, [], ◌∷◌, ◌++◌, length, take, slice_index, refl, ap, ◌∙◌, arith, add-one, append_assoc}
+use Rattle.std.proofs.Common.{◌≡◌, ℕ, List, [], ◌∷◌, ◌++◌, length, ap, ◌∙◌, append_assoc}
 use Rattle.std.specs.Prelude.{decimal}
 use Rattle.netlink_packet_core.specs.Attribute.{Attribute}
-use Rattle.netlink_frame.specs.Lines.{hex_digit, hex_digits, nla_line, shown}
-
-more_digits : (bytes : List ℕ) (i : ℕ) → i < length bytes
-    → hex_digits (take (suc i) bytes)
-    ≡ hex_digits (take i bytes) ++ (hex_digit (slice_index bytes i / 16) ∷ (hex_digit (slice_index bytes i % 16) ∷ []))
-unfolding hex_digits
-more_digits [] i less = absurd (omega arith)
-more_digits (b ∷ bytes) zero less = refl
-more_digits (b ∷ bytes) (suc i) less =
-    ap (λ (more : List ℕ). hex_digit (b / 16) ∷ (hex_digit (b % 16) ∷ more)) (more_digits bytes i (omega arith))
-
--- two more digits, after a text and the digits of the bytes so far
-pub two_digits : (front bytes old new pair : List ℕ) (i : ℕ) → i < length bytes → old ≡ front ++ hex_digits (take i bytes)
-    → new ≡ old ++ pair
-    → pair ≡ hex_digit (slice_index bytes i / 16) ∷ (hex_digit (slice_index bytes i % 16) ∷ [])
-    → new ≡ front ++ hex_digits (take (i + 1) bytes)
-two_digits front bytes old new pair i less so_far added is =
-    let digits : List ℕ = hex_digits (take i bytes) in
-    let both : List ℕ = hex_digit (slice_index bytes i / 16) ∷ (hex_digit (slice_index bytes i % 16) ∷ []) in
-    rw (add-one, more_digits bytes i less)
-    (added ∙ ap (λ (t : List ℕ). t ++ pair) so_far ∙ ap (λ (t : List ℕ). (front ++ digits) ++ t) is ∙ append_assoc front digits both)
+use Rattle.netlink_packet_core.specs.Text.{hex_text}
+use Rattle.netlink_frame.specs.Lines.{kind_text, nla_line}
 
 -- the parts of an attribute's line, appended one after another
 line_joins : (t0 t1 t2 t3 t4 kind size value : List ℕ) → t1 ≡ t0 ++ kind → t2 ≡ t1 ++ (32 ∷ (size ++ (32 ∷ []))) → t3 ≡ t2 ++ value
@@ -34,11 +15,11 @@ line_joins t0 t1 t2 t3 t4 kind size value first second third fourth =
     ∙ simp append_assoc
 
 -- an attribute's line, appended in these parts
-pub line_added : (t0 t1 t2 t3 t4 value : List ℕ) (a : Attribute) (kind : ℕ) → t1 ≡ t0 ++ hex_digits (kind / 256 ∷ (kind % 256 ∷ []))
+pub line_added : (t0 t1 t2 t3 t4 value : List ℕ) (a : Attribute) (kind : ℕ) → t1 ≡ t0 ++ kind_text kind
     → t2 ≡ t1 ++ (32 ∷ (decimal (length value) ++ (32 ∷ [])))
-    → t3 ≡ t2 ++ shown value → t4 ≡ t3 ++ (10 ∷ []) → kind ≡ a.kind → value ≡ a.value → t4 ≡ t0 ++ nla_line a
+    → t3 ≡ t2 ++ hex_text value → t4 ≡ t3 ++ (10 ∷ []) → kind ≡ a.kind → value ≡ a.value → t4 ≡ t0 ++ nla_line a
 line_added t0 t1 t2 t3 t4 value a kind first second third fourth same_kind same_value =
-    line_joins t0 t1 t2 t3 t4 (hex_digits (kind / 256 ∷ (kind % 256 ∷ []))) (decimal (length value)) (shown value) first second third fourth
+    line_joins t0 t1 t2 t3 t4 (kind_text kind) (decimal (length value)) (hex_text value) first second third fourth
     ∙ ap (λ (k : ℕ). t0 ++ nla_line (record { kind = k; value = value })) same_kind
     ∙ ap (λ (v : List ℕ). t0 ++ nla_line (record { kind = a.kind; value = v })) same_value
 

@@ -18,7 +18,9 @@ use Rattle.netlink_packet_core.specs.Uniqueness.{Uniqueness}
 use Rattle.netlink_packet_core.specs.Walk.{Walk}
 use Rattle.netlink_packet_core.specs.declared.message.NetlinkMessage.{NetlinkMessage}
 use Rattle.netlink_tree.specs.FrameWalk.{FrameWalk}
-use Rattle.netlink_frame.specs.Lines.{frame_lines, header_lines, inner_text, message_lines, nla_lines, payload_words, shown}
+use Rattle.netlink_packet_core.specs.Header.{header_lines}
+use Rattle.netlink_packet_core.specs.Text.{hex_text}
+use Rattle.netlink_frame.specs.Lines.{frame_lines, inner_text, message_lines, nla_lines, payload_words}
 use Rattle.netlink_frame.specs.PingPong.{ping_pong_decoding, ping_pong_encoding, wants_memory}
 use Rattle.netlink_frame.specs.Run.{Makes, SameFault}
 use Rattle.netlink_frame.specs.declared.command.Command.TheVariants.{Normalize, Show, Nlas, Canon, Frames}
@@ -71,8 +73,8 @@ no_refusal : IsUnique → (bytes : List ℕ) (m : NetlinkMessage PingPongMessage
 no_refusal unique bytes m e frame refusal known = known (unique.frame bytes m e frame refusal)
 
 inner_once : (v w : PingPongMessage) → ping_pong_decoding.stands_for v ≡ ping_pong_decoding.stands_for w → inner_text v ≡ inner_text w
-inner_once (Ping a) (Ping b) same = ap (λ (t : List ℕ). codes "ping " ++ shown t) (ap (λ (p : ℕ × List ℕ). p.1) same)
-inner_once (Pong a) (Pong b) same = ap (λ (t : List ℕ). codes "pong " ++ shown t) (ap (λ (p : ℕ × List ℕ). p.1) same)
+inner_once (Ping a) (Ping b) same = ap (λ (t : List ℕ). codes "ping " ++ hex_text t) (ap (λ (p : ℕ × List ℕ). p.1) same)
+inner_once (Pong a) (Pong b) same = ap (λ (t : List ℕ). codes "pong " ++ hex_text t) (ap (λ (p : ℕ × List ℕ). p.1) same)
 inner_once (Ping a) (Pong b) same = absurd (omega (arith, ap (λ (p : ℕ × List ℕ). p.0) same))
 inner_once (Pong a) (Ping b) same = absurd (omega (arith, ap (λ (p : ℕ × List ℕ). p.0) same))
 
@@ -80,12 +82,12 @@ inner_once (Pong a) (Ping b) same = absurd (omega (arith, ap (λ (p : ℕ × Lis
 words_once : (x y : NetlinkPayload PingPongMessage) → SamePayload ping_pong_decoding x y → payload_words x ≡ payload_words y
 words_once Noop Noop same = refl
 words_once (Done m) (Done n) (code, bytes) =
-    ap (λ (z : ℤ). codes "done " ++ (signed_decimal z ++ (codes " " ++ shown m.extended_ack.items))) code
-    ∙ ap (λ (t : List ℕ). codes "done " ++ (signed_decimal n.code ++ (codes " " ++ shown t))) bytes
+    ap (λ (z : ℤ). codes "done " ++ (signed_decimal z ++ (codes " " ++ hex_text m.extended_ack.items))) code
+    ∙ ap (λ (t : List ℕ). codes "done " ++ (signed_decimal n.code ++ (codes " " ++ hex_text t))) bytes
 words_once (Error m) (Error n) (code, bytes) =
-    ap (λ (z : ℤ). codes "error " ++ (signed_decimal z ++ (codes " " ++ shown m.header.items))) code
-    ∙ ap (λ (t : List ℕ). codes "error " ++ (signed_decimal (raw_code n.code) ++ (codes " " ++ shown t))) bytes
-words_once (Overrun a) (Overrun b) same = ap (λ (t : List ℕ). codes "overrun " ++ shown t) same
+    ap (λ (z : ℤ). codes "error " ++ (signed_decimal z ++ (codes " " ++ hex_text m.header.items))) code
+    ∙ ap (λ (t : List ℕ). codes "error " ++ (signed_decimal (raw_code n.code) ++ (codes " " ++ hex_text t))) bytes
+words_once (Overrun a) (Overrun b) same = ap (λ (t : List ℕ). codes "overrun " ++ hex_text t) same
 words_once (InnerMessage v) (InnerMessage w) same = inner_once v w same
 words_once x y same = absurd same
 

@@ -3,16 +3,15 @@
 //! The loops are those of `frames`, over a different walk. A common function for both would need a
 //! trait for walks, with their items and lines, and would be longer than the two.
 
-ghost use Rattle.std.specs.Prelude.{◌≡◌, ◌/◌, ◌%◌, ◌++◌, [], ◌∷◌, List, Option, IfOk, IfErr, OnOk, string_bytes};
+ghost use Rattle.std.specs.Prelude.{◌≡◌, ◌++◌, List, Option, IfOk, IfErr, OnOk, string_bytes};
 ghost use Rattle.netlink_packet_core.specs.Attribute.{Attribute};
 ghost use Rattle.netlink_packet_core.specs.DecodeError.{DecodeError};
 ghost use Rattle.netlink_packet_core.specs.Views.{attribute_of, shown, HoldsAttribute};
 ghost use Rattle.netlink_packet_core.specs.Walk.{Walk};
-ghost use Rattle.netlink_frame.specs.Lines.{hex_digits, nla_line, nla_lines};
+ghost use Rattle.netlink_frame.specs.Lines.{kind_text, nla_line, nla_lines};
 
-use crate::text::{push_digits, push_shown};
 use netlink_packet_core::laws::walk_unique;
-use netlink_packet_core::{DecodeError, NlaBuffer, NlasIterator};
+use netlink_packet_core::{DecodeError, NlaBuffer, NlasIterator, hex_pair, push_hex};
 use std::alloc::{AllocError, Global};
 use std::fmt::Write;
 
@@ -74,7 +73,7 @@ fn push_line(text: &mut String, nla: &NlaBuffer<&[u8]>) -> Result<(), AllocError
         Ok(()) => {}
         Err(_) => return Err(AllocError),
     }
-    push_shown(text, value)?;
+    push_hex(text, value)?;
     text.push_str("\n")?;
     Ok(())
 }
@@ -83,7 +82,9 @@ fn push_line(text: &mut String, nla: &NlaBuffer<&[u8]>) -> Result<(), AllocError
 fn push_kind(text: &mut String, kind: u16) -> Result<(), AllocError>
     ensures { OnOk result
         (string_bytes text.new
-        ≡ string_bytes text.old ++ hex_digits (kind / 256 ∷ (kind % 256 ∷ []))) }
+        ≡ string_bytes text.old ++ kind_text kind) }
 {
-    push_digits(text, &kind.to_be_bytes())
+    let [high, low] = kind.to_be_bytes();
+    text.push_str(hex_pair(high))?;
+    text.push_str(hex_pair(low))
 }

@@ -1,11 +1,13 @@
 //! What the program prints for a message.
 
-ghost use Rattle.std.specs.Prelude.{◌≡◌, ◌/◌, ◌%◌, [], ◌∷◌, ◌++◌, IfOk, IfErr, OnOk, codes, string_bytes};
+ghost use Rattle.std.specs.Prelude.{◌≡◌, ◌++◌, IfOk, IfErr, OnOk, codes, string_bytes};
 ghost use Rattle.std.specs.Fmt.{signed_decimal};
-ghost use Rattle.netlink_frame.specs.Lines.{header_lines, hex_digit, hex_digits, message_lines, number_line, payload_words, shown};
+ghost use Rattle.netlink_packet_core.specs.Header.{header_lines};
+ghost use Rattle.netlink_packet_core.specs.Text.{hex_text, number_line};
+ghost use Rattle.netlink_frame.specs.Lines.{message_lines, payload_words};
 
 use crate::ping_pong::PingPongMessage;
-use netlink_packet_core::{DecodeError, NetlinkHeader, NetlinkMessage, NetlinkPayload};
+use netlink_packet_core::{DecodeError, NetlinkHeader, NetlinkMessage, NetlinkPayload, push_hex};
 use std::alloc::{AllocError, Global};
 
 /// Returns the six lines of a message: one for each field of its header, in decimal, and one for
@@ -92,10 +94,10 @@ fn push_coded(
     ensures { OnOk result
         (string_bytes text.new
         ≡ string_bytes text.old
-        ++ (name.now ++ (signed_decimal code ++ (codes " " ++ shown bytes.now)))) }
+        ++ (name.now ++ (signed_decimal code ++ (codes " " ++ hex_text bytes.now)))) }
 {
     text.push_str(code_text(alloc, name, code)?.as_str())?;
-    push_shown(text, bytes)?;
+    push_hex(text, bytes)?;
     Ok(())
 }
 
@@ -110,52 +112,9 @@ fn code_text(alloc: Global, name: &str, code: i32) -> Result<String, AllocError>
 /// Appends a name, and the bytes as they are printed. Returns `AllocError` if an allocation fails.
 fn push_named(text: &mut String, name: &str, bytes: &[u8]) -> Result<(), AllocError>
     ensures { OnOk result
-        (string_bytes text.new ≡ string_bytes text.old ++ (name.now ++ shown bytes.now)) }
+        (string_bytes text.new ≡ string_bytes text.old ++ (name.now ++ hex_text bytes.now)) }
 {
     text.push_str(name)?;
-    push_shown(text, bytes)?;
+    push_hex(text, bytes)?;
     Ok(())
 }
-
-/// Appends the bytes as they are printed: two digits each, or `-` if there are none. Returns
-/// `AllocError` if an allocation fails.
-pub(crate) fn push_shown(text: &mut String, bytes: &[u8]) -> Result<(), AllocError>
-    ensures { OnOk result (string_bytes text.new ≡ string_bytes text.old ++ shown bytes.now) }
-{
-    if bytes.is_empty() {
-        return text.push_str("-");
-    }
-    push_digits(text, bytes)
-}
-
-/// Appends two hexadecimal digits per byte, after reserving room for all of them. Returns
-/// `AllocError` if an allocation fails.
-pub(crate) fn push_digits(text: &mut String, bytes: &[u8]) -> Result<(), AllocError>
-    ensures { OnOk result (string_bytes text.new ≡ string_bytes text.old ++ hex_digits bytes.now) }
-{
-    text.reserve(bytes.len().saturating_mul(2))?;
-    for byte in bytes {
-        text.push_str(pair(*byte))?;
-    }
-    Ok(())
-}
-
-/// Returns the two hexadecimal digits of a byte.
-#[inline(always)]
-fn pair(byte: u8) -> &'static str
-    ensures { result.now ≡ hex_digit (byte / 16) ∷ (hex_digit (byte % 16) ∷ []) }
-{
-    let start = usize::from(byte) * 2;
-    &PAIRS[start..start + 2]
-}
-
-/// The two hexadecimal digits of each byte value, in order.
-const PAIRS: &str = "\
-000102030405060708090a0b0c0d0e0f101112131415161718191a1b1c1d1e1f\
-202122232425262728292a2b2c2d2e2f303132333435363738393a3b3c3d3e3f\
-404142434445464748494a4b4c4d4e4f505152535455565758595a5b5c5d5e5f\
-606162636465666768696a6b6c6d6e6f707172737475767778797a7b7c7d7e7f\
-808182838485868788898a8b8c8d8e8f909192939495969798999a9b9c9d9e9f\
-a0a1a2a3a4a5a6a7a8a9aaabacadaeafb0b1b2b3b4b5b6b7b8b9babbbcbdbebf\
-c0c1c2c3c4c5c6c7c8c9cacbcccdcecfd0d1d2d3d4d5d6d7d8d9dadbdcdddedf\
-e0e1e2e3e4e5e6e7e8e9eaebecedeeeff0f1f2f3f4f5f6f7f8f9fafbfcfdfeff";

@@ -1,10 +1,10 @@
 -- Bytes as text.
-use Rattle.std.specs.Prelude.{ℕ, ◌≡◌, ◌<◌, true, ◌==◌, ◌/◌, ◌%◌, ◌&&◌, Bool, false, List, [], ◌∷◌, ◌++◌, codes, length, nat_le, nat_lt, if◌then◌else◌}
-use Rattle.std.specs.Fmt.{digits}
+use Rattle.std.specs.Prelude.{ℕ, ◌≡◌, ◌<◌, true, ◌==◌, ◌&&◌, Bool, false, List, [], ◌∷◌, ◌++◌, codes, length, nat_le, nat_lt, if◌then◌else◌}
 use Rattle.std.specs.List.{fold, list_all}
 use Rattle.std.specs.Net.Addr.{segments_of}
 use Rattle.std.specs.Net.Text.{ipv4_text, ipv6_text}
 use Rattle.std.specs.Str.{IsUtf8}
+use Rattle.netlink_packet_core.specs.Text.{hex_pair}
 use Rattle.std.proofs.Common.{All, arith}
 use Rattle.std.proofs.lemmas.Bool.{and_parts, ltb-true}
 use Rattle.std.proofs.lemmas.List.Elements.{All-cons, All-nil}
@@ -16,12 +16,8 @@ abbrev pub separated : List ℕ → List ℕ → List ℕ → List ℕ
 separated separator [] word = word
 separated separator (b ∷ text) word = (b ∷ text) ++ (separator ++ word)
 
--- the two hexadecimal digits of a byte, in lower case
-abbrev pub two_digits : ℕ → List ℕ
-two_digits byte = digits 16 false (byte / 16) ++ digits 16 false (byte % 16)
-
 abbrev pub with_byte : List ℕ → ℕ → List ℕ
-with_byte text byte = separated (codes ":") text (two_digits byte)
+with_byte text byte = separated (codes ":") text (hex_pair byte)
 
 -- two digits per byte, separated by colons
 abbrev pub bytes_text : List ℕ → List ℕ

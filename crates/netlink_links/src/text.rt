@@ -2,9 +2,9 @@
 
 ghost use Rattle.std.specs.Prelude.{◌≡◌, IfOk, OnOk, string_bytes};
 ghost use Rattle.std.specs.List.{list_all};
-ghost use Rattle.netlink_links.specs.Text.{bytes_text, ip_words, is_printable, name_text, printable_text, sentence_text, separated, two_digits};
+ghost use Rattle.netlink_links.specs.Text.{bytes_text, ip_words, is_printable, name_text, printable_text, sentence_text, separated};
 
-use netlink_packet_core::{IpAddr, parse_ip};
+use netlink_packet_core::{IpAddr, hex_pair, parse_ip};
 use std::alloc::{AllocError, Global};
 use std::net::{Ipv4Addr, Ipv6Addr};
 
@@ -23,22 +23,13 @@ pub(crate) fn push_separated(
     text.push_str(word)
 }
 
-/// Returns the two hexadecimal digits of a byte.
-fn two_digits(alloc: Global, byte: u8) -> Result<String, AllocError>
-    ensures { IfOk result (λ text. string_bytes text ≡ two_digits byte) }
-{
-    let high = byte / 16;
-    let low = byte % 16;
-    format!(in alloc; "{high:x}{low:x}")
-}
-
 /// Returns bytes as two hexadecimal digits each, in lower case, separated by colons.
 pub(crate) fn bytes_text(alloc: Global, bytes: &[u8]) -> Result<String, AllocError>
     ensures { IfOk result (λ text. string_bytes text ≡ bytes_text bytes.now) }
 {
     let mut text = String::new(alloc);
     for byte in bytes {
-        push_separated(&mut text, ":", two_digits(alloc, *byte)?.as_str())?;
+        push_separated(&mut text, ":", hex_pair(*byte))?;
     }
     Ok(text)
 }

@@ -1,6 +1,7 @@
--- The header of a message: its encoding, and its fields in bytes.
-use Rattle.std.specs.Prelude.{◌≡◌, ℕ, ◌+◌, ◌<◌, ◌≤◌, ◌^◌, List, ◌++◌, length, slice_range}
+-- The header of a message: its encoding, its fields in bytes, and its text.
+use Rattle.std.specs.Prelude.{◌≡◌, ℕ, ◌+◌, ◌<◌, ◌≤◌, ◌^◌, List, ◌++◌, codes, length, slice_range}
 use Rattle.netlink_bytes.specs.Numbers.{number_le, bytes_le}
+use Rattle.netlink_bytes.specs.Text.{number_line}
 use Rattle.netlink_packet_core.specs.declared.header.NetlinkHeader.{NetlinkHeader}
 
 -- the five fields in order, 16 bytes
@@ -51,3 +52,12 @@ pub record HoldsFrame (bytes : List ℕ) : Type 0 where
   pub header : 16 ≤ length bytes
   pub least : 16 ≤ field 0 4 bytes
   pub most : field 0 4 bytes ≤ length bytes
+
+-- the five lines of a header, for printing
+abbrev pub header_lines : NetlinkHeader → List ℕ
+header_lines h =
+    number_line (codes "length ") h.length
+    ++ (number_line (codes "type ") h.message_type
+    ++ (number_line (codes "flags ") h.flags
+    ++ (number_line (codes "sequence ") h.sequence_number
+    ++ number_line (codes "port ") h.port_number)))

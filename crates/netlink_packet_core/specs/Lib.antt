@@ -40,6 +40,7 @@ pub use Rattle.netlink_bytes.specs.NonZero
 pub use Rattle.netlink_bytes.specs.Storage
 pub use Rattle.netlink_bytes.specs.StorageLaws
 pub use Rattle.netlink_bytes.specs.Text
+pub use Rattle.netlink_bytes.specs.TextLaws
 pub use Rattle.netlink_bytes.specs.Traits
 pub use Rattle.netlink_bytes.specs.WalkItems
 pub use Rattle.netlink_bytes.specs.Walks

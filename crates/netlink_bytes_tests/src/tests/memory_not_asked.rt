@@ -7,8 +7,8 @@ use crate::tests::mark::refuse_from_here;
 use crate::tests::number::{Number, Order};
 use crate::tests::value::{READ, REFUSED};
 use netlink_bytes::{
-    DecodeError, ErrorContext, NonZeroI32, copy_of, i32_at, parse_string, put_i32, put_u16,
-    put_u32, u16_at, u32_at,
+    DecodeError, ErrorContext, NonZeroI32, copy_of, hex_pair, i32_at, parse_string, put_i32,
+    put_u16, put_u32, u16_at, u32_at,
 };
 use std::alloc::Global;
 use std::process::Abort;
@@ -138,6 +138,7 @@ fn bytes_and_addresses(rt: HostRuntime) {
     for (at, (like, bytes, number, _)) in REFUSED.iter().enumerate() {
         assert!(rt; refuses(like.parse_same_type(bytes), *number), "row {at}");
     }
+    assert!(rt; hex_pair(0x5c) == "5c");
 }
 
 /// Returns errors that are made without allocating: one with each number, in order, and then

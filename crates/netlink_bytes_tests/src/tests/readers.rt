@@ -1,9 +1,9 @@
-//! Single bytes, addresses and strings.
+//! Single bytes, addresses and strings, and bytes as text.
 
 use crate::tests::errors::assert_refused;
 use crate::tests::value::{READ, REFUSED};
 use netlink_bytes::laws::values_equal;
-use netlink_bytes::{IpAddr, NonZeroI32, parse_string};
+use netlink_bytes::{IpAddr, NonZeroI32, hex_pair, parse_string, push_hex};
 use std::alloc::Global;
 
 #[test]
@@ -90,4 +90,27 @@ fn texts_that_are_not_utf8(rt: HostRuntime) {
     for (bytes, text) in NOT_UTF8 {
         assert_refused(&rt, rt.alloc(), parse_string(rt.alloc(), bytes), 14, text);
     }
+}
+
+/// Bytes, and how they are printed after `0x`.
+const HEX: [(&[u8], &str); 4] = [
+    (&[], "0x-"),
+    (&[0], "0x00"),
+    (&[0x0a], "0x0a"),
+    (&[0x01, 0x9f, 0xf9, 0xff], "0x019ff9ff"),
+];
+
+/// Returns whether the bytes are appended as this text.
+fn is_hex(alloc: Global, bytes: &[u8], text: &str) -> bool {
+    let mut shown = String::new(alloc);
+    let is_begun = shown.push_str("0x").is_ok();
+    is_begun & push_hex(&mut shown, bytes).is_ok() & (shown.as_str() == text)
+}
+
+#[test]
+fn hexadecimal(rt: HostRuntime) {
+    for (bytes, text) in HEX {
+        assert!(rt; is_hex(rt.alloc(), bytes, text), "{text}");
+    }
+    assert!(rt; hex_pair(0x5c) == "5c" && hex_pair(0xc5) == "c5");
 }

@@ -4,9 +4,9 @@ use Rattle.std.proofs.lemmas.List.FromFn.{get_or-map-range_with_len}
 use Rattle.std.proofs.lemmas.Str.Ascii.{IsAscii-cons, IsAscii-nil}
 use Rattle.std.proofs.lemmas.Grind.{common_steps}
 use Rattle.std.specs.List.{list_all, range_with_len}
-use Rattle.netlink_frame.specs.Lines.{hex_digit}
-use Rattle.netlink_frame.specs.declared.text.TheConstants.{PAIRS}
-use Rattle.netlink_frame.proofs.text.pair.Goals as goal
+use Rattle.netlink_bytes.specs.Text.{hex_digit}
+use Rattle.netlink_bytes.specs.declared.hexadecimal.TheConstants.{PAIRS}
+use Rattle.netlink_bytes.proofs.hexadecimal.hex_pair.Goals as goal
 
 abbrev piece : ℕ → List ℕ
 piece byte = take 2 (drop (byte * 2) PAIRS.now)
@@ -39,5 +39,7 @@ returns c =
     let start = c.from-start.result * 2 in
     let two : start + 2 - start ≡ 2 = omega arith in
     let read : c.range.result.now ≡ take (start + 2 - start) (drop start PAIRS.now) = c.range.ensures.value in
-    read ∙ ap (λ (n : ℕ). take n (drop start PAIRS.now)) two ∙ ap (λ (b : ℕ). take 2 (drop (b * 2) PAIRS.now)) c.from-start.ensures
-    ∙ piece_is c.args.byte (omega arith)
+    record {
+      digits = read ∙ ap (λ (n : ℕ). take n (drop start PAIRS.now)) two ∙ ap (λ (b : ℕ). take 2 (drop (b * 2) PAIRS.now)) c.from-start.ensures
+          ∙ piece_is c.args.byte (omega arith);
+    }

@@ -1,6 +1,0 @@
-use Rattle.std.proofs.Common.{◌≡◌, ◌++◌, take, string_bytes}
-use Rattle.netlink_family.specs.Show.{each_of, hex_pair}
-use Rattle.netlink_family.proofs.show.push_hex_pairs.Given as goal
-
-abbrev pub invariant-loop-byte : goal.invariant-loop-byte
-invariant-loop-byte l = string_bytes l.text ≡ string_bytes l.fn.text ++ each_of hex_pair (take l.byte-index l.bytes)
