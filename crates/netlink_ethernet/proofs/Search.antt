@@ -6,7 +6,7 @@ use Rattle.std.proofs.lemmas.Cmp.{ranked}
 use Rattle.std.proofs.lemmas.List.{get_or-map, get_or_default}
 use Rattle.std.proofs.lemmas.Option.{get_or_from_slice_get}
 use Rattle.std.specs.List.Sorted.{IsStrictlyIncreasing}
-use Rattle.std.specs.Ordering.{is_eq, is_lt, nat_cmp}
+use Rattle.std.specs.Ordering.{is_eq, is_gt, nat_cmp}
 use Rattle.netlink_ethernet.specs.declared.protocol.EthernetProtocol.{EthernetProtocol}
 use Rattle.netlink_ethernet.specs.declared.protocol.EthernetProtocol.TheVariants.{Other}
 use Rattle.netlink_ethernet.specs.Table.{named, numbers, protocol_of}
@@ -55,6 +55,10 @@ within_earlier_rows sought low high middle (below, above) row more = (
   ]),
 )
 
+-- the row that was compared may stay among those that are left
+pub within_from : (sought low high later : ℕ) → IsWithin sought later high → low ≤ later → IsWithin sought low high
+within_from sought low high later (below, above) order = ((λ k h. below k (omega arith)), above)
+
 -- if no row is left, none has the number
 pub protocol_of-none_left : (sought low high : ℕ) → IsWithin sought low high → high ≤ low → protocol_of sought ≡ Other sought
 protocol_of-none_left sought low high (below, above) meet =
@@ -77,21 +81,21 @@ protocol_of-found sought middle p row same found =
 
 -- ---- the comparisons
 
--- what `is_lt` and `is_eq` of a result of `cmp` imply about two numbers
-pub less_from_is_lt : (x y : ℕ) (o : Ordering) → o ≡ nat_cmp x y → is_lt o ≡ true → x < y
-less_from_is_lt x y Less e t = ranked x y Less e
-less_from_is_lt x y Equal e t = grind arith
-less_from_is_lt x y Greater e t = grind arith
+-- what `is_gt` and `is_eq` of a result of `cmp` imply about two numbers
+pub greater_from_is_gt : (x y : ℕ) (o : Ordering) → o ≡ nat_cmp x y → is_gt o ≡ true → y < x
+greater_from_is_gt x y Less e t = grind arith
+greater_from_is_gt x y Equal e t = grind arith
+greater_from_is_gt x y Greater e t = ranked x y Greater e
 
 pub equal_from_is_eq : (x y : ℕ) (o : Ordering) → o ≡ nat_cmp x y → is_eq o ≡ true → x ≡ y
 equal_from_is_eq x y Less e t = grind arith
 equal_from_is_eq x y Equal e t = ranked x y Equal e
 equal_from_is_eq x y Greater e t = grind arith
 
-pub greater_from_neither : (x y : ℕ) (o : Ordering) → o ≡ nat_cmp x y → is_eq o ≡ false → is_lt o ≡ false → y < x
-greater_from_neither x y Less e n l = grind arith
-greater_from_neither x y Equal e n l = grind arith
-greater_from_neither x y Greater e n l = ranked x y Greater e
+pub less_from_neither : (x y : ℕ) (o : Ordering) → o ≡ nat_cmp x y → is_eq o ≡ false → is_gt o ≡ false → x < y
+less_from_neither x y Less e n g = ranked x y Less e
+less_from_neither x y Equal e n g = grind arith
+less_from_neither x y Greater e n g = grind arith
 
 halved : (used size next : ℕ) → 0 < size → size < 2 ^ (7 - used) → 2 * next ≤ size → (used < 7) × (next < 2 ^ (7 - (used + 1)))
 halved used size next some within half = elim (cases_lt used 7) [

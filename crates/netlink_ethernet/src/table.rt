@@ -120,16 +120,13 @@ fn protocol_at(index: usize) -> EthernetProtocol
     *&PROTOCOLS[index]
 }
 
-/// Returns the middle row of those from `low` up to, but not including, `high`, which leaves at
-/// most half of them on either side. Requires `low < high`.
-fn middle_of(low: usize, high: usize) -> usize
-    requires { low < high }
-    ensures from { low ≤ result }
-    ensures to { result < high }
-    ensures before { 2 * (result - low) ≤ high - low }
-    ensures after { 2 * (high - (result + 1)) ≤ high - low }
+/// Returns half of a number of rows, rounded down. Requires `rows > 0`.
+#[inline(always)]
+fn half_of(rows: usize) -> usize
+    requires { 0 < rows }
+    ensures half { (2 * result ≤ rows) × (rows ≤ 2 * result + 1) }
 {
-    low + (high - low) / 2
+    rows / 2
 }
 
 /// Returns the protocol for a number in host byte order, as `EthernetProtocol::from` does: the
@@ -143,19 +140,21 @@ pub fn look_up(sought: u16, comparisons: &mut Comparisons) -> EthernetProtocol
     ensures at_least_one { comparisons.old + 1 ≤ comparisons.new }
     ensures at_most_seven { comparisons.new ≤ comparisons.old + 7 }
 {
+    // Each comparison leaves half of the rows, whatever its result, so the compiler unrolls the loop.
+    // If the number of rows is even, the later half begins with the row that was compared.
     let mut low = 0;
-    let mut high = ROWS;
-    while low < high {
-        let middle = middle_of(low, high);
+    let mut left = ROWS;
+    while left > 0 {
+        let half = half_of(left);
+        let middle = low + half;
         let order = comparisons.compare(sought, middle);
         if order.is_eq() {
             return protocol_at(middle);
         }
-        if order.is_lt() {
-            high = middle;
-        } else {
-            low = middle + 1;
+        if order.is_gt() {
+            low += left - half;
         }
+        left = half;
     }
     EthernetProtocol::Other(sought)
 }
