@@ -1,5 +1,6 @@
 pub mod Canonicals
 pub mod CutLemmas
+pub mod FillLemmas
 pub mod FindLemmas
 pub mod Older
 pub mod NormalLemmas

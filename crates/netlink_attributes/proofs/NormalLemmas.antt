@@ -1,16 +1,11 @@
 -- What a block encoded from a walk implies about any walk of the same bytes.
-use Rattle.std.proofs.Common.{◌≡◌, ◌↔◌, ◌⊎◌, ◌+◌, ℕ, List, [], ◌∷◌, ◌++◌, length, take, refl, ap, sym, ◌∙◌, inl, inr, Some, None, Result, Ok, Err, Vec, Global, MatchResult, IfOk, IfErr, arith}
-use Rattle.std.proofs.lemmas.List.{take_at}
-use Rattle.std.specs.Prelude.{replicate}
+use Rattle.std.proofs.Common.{◌≡◌, ◌↔◌, ◌⊎◌, ℕ, List, [], ap, sym, ◌∙◌, inl, inr, Some, None, Result, Ok, Err, Vec, Global, MatchResult, IfOk, IfErr}
 use Rattle.netlink_bytes.specs.declared.error.DecodeError.{DecodeError}
 use Rattle.netlink_bytes.specs.declared.error.DecodeError.TheVariants.{OutOfMemory}
-use Rattle.netlink_attributes.specs.Attribute.{Attribute, attribute_bytes, padded, padding}
-use Rattle.netlink_attributes.specs.Sizes.{length-attribute_bytes}
+use Rattle.netlink_attributes.specs.Attribute.{Attribute}
 use Rattle.netlink_attributes.specs.Block.{canonical_block, IsCanonicalBlock}
-use Rattle.netlink_attributes.specs.Views.{length_field, attribute_of}
-use Rattle.netlink_attributes.specs.Walk.{Walk, Starts}
-use Rattle.netlink_attributes.specs.BlockLaws.{walked_canonical, written_fixed, block_push, canonical_walk, canonical_walked}
-use Rattle.netlink_attributes.specs.StartLaws.{starts-length_field}
+use Rattle.netlink_attributes.specs.Walk.{Walk}
+use Rattle.netlink_attributes.specs.BlockLaws.{walked_canonical, written_fixed, canonical_walk, canonical_walked}
 use Rattle.netlink_attributes.specs.WalkLaws.{walk_once}
 
 -- bytes with a walk without an error have no walk with one
@@ -74,29 +69,3 @@ pub normalized_unchanged : (bytes : List ℕ) (result : Result (Vec ℕ Global) 
     → IfOk result (λ v. (v.items ≡ bytes) ↔ IsCanonicalBlock bytes)
 normalized_unchanged bytes (Ok v) (x, walk, items) = rw items (written_fixed bytes x walk)
 normalized_unchanged bytes (Err e) answer = tt
-
--- the encoding of the attribute that bytes start with
-pub starts-text : (bytes : List ℕ) (a : Attribute) (rest : List ℕ) → Starts bytes a rest
-    → take (length_field bytes) bytes ≡ attribute_bytes a
-starts-text bytes a rest starts =
-    let size : length (attribute_bytes a) ≡ length_field bytes = length-attribute_bytes a ∙ sym (starts-length_field bytes a rest starts) in
-    ap (take (length_field bytes)) starts.whole ∙ take_at (attribute_bytes a) (starts.gap ++ rest) (length_field bytes) size
-
--- an encoding and the padding for its size are the attribute as it is written
-pub padded-text : (a : Attribute) (text : List ℕ) → text ≡ attribute_bytes a → text ++ replicate (padding (length text)) 0 ≡ padded a
-padded-text a text is =
-    let size : length text ≡ 4 + length a.value = ap length is ∙ length-attribute_bytes a in
-    let same : padding (length text) ≡ padding (length a.value) = omega arith in
-    rw (same, is) refl
-
--- one more attribute is written
-pub written_push : (done : List Attribute) (old new bytes storage : List ℕ) (rest : List ℕ) (size : ℕ)
-    → Starts bytes (attribute_of bytes) rest → storage ≡ bytes → size ≡ length_field storage
-    → old ≡ canonical_block done → new ≡ old ++ (take size storage ++ replicate (padding (length (take size storage))) 0)
-    → new ≡ canonical_block (done ++ (attribute_of bytes ∷ []))
-written_push done old new bytes storage rest size starts same field before after =
-    let a : Attribute = attribute_of bytes in
-    let text : take size storage ≡ attribute_bytes a =
-    ap (λ (k : ℕ). take k storage) field ∙ ap (λ (x : List ℕ). take (length_field x) x) same ∙ starts-text bytes a rest starts in
-    after ∙ ap (λ (x : List ℕ). old ++ x) (padded-text a (take size storage) text) ∙ ap (λ (x : List ℕ). x ++ padded a) before
-    ∙ sym (block_push done a)

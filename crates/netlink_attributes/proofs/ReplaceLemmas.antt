@@ -15,7 +15,7 @@ use Rattle.netlink_attributes.specs.Walk.{Starts, Walk}
 use Rattle.netlink_attributes.specs.StartLaws.{nothing_starts}
 
 -- bytes written after a front
-put_after : (front rest text : List ℕ) (at n : ℕ) → at ≡ length front + n → put_at (front ++ rest) at text ≡ front ++ put_at rest n text
+pub put_after : (front rest text : List ℕ) (at n : ℕ) → at ≡ length front + n → put_at (front ++ rest) at text ≡ front ++ put_at rest n text
 put_after front rest text at n far =
     let end : at + length text ≡ length front + (n + length text) = omega arith in
     ap (λ (k : ℕ). take k (front ++ rest) ++ (text ++ drop (at + length text) (front ++ rest))) far
@@ -25,7 +25,7 @@ put_after front rest text at n far =
     ∙ append_assoc front (take n rest) (text ++ drop (n + length text) rest)
 
 -- bytes written at the start, over the same number of bytes
-put_front : (old rest text : List ℕ) → length text ≡ length old → put_at (old ++ rest) 0 text ≡ text ++ rest
+pub put_front : (old rest text : List ℕ) → length text ≡ length old → put_at (old ++ rest) 0 text ≡ text ++ rest
 put_front old rest text same = ap (λ (x : List ℕ). text ++ x) (drop_at old rest (0 + length text) (omega (arith, same)))
 
 abbrev header : ℕ → ℕ → List ℕ

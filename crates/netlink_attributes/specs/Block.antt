@@ -18,3 +18,7 @@ IsBlockOf bytes (a ∷ more) =
 -- the bytes are a canonical block
 abbrev pub IsCanonicalBlock : List ℕ → Type 0
 IsCanonicalBlock bytes = (all : List Attribute) × IsBlockOf bytes all
+
+-- the bytes, with zeros up to a multiple of 4
+abbrev pub filled : List ℕ → List ℕ
+filled bytes = bytes ++ replicate (padding (length bytes)) 0
