@@ -50,5 +50,6 @@ fn flat_number(value: Value<'_>) -> usize {
         | Value::MinLen(_, bytes)
         | Value::Bytes(bytes) => bytes.len(),
         Value::Nested(nest) => nest.block.len(),
+        Value::HeaderNested(header, nest) => header.bytes.len().wrapping_add(nest.block.len()),
     }
 }

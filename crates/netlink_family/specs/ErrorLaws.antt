@@ -14,7 +14,7 @@ use Rattle.netlink_packet_core.specs.Walk.{IsFault, Starts}
 use Rattle.netlink_family.specs.Blocks.{all_normalized, block_fits, block_reading, keep_fit, normalize, normalized, with_first}
 use Rattle.netlink_family.specs.PayloadReading.{after_header, payload_reading}
 use Rattle.netlink_family.specs.Errors.{ValueError, block_error, reason_of, decode_reason, walk_reason, payload_error, error_at, error_in, first_error, flat_error, left_after, message_error, too_long_error, value_error}
-use Rattle.netlink_family.specs.Shapes.{Row, all_shaped, by_nest, fits_kind, has_shape, is_shaped, nest_levels, nest_of, or_first, reading_by, shape_in}
+use Rattle.netlink_family.specs.Shapes.{Row, all_shaped, by_nest, fits_kind, has_shape, is_shaped, nest_block, nest_levels, nest_of, or_first, reading_by, shape_in}
 use Rattle.netlink_family.specs.declared.error.FamilyError.{FamilyError}
 use Rattle.netlink_family.specs.declared.error.FamilyError.TheVariants.{InvalidAttribute, TooLong}
 use Rattle.netlink_family.specs.declared.attribute_error.Reason.{Reason}
@@ -141,48 +141,76 @@ left_after_start bytes a rest starts =
 
 -- ---- one value
 
-flat_step : (levels : ℕ) (rows : List Row) (policy at kind : ℕ) (value : List ℕ)
-    → nest_of (shape_in rows policy kind) ≡ None → value_error levels rows policy at kind value
-    ≡ flat_error policy at (shape_in rows policy kind) kind value
+-- a value has its own error, or else that of its nest; `nest` is the policy of that
+value_step : (levels : ℕ) (rows : List Row) (policy at kind : ℕ) (value : List ℕ) (shape : Shape) (nest : Option ℕ)
+    → shape ≡ shape_in rows policy kind → nest_of shape ≡ nest → value_error (suc levels) rows policy at kind value
+    ≡ or_first (flat_error policy at shape kind value) (by_nest nest
+    (λ inner. error_in levels rows inner (at + 4 + length value) (nest_block shape value)) None)
 unfolding value_error
-flat_step zero rows policy at kind value flat =
-    ap (λ (n : Option ℕ). by_nest n (λ inner. Some (error_at policy at (TooDeep kind)))
-    (flat_error policy at (shape_in rows policy kind) kind value)) flat
-flat_step (suc levels) rows policy at kind value flat =
-    ap (λ (n : Option ℕ). by_nest n (λ inner. error_in levels rows inner (at + 4 + length value) value)
-    (flat_error policy at (shape_in rows policy kind) kind value)) flat
+value_step levels rows policy at kind value shape nest same is =
+    ap (λ (s : Shape). or_first (flat_error policy at s kind value) (by_nest (nest_of s)
+    (λ inner. error_in levels rows inner (at + 4 + length value) (nest_block s value)) None)) (sym same)
+    ∙ ap (λ (n : Option ℕ). or_first (flat_error policy at shape kind value) (by_nest n
+    (λ inner. error_in levels rows inner (at + 4 + length value) (nest_block shape value)) None)) is
+
+deep_step : (rows : List Row) (policy at kind : ℕ) (value : List ℕ) (shape : Shape) (nest : Option ℕ)
+    → shape ≡ shape_in rows policy kind → nest_of shape ≡ nest → value_error 0 rows policy at kind value
+    ≡ or_first (flat_error policy at shape kind value)
+    (by_nest nest (λ inner. Some (error_at policy at (TooDeep kind))) None)
+unfolding value_error
+deep_step rows policy at kind value shape nest same is =
+    ap (λ (s : Shape). or_first (flat_error policy at s kind value)
+    (by_nest (nest_of s) (λ inner. Some (error_at policy at (TooDeep kind))) None)) (sym same)
+    ∙ ap (λ (n : Option ℕ). or_first (flat_error policy at shape kind value)
+    (by_nest n (λ inner. Some (error_at policy at (TooDeep kind))) None)) is
+
+flat_has : (policy at : ℕ) (shape : Shape) (kind : ℕ) (value : List ℕ) (is : Bool) (later : Option AttributeError)
+    → has_shape shape value ≡ is → or_first (flat_error policy at shape kind value) later
+    ≡ (if is then later else Some (error_at policy at (reason_of shape kind value)))
+flat_has policy at shape kind value true later has =
+    ap (λ (b : Bool). or_first (if b then None else Some (error_at policy at (reason_of shape kind value))) later) has
+flat_has policy at shape kind value false later has =
+    ap (λ (b : Bool). or_first (if b then None else Some (error_at policy at (reason_of shape kind value))) later) has
+
+-- a value without its shape
+pub value_other : (levels : ℕ) (rows : List Row) (policy at kind : ℕ) (value : List ℕ) (shape : Shape)
+    → shape ≡ shape_in rows policy kind → has_shape shape value ≡ false
+    → value_error levels rows policy at kind value ≡ Some (error_at policy at (reason_of shape kind value))
+value_other zero rows policy at kind value shape same has =
+    deep_step rows policy at kind value shape (nest_of shape) same refl ∙ flat_has policy at shape kind value false _ has
+value_other (suc levels) rows policy at kind value shape same has =
+    value_step levels rows policy at kind value shape (nest_of shape) same refl
+    ∙ flat_has policy at shape kind value false _ has
 
 -- a value that is not a nest
-pub value_flat : (levels : ℕ) (rows : List Row) (policy at kind : ℕ) (value : List ℕ)
-    (shape : Shape) (is : Bool) → shape ≡ shape_in rows policy kind → nest_of shape ≡ None
-    → has_shape shape value ≡ is → value_error levels rows policy at kind value
-    ≡ (if is then None else Some (error_at policy at (reason_of shape kind value)))
-value_flat levels rows policy at kind value shape is same flat has =
-    flat_step levels rows policy at kind value (ap nest_of (sym same) ∙ flat)
-    ∙ ap (λ (s : Shape). flat_error policy at s kind value) (sym same)
-    ∙ ap (λ (b : Bool). if b then None else Some (error_at policy at (reason_of shape kind value))) has
+pub value_flat : (levels : ℕ) (rows : List Row) (policy at kind : ℕ) (value : List ℕ) (shape : Shape)
+    → shape ≡ shape_in rows policy kind → nest_of shape ≡ None → has_shape shape value ≡ true
+    → value_error levels rows policy at kind value ≡ None
+value_flat zero rows policy at kind value shape same flat has =
+    deep_step rows policy at kind value shape None same flat ∙ flat_has policy at shape kind value true None has
+value_flat (suc levels) rows policy at kind value shape same flat has =
+    value_step levels rows policy at kind value shape None same flat ∙ flat_has policy at shape kind value true None has
 
 -- a nest that is too deep
 pub value_deep : (levels : ℕ) (rows : List Row) (policy at kind : ℕ) (value : List ℕ)
-    (shape : Shape) (inner : ℕ) → shape ≡ shape_in rows policy kind → nest_of shape ≡ Some inner → levels ≡ 0
+    (shape : Shape) (inner : ℕ) → shape ≡ shape_in rows policy kind → nest_of shape ≡ Some inner
+    → has_shape shape value ≡ true → levels ≡ 0
     → value_error levels rows policy at kind value ≡ Some (error_at policy at (TooDeep kind))
-unfolding value_error
-value_deep zero rows policy at kind value shape inner same nest deep =
-    ap (λ (n : Option ℕ). by_nest n (λ inner. Some (error_at policy at (TooDeep kind)))
-    (flat_error policy at (shape_in rows policy kind) kind value)) (ap nest_of (sym same) ∙ nest)
-value_deep (suc levels) rows policy at kind value shape inner same nest deep = absurd (omega arith)
+value_deep zero rows policy at kind value shape inner same nest has deep =
+    deep_step rows policy at kind value shape (Some inner) same nest ∙ flat_has policy at shape kind value true _ has
+value_deep (suc levels) rows policy at kind value shape inner same nest has deep = absurd (omega arith)
 
 -- a nest
 pub value_nest : (levels : ℕ) (rows : List Row) (policy at kind : ℕ) (value : List ℕ)
-    (shape : Shape) (inner : ℕ) → shape ≡ shape_in rows policy kind → nest_of shape ≡ Some inner → 0 < levels
-    → value_error levels rows policy at kind value ≡ error_in (levels - 1) rows inner (at + 4 + length value) value
-unfolding value_error
-value_nest zero rows policy at kind value shape inner same nest some = absurd (omega arith)
-value_nest (suc levels) rows policy at kind value shape inner same nest some =
+    (shape : Shape) (inner : ℕ) → shape ≡ shape_in rows policy kind → nest_of shape ≡ Some inner
+    → has_shape shape value ≡ true → 0 < levels → value_error levels rows policy at kind value
+    ≡ error_in (levels - 1) rows inner (at + 4 + length value) (nest_block shape value)
+value_nest zero rows policy at kind value shape inner same nest has some = absurd (omega arith)
+value_nest (suc levels) rows policy at kind value shape inner same nest has some =
     let e : suc levels - 1 ≡ levels = omega arith in
-    ap (λ (n : Option ℕ). by_nest n (λ inner. error_in levels rows inner (at + 4 + length value) value)
-    (flat_error policy at (shape_in rows policy kind) kind value)) (ap nest_of (sym same) ∙ nest)
-    ∙ ap (λ (n : ℕ). error_in n rows inner (at + 4 + length value) value) (sym e)
+    value_step levels rows policy at kind value shape (Some inner) same nest
+    ∙ flat_has policy at shape kind value true _ has
+    ∙ ap (λ (n : ℕ). error_in n rows inner (at + 4 + length value) (nest_block shape value)) (sym e)
 
 -- ---- attributes that have their shapes have no error
 
@@ -220,11 +248,10 @@ first_shaped values is policy end (suc most) (b ∷ more) each =
     (attributes_within most (drop (padded_size a) bytes)) _ (each (end - length bytes) a)
     (first_shaped values is policy end most (drop (padded_size a) bytes) each)
 
-by_cases : (nest : Option ℕ) (f : ℕ → Option AttributeError) (g : ℕ → Bool) (flat : Option AttributeError) (has : Bool)
-    → ((policy : ℕ) → is_none (f policy) ≡ g policy) → is_none flat ≡ has
-    → is_none (by_nest nest f flat) ≡ by_nest nest g has
-by_cases None f g flat has inner outer = outer
-by_cases (Some policy) f g flat has inner outer = inner policy
+by_cases : (nest : Option ℕ) (f : ℕ → Option AttributeError) (g : ℕ → Bool)
+    → ((policy : ℕ) → is_none (f policy) ≡ g policy) → is_none (by_nest nest f None) ≡ by_nest nest g true
+by_cases None f g inner = refl
+by_cases (Some policy) f g inner = inner policy
 
 flat_none : (has : Bool) (error : AttributeError) → is_none (if has then None else Some error) ≡ has
 flat_none true error = refl
@@ -234,15 +261,24 @@ pub value_shaped : (levels : ℕ) (rows : List Row) (policy at kind : ℕ) (valu
     → is_none (value_error levels rows policy at kind value) ≡ is_shaped levels rows (shape_in rows policy kind) value
 unfolding value_error is_shaped
 value_shaped zero rows policy at kind value =
-    by_cases (nest_of (shape_in rows policy kind)) _ (λ inner. false) _ _ (λ inner. refl)
+    none_of (flat_error policy at (shape_in rows policy kind) kind value) _
+    ∙ ap (λ (b : Bool). b && is_none (by_nest (nest_of (shape_in rows policy kind))
+    (λ inner. Some (error_at policy at (TooDeep kind))) None))
     (flat_none (has_shape (shape_in rows policy kind) value) _)
+    ∙ ap (λ (b : Bool). has_shape (shape_in rows policy kind) value && b)
+    (by_cases (nest_of (shape_in rows policy kind)) _ (λ inner. false) (λ inner. refl))
 value_shaped (suc levels) rows policy at kind value =
-    by_cases (nest_of (shape_in rows policy kind)) _
-    (λ inner. all_shaped (λ a. is_shaped levels rows (shape_in rows inner a.kind) a.value) (attributes_in value)) _ _
+    let block : List ℕ = nest_block (shape_in rows policy kind) value in
+    none_of (flat_error policy at (shape_in rows policy kind) kind value) _
+    ∙ ap (λ (b : Bool). b && is_none (by_nest (nest_of (shape_in rows policy kind))
+    (λ inner. error_in levels rows inner (at + 4 + length value) block) None))
+    (flat_none (has_shape (shape_in rows policy kind) value) _)
+    ∙ ap (λ (b : Bool). has_shape (shape_in rows policy kind) value && b)
+    (by_cases (nest_of (shape_in rows policy kind)) _
+    (λ inner. all_shaped (λ a. is_shaped levels rows (shape_in rows inner a.kind) a.value) (attributes_in block))
     (λ inner. first_shaped (value_error levels rows inner)
     (λ a. is_shaped levels rows (shape_in rows inner a.kind) a.value) inner
-    (at + 4 + length value) (length value) value (λ place a. value_shaped levels rows inner place a.kind a.value))
-    (flat_none (has_shape (shape_in rows policy kind) value) _)
+    (at + 4 + length value) (length block) block (λ place a. value_shaped levels rows inner place a.kind a.value)))
 
 abbrev fits : List Row → Attribute → Bool
 fits rows a = fits_kind rows a.kind a.value

@@ -9,7 +9,7 @@ use Rattle.netlink_packet_core.specs.Reading.{attributes_in, starts_whole}
 use Rattle.netlink_packet_core.specs.Views.{attribute_of, length_field, raw_kind}
 use Rattle.netlink_family.specs.Blocks.{block_fits}
 use Rattle.netlink_family.specs.Errors.{ValueError, block_error, first_error, message_error, too_long_error, value_error}
-use Rattle.netlink_family.specs.Shapes.{Row, by_nest, has_shape, nest_levels, nest_of, or_first, shape_in}
+use Rattle.netlink_family.specs.Shapes.{Row, by_nest, has_shape, nest_block, nest_levels, nest_of, nest_start, or_first, shape_in}
 use Rattle.netlink_family.specs.declared.error.FamilyError.{FamilyError}
 use Rattle.netlink_family.specs.declared.error.FamilyError.TheVariants.{InvalidAttribute, HeaderShort, TooLong}
 use Rattle.netlink_family.specs.declared.attribute_error.AttributeError.{AttributeError}
@@ -64,10 +64,10 @@ first_inside values policy end (suc most) (b ∷ more) each fits =
     (first_inside values policy end most (drop (padded_size a) bytes) each (omega arith)))))
     (omega arith, omega arith)
 
-by_nest_inside : (nest : Option ℕ) (from end : ℕ) (f : ℕ → Option AttributeError) (flat : Option AttributeError)
-    → ((policy : ℕ) → IsInside from end (f policy)) → IsInside from end flat → IsInside from end (by_nest nest f flat)
-by_nest_inside None from end f flat p q = q
-by_nest_inside (Some policy) from end f flat p q = p policy
+by_nest_inside : (nest : Option ℕ) (from end : ℕ) (f : ℕ → Option AttributeError)
+    → ((policy : ℕ) → IsInside from end (f policy)) → IsInside from end (by_nest nest f None)
+by_nest_inside None from end f p = tt
+by_nest_inside (Some policy) from end f p = p policy
 
 flat_inside : (has : Bool) (from end : ℕ) (f : AttributeError) → IsInside from end (Some f)
     → IsInside from end (if has then None else Some f)
@@ -78,18 +78,20 @@ value_inside : (levels : ℕ) (rows : List Row) (policy at kind : ℕ) (value : 
     → IsInside at (at + 4 + length value) (value_error levels rows policy at kind value)
 unfolding value_error
 value_inside zero rows policy at kind value =
-    by_nest_inside (nest_of (shape_in rows policy kind)) at (at + 4 + length value) _ _
-    (λ inner. (omega arith, omega arith))
-    (flat_inside (has_shape (shape_in rows policy kind) value) at (at + 4 + length value) _
-    (omega arith, omega arith))
+    inside_first at (at + 4 + length value) _ _
+    (flat_inside (has_shape (shape_in rows policy kind) value) at (at + 4 + length value) _ (omega arith, omega arith))
+    (by_nest_inside (nest_of (shape_in rows policy kind)) at (at + 4 + length value) _
+    (λ inner. (omega arith, omega arith)))
 value_inside (suc levels) rows policy at kind value =
-    by_nest_inside (nest_of (shape_in rows policy kind)) at (at + 4 + length value) _ _
-    (λ inner. inside_wider (at + 4 + length value - length value) at (at + 4 + length value)
+    let block : List ℕ = nest_block (shape_in rows policy kind) value in
+    let shorter = length-drop (nest_start (shape_in rows policy kind)) value in
+    inside_first at (at + 4 + length value) _ _
+    (flat_inside (has_shape (shape_in rows policy kind) value) at (at + 4 + length value) _ (omega arith, omega arith))
+    (by_nest_inside (nest_of (shape_in rows policy kind)) at (at + 4 + length value) _
+    (λ inner. inside_wider (at + 4 + length value - length block) at (at + 4 + length value)
     (at + 4 + length value) _ (omega arith) (omega arith)
-    (first_inside (value_error levels rows inner) inner (at + 4 + length value) (length value) value
-    (λ place k v. value_inside levels rows inner place k v) (omega arith)))
-    (flat_inside (has_shape (shape_in rows policy kind) value) at (at + 4 + length value) _
-    (omega arith, omega arith))
+    (first_inside (value_error levels rows inner) inner (at + 4 + length value) (length block) block
+    (λ place k v. value_inside levels rows inner place k v) (omega arith))))
 
 -- the offset of an error in the attributes is after the header and before the end of the payload
 pub block_inside : (rows : List Row) (size : ℕ) (payload : List ℕ) (f : AttributeError) → size ≤ length payload

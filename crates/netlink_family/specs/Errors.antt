@@ -8,14 +8,14 @@ use Rattle.netlink_packet_core.specs.DecodeError.TheVariants.{NlaBufferTooSmall,
 use Rattle.netlink_packet_core.specs.Reading.{attributes_in, starts_whole}
 use Rattle.netlink_packet_core.specs.Views.{attribute_of, length_field, raw_kind}
 use Rattle.netlink_family.specs.Blocks.{block_fits}
-use Rattle.netlink_family.specs.Shapes.{Row, by_nest, has_shape, nest_levels, nest_of, or_first, shape_in, has_type}
+use Rattle.netlink_family.specs.Shapes.{Row, by_nest, has_shape, nest_block, nest_levels, nest_of, or_first, shape_in, has_type}
 use Rattle.netlink_family.specs.declared.error.FamilyError.{FamilyError}
 use Rattle.netlink_family.specs.declared.error.FamilyError.TheVariants.{HeaderShort, InvalidAttribute, TooLong, UnknownType}
 use Rattle.netlink_family.specs.declared.attribute_error.Reason.{Reason}
 use Rattle.netlink_family.specs.declared.attribute_error.Reason.TheVariants as reason
 use Rattle.netlink_family.specs.declared.attribute_error.AttributeError.{AttributeError}
 use Rattle.netlink_family.specs.declared.shape.Shape.{Shape}
-use Rattle.netlink_family.specs.declared.shape.Shape.TheVariants.{Flag, U8, U16, U32, U64, I32, I64, Be16, Be32, Be64, ExactLen, Ip, NulStr, Str, MinLen, Nested, Bytes}
+use Rattle.netlink_family.specs.declared.shape.Shape.TheVariants.{Flag, U8, U16, U32, U64, I32, I64, Be16, Be32, Be64, ExactLen, Ip, NulStr, Str, MinLen, Nested, HeaderNested, Bytes}
 
 abbrev pub error_at : ℕ → ℕ → Reason → AttributeError
 error_at policy at why = record { offset = at; policy = policy; reason = why }
@@ -33,8 +33,7 @@ decode_reason (NlaLengthMismatch size said) = reason.Truncated said size
 decode_reason (NlaInvalidLength least said) = reason.InvalidLength said
 decode_reason _ = reason.Short 0
 
--- why a value does not have its shape; a nest has an error of its own only if it is too deep, and
--- `Bytes` never has one
+-- why a value does not have its shape; `Nested` and `Bytes` always have it
 abbrev pub reason_of : Shape → ℕ → List ℕ → Reason
 reason_of Flag kind value = reason.WrongSize kind 0 (length value)
 reason_of U8 kind value = reason.WrongSize kind 1 (length value)
@@ -52,6 +51,7 @@ reason_of NulStr kind value = reason.NotNulTerminated kind
 reason_of Str kind value = reason.InteriorNul kind
 reason_of (MinLen size) kind value = reason.TooSmall kind size (length value)
 reason_of (Nested policy) kind value = reason.TooDeep kind
+reason_of (HeaderNested size policy) kind value = reason.TooSmall kind size (length value)
 reason_of Bytes kind value = reason.WrongSize kind 0 (length value)
 
 -- the error of a value, by the offset and the kind of its attribute
@@ -75,16 +75,17 @@ first_error values policy end (suc most) (b ∷ more) =
     (first_error values policy end most (drop (padded_size (attribute_of (b ∷ more))) (b ∷ more)))
     else Some (error_at policy (end - length (b ∷ more)) (walk_reason (b ∷ more)))
 
--- the error of a value in a table, if nests may be `levels` deep; the value of a nest ends where
+-- the error of a value in a table, if nests may be `levels` deep; the attributes of a nest end where
 -- its attribute ends
 unfoldable pub value_error : ℕ → List Row → ℕ → ValueError
 value_error zero rows policy at kind value =
-    by_nest (nest_of (shape_in rows policy kind)) (λ inner. Some (error_at policy at (reason.TooDeep kind)))
-    (flat_error policy at (shape_in rows policy kind) kind value)
+    or_first (flat_error policy at (shape_in rows policy kind) kind value)
+    (by_nest (nest_of (shape_in rows policy kind)) (λ inner. Some (error_at policy at (reason.TooDeep kind))) None)
 value_error (suc levels) rows policy at kind value =
-    by_nest (nest_of (shape_in rows policy kind))
-    (λ inner. first_error (value_error levels rows inner) inner (at + 4 + length value) (length value) value)
-    (flat_error policy at (shape_in rows policy kind) kind value)
+    or_first (flat_error policy at (shape_in rows policy kind) kind value)
+    (by_nest (nest_of (shape_in rows policy kind)) (λ inner. first_error (value_error levels rows inner) inner
+    (at + 4 + length value) (length (nest_block (shape_in rows policy kind) value))
+    (nest_block (shape_in rows policy kind) value)) None)
 
 abbrev pub error_in : ℕ → List Row → ℕ → ℕ → List ℕ → Option AttributeError
 error_in levels rows policy end block =

@@ -1,5 +1,5 @@
 -- Finding the first attribute of a kind.
-use Rattle.std.specs.Prelude.{ℕ, ℤ, ◌==◌, List, [], ◌∷◌, drop, slice_index, Option, Some, None, if◌then◌else◌}
+use Rattle.std.specs.Prelude.{ℕ, ℤ, ◌==◌, List, [], ◌∷◌, drop, slice_index, take, Option, Some, None, if◌then◌else◌}
 use Rattle.std.specs.Option.{option_map}
 use Rattle.netlink_packet_core.specs.Attribute.{Attribute}
 use Rattle.netlink_packet_core.specs.Numbers.{number_be, number_le, signed}
@@ -9,7 +9,7 @@ use Rattle.netlink_family.specs.Shapes.{rows_in, shape_in}
 use Rattle.netlink_family.specs.Strings.{until_nul}
 use Rattle.netlink_family.specs.declared.block_view.BlockView.{BlockView}
 use Rattle.netlink_family.specs.declared.shape.Shape.{Shape}
-use Rattle.netlink_family.specs.declared.shape.Shape.TheVariants.{U8, U16, U32, U64, I32, I64, Be16, Be32, Be64, ExactLen, Ip, NulStr, Str, MinLen, Nested, Bytes}
+use Rattle.netlink_family.specs.declared.shape.Shape.TheVariants.{U8, U16, U32, U64, I32, I64, Be16, Be32, Be64, ExactLen, Ip, NulStr, Str, MinLen, Nested, HeaderNested, Bytes}
 
 -- the value of the first attribute of a kind, whatever its flag bits
 abbrev pub first_of : ℕ → List Attribute → Option (List ℕ)
@@ -100,8 +100,15 @@ bytes_by _ found = None
 -- the attributes of a nest, and their policy
 abbrev pub nest_by : Shape → Option (List ℕ) → Option (List ℕ)
 nest_by (Nested policy) found = found
+nest_by (HeaderNested size policy) found = option_map (drop size) found
 nest_by _ found = None
 
 abbrev pub policy_by : Shape → ℕ
 policy_by (Nested policy) = policy
+policy_by (HeaderNested size policy) = policy
 policy_by _ = 0
+
+-- the header before them
+abbrev pub nest_header_by : Shape → Option (List ℕ) → Option (List ℕ)
+nest_header_by (HeaderNested size policy) found = option_map (take size) found
+nest_header_by _ found = None

@@ -1,5 +1,5 @@
 -- The error of appending an attribute, by cases.
-use Rattle.std.specs.Prelude.{ℕ, ◌≡◌, Bool, true, List, [], ◌∷◌, length, is_none, Option, None, refl, if◌then◌else◌}
+use Rattle.std.specs.Prelude.{ℕ, ◌≡◌, true, List, [], ◌∷◌, length, is_none, Option, None, refl}
 use Rattle.std.specs.Option.{option_map}
 use Rattle.std.proofs.Common.{ap, sym, ◌∙◌}
 use Rattle.std.proofs.lemmas.Bool.{eq-eqb}
@@ -51,6 +51,7 @@ satisfied_fits rows kind (variant.NulStr b) is has = flat_fits rows kind b.now s
 satisfied_fits rows kind (variant.Str b) is has = flat_fits rows kind b.now shape.Str is refl has
 satisfied_fits rows kind (variant.MinLen size b) is has = flat_fits rows kind b.now (shape.MinLen size) is refl has
 satisfied_fits rows kind (variant.Nested inner) is has = absurd (cc)
+satisfied_fits rows kind (variant.HeaderNested header inner) is has = absurd (cc)
 satisfied_fits rows kind (variant.Bytes b) is has = flat_fits rows kind b.now shape.Bytes is refl refl
 
 -- ---- a value without an error has the shape of its kind

@@ -1,5 +1,5 @@
 -- The shapes of values, and the tables of families.
-use Rattle.std.specs.Prelude.{ℕ, zero, suc, ◌≡◌, ◌==◌, ◌^◌, Bool, true, false, not, ◌&&◌, ◌||◌, List, [], ◌∷◌, length, map, nat_le, nat_lt, Option, Some, None, if◌then◌else◌}
+use Rattle.std.specs.Prelude.{ℕ, zero, suc, ◌≡◌, ◌==◌, ◌^◌, Bool, true, false, not, ◌&&◌, ◌||◌, List, [], ◌∷◌, length, drop, map, nat_le, nat_lt, Option, Some, None, if◌then◌else◌}
 use Rattle.std.specs.List.{list_all}
 use Rattle.std.specs.Option.{ForSome}
 use denote.Ref.{Bor}
@@ -8,7 +8,7 @@ use Rattle.netlink_packet_core.specs.Reading.{attributes_in}
 use Rattle.netlink_packet_core.specs.Views.{masked}
 use Rattle.netlink_family.specs.Blocks.{KeepsValues, ValueReading}
 use Rattle.netlink_family.specs.declared.shape.Shape.{Shape}
-use Rattle.netlink_family.specs.declared.shape.Shape.TheVariants.{Flag, U8, U16, U32, U64, I32, I64, Be16, Be32, Be64, ExactLen, Ip, NulStr, Str, MinLen, Nested, Bytes}
+use Rattle.netlink_family.specs.declared.shape.Shape.TheVariants.{Flag, U8, U16, U32, U64, I32, I64, Be16, Be32, Be64, ExactLen, Ip, NulStr, Str, MinLen, Nested, HeaderNested, Bytes}
 
 -- a row of a table: the policy that it belongs to, a kind, its name, and the shape of its values
 abbrev pub Row : Type 0
@@ -74,6 +74,7 @@ has_shape NulStr value = nul_terminated value
 has_shape Str value = nul_only_last value
 has_shape (MinLen size) value = nat_le size (length value)
 has_shape (Nested policy) value = true
+has_shape (HeaderNested size policy) value = nat_le size (length value)
 has_shape Bytes value = true
 
 -- the first row of a policy and a kind
@@ -123,7 +124,17 @@ nest_of NulStr = None
 nest_of Str = None
 nest_of (MinLen size) = None
 nest_of (Nested policy) = Some policy
+nest_of (HeaderNested size policy) = Some policy
 nest_of Bytes = None
+
+-- the size of the header before the attributes of a nest
+abbrev pub nest_start : Shape → ℕ
+nest_start (HeaderNested size policy) = size
+nest_start _ = 0
+
+-- the attributes of a nest
+abbrev pub nest_block : Shape → List ℕ → List ℕ
+nest_block shape value = drop (nest_start shape) value
 
 abbrev pub by_nest : {T : Type 0} → Option ℕ → (ℕ → T) → T → T
 by_nest None nested flat = flat
@@ -136,10 +147,11 @@ all_shaped is (Some all) = list_all is all
 -- the value has the shape; in a nest, the attributes have the shapes of its policy, and nests are
 -- at most `levels` deep
 unfoldable pub is_shaped : ℕ → List Row → Shape → List ℕ → Bool
-is_shaped zero rows shape value = by_nest (nest_of shape) (λ policy. false) (has_shape shape value)
+is_shaped zero rows shape value = has_shape shape value && by_nest (nest_of shape) (λ policy. false) true
 is_shaped (suc levels) rows shape value =
-    by_nest (nest_of shape) (λ policy. all_shaped (λ a. is_shaped levels rows (shape_in rows policy a.kind) a.value)
-    (attributes_in value)) (has_shape shape value)
+    has_shape shape value && by_nest (nest_of shape)
+    (λ policy. all_shaped (λ a. is_shaped levels rows (shape_in rows policy a.kind) a.value)
+    (attributes_in (nest_block shape value))) true
 
 abbrev pub is_block_shaped : ℕ → List Row → ℕ → List ℕ → Bool
 is_block_shaped levels rows policy block =
@@ -158,7 +170,8 @@ fits_kind rows kind value = is_shaped nest_levels rows (shape_in rows 0 kind) va
 
 -- if the shape is a nest, the attributes in the value have the shapes of its policy
 abbrev pub nest_fits : List Row → Shape → List ℕ → Bool
-nest_fits rows shape value = by_nest (nest_of shape) (λ policy. is_block_shaped nest_levels rows policy value) true
+nest_fits rows shape value =
+    by_nest (nest_of shape) (λ policy. is_block_shaped nest_levels rows policy (nest_block shape value)) true
 
 abbrev pub has_type : List ℕ → ℕ → Bool
 has_type [] t = false

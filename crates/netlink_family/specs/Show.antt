@@ -7,10 +7,10 @@ use Rattle.netlink_packet_core.specs.Numbers.{number_be, number_le, signed}
 use Rattle.netlink_packet_core.specs.Reading.{starts_whole}
 use Rattle.netlink_packet_core.specs.Text.{hex_pair, hex_text}
 use Rattle.netlink_packet_core.specs.Views.{attribute_of}
-use Rattle.netlink_family.specs.Shapes.{Field, Row, by_nest, has_shape, nest_levels, nest_of, row_in, shape_in}
+use Rattle.netlink_family.specs.Shapes.{Field, Row, by_nest, has_shape, nest_block, nest_levels, nest_of, nest_start, row_in, shape_in}
 use Rattle.netlink_family.specs.Strings.{until_nul}
 use Rattle.netlink_family.specs.declared.shape.Shape.{Shape}
-use Rattle.netlink_family.specs.declared.shape.Shape.TheVariants.{Flag, U8, U16, U32, U64, I32, I64, Be16, Be32, Be64, ExactLen, Ip, NulStr, Str, MinLen, Nested, Bytes}
+use Rattle.netlink_family.specs.declared.shape.Shape.TheVariants.{Flag, U8, U16, U32, U64, I32, I64, Be16, Be32, Be64, ExactLen, Ip, NulStr, Str, MinLen, Nested, HeaderNested, Bytes}
 
 -- the texts of bytes, one after another
 abbrev pub each_of : (ℕ → List ℕ) → List ℕ → List ℕ
@@ -45,6 +45,7 @@ shaped_text (ExactLen size) value = hex_text value
 shaped_text Ip value = hex_text value
 shaped_text (MinLen size) value = hex_text value
 shaped_text (Nested policy) value = hex_text value
+shaped_text (HeaderNested size policy) value = hex_text value
 shaped_text Bytes value = hex_text value
 
 abbrev pub value_text : Shape → List ℕ → List ℕ
@@ -70,6 +71,11 @@ indent (suc depth) = 32 ∷ (32 ∷ indent depth)
 abbrev pub label_text : List Row → ℕ → ℕ → ℕ → List ℕ
 label_text rows policy depth kind = indent depth ++ label_of (name_in rows policy kind) kind
 
+-- the rest of the line of a nest: its header, if it has one
+abbrev pub nest_line : ℕ → List ℕ → List ℕ
+nest_line zero value = codes ":\n"
+nest_line (suc size) value = codes ": " ++ (hex_text (take (suc size) value) ++ (10 ∷ []))
+
 abbrev pub value_line : Shape → List ℕ → List ℕ
 value_line shape value = codes ": " ++ (value_text shape value ++ (10 ∷ []))
 
@@ -88,13 +94,15 @@ lines_of line (a ∷ more) = line a.kind a.value ++ lines_of line more
 abbrev pub lines_in : (ℕ → List ℕ → List ℕ) → List ℕ → List ℕ
 lines_in line block = lines_of line (before_error (length block) block)
 
--- the lines of an attribute: its name and its value, or its name and the lines of its nest
+-- the lines of an attribute: its name and its value, or its name and the lines of its nest, after its
+-- header
 unfoldable pub value_lines : ℕ → List Row → ℕ → ℕ → ℕ → List ℕ → List ℕ
 value_lines zero rows policy depth kind value =
     label_text rows policy depth kind ++ value_line (shape_in rows policy kind) value
 value_lines (suc levels) rows policy depth kind value =
     label_text rows policy depth kind ++ by_nest (nest_of (shape_in rows policy kind))
-    (λ inner. codes ":\n" ++ lines_in (value_lines levels rows inner (depth + 1)) value)
+    (λ inner. nest_line (nest_start (shape_in rows policy kind)) value
+    ++ lines_in (value_lines levels rows inner (depth + 1)) (nest_block (shape_in rows policy kind) value))
     (value_line (shape_in rows policy kind) value)
 
 -- the size of values of a shape; 0 if it is not fixed

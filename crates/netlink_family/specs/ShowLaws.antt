@@ -1,6 +1,5 @@
 -- The text of an attribute and of a block, step by step.
-use Rattle.std.specs.Prelude.{ℕ, zero, suc, ◌≡◌, ◌+◌, ◌-◌, ◌<◌, ◌≤◌, Bool, List, [], ◌∷◌, ◌++◌, length, drop, codes, decimal, Option, Some, None, refl, if◌then◌else◌}
-use Rattle.std.specs.Fmt.{signed_decimal}
+use Rattle.std.specs.Prelude.{ℕ, zero, suc, ◌≡◌, ◌+◌, ◌-◌, ◌<◌, ◌≤◌, Bool, List, [], ◌∷◌, ◌++◌, length, drop, Option, Some, None, refl, if◌then◌else◌}
 use Rattle.std.proofs.Common.{ap, arith, sym, ◌∙◌, length-drop}
 use Rattle.netlink_packet_core.specs.Attribute.{Attribute, padded_size}
 use Rattle.netlink_packet_core.specs.DecodeError.{DecodeError}
@@ -8,56 +7,10 @@ use Rattle.netlink_packet_core.specs.Reading.{starts_whole}
 use Rattle.netlink_packet_core.specs.StartLaws.{nothing_starts, starts-attribute_of, starts-length, starts-rest}
 use Rattle.netlink_packet_core.specs.Views.{attribute_of}
 use Rattle.netlink_packet_core.specs.Walk.{IsFault, Starts}
-use Rattle.netlink_packet_core.specs.Text.{hex_text}
 use Rattle.netlink_family.specs.ErrorLaws.{malformed_whole, whole_starts}
-use Rattle.netlink_family.specs.Shapes.{Row, by_nest, nest_of, shape_in}
-use Rattle.netlink_family.specs.Show.{value_line, before_error, each_of, first_byte, label_text, escaped, lines_in, shaped_text, value_lines}
-use Rattle.netlink_family.specs.Strings.{until_nul}
-use Rattle.netlink_family.specs.Values.{IsValueOf, value_shape}
+use Rattle.netlink_family.specs.Shapes.{Row, by_nest, nest_block, nest_of, nest_start, shape_in}
+use Rattle.netlink_family.specs.Show.{value_line, before_error, label_text, lines_in, nest_line, value_lines}
 use Rattle.netlink_family.specs.declared.shape.Shape.{Shape}
-use Rattle.netlink_family.specs.declared.value.Value.{Value}
-use Rattle.netlink_family.specs.declared.value.Value.TheVariants as variant
-
--- ---- values
-
-abbrev pub decoded_text : Value → List ℕ
-decoded_text variant.Flag = codes "set"
-decoded_text (variant.U8 n) = decimal n
-decoded_text (variant.U16 n) = decimal n
-decoded_text (variant.U32 n) = decimal n
-decoded_text (variant.U64 n) = decimal n
-decoded_text (variant.I32 n) = signed_decimal n
-decoded_text (variant.I64 n) = signed_decimal n
-decoded_text (variant.Be16 n) = decimal n
-decoded_text (variant.Be32 n) = decimal n
-decoded_text (variant.Be64 n) = decimal n
-decoded_text (variant.ExactLen b) = hex_text b.now
-decoded_text (variant.Ip b) = hex_text b.now
-decoded_text (variant.NulStr b) = each_of escaped (until_nul b.now)
-decoded_text (variant.Str b) = each_of escaped (until_nul b.now)
-decoded_text (variant.MinLen size b) = hex_text b.now
-decoded_text (variant.Nested inner) = hex_text inner.block.now
-decoded_text (variant.Bytes b) = hex_text b.now
-
-pub decoded_text_is : (v : Value) (bytes : List ℕ) → IsValueOf v bytes
-    → decoded_text v ≡ shaped_text (value_shape v) bytes
-decoded_text_is variant.Flag bytes value_is = refl
-decoded_text_is (variant.U8 n) bytes value_is = ap (λ (b : List ℕ). decimal (first_byte b)) (sym value_is)
-decoded_text_is (variant.U16 n) bytes value_is = ap decimal value_is
-decoded_text_is (variant.U32 n) bytes value_is = ap decimal value_is
-decoded_text_is (variant.U64 n) bytes value_is = ap decimal value_is
-decoded_text_is (variant.I32 n) bytes value_is = ap signed_decimal value_is
-decoded_text_is (variant.I64 n) bytes value_is = ap signed_decimal value_is
-decoded_text_is (variant.Be16 n) bytes value_is = ap decimal value_is
-decoded_text_is (variant.Be32 n) bytes value_is = ap decimal value_is
-decoded_text_is (variant.Be64 n) bytes value_is = ap decimal value_is
-decoded_text_is (variant.ExactLen b) bytes value_is = ap hex_text value_is
-decoded_text_is (variant.Ip b) bytes value_is = ap hex_text value_is
-decoded_text_is (variant.NulStr b) bytes value_is = ap (λ (x : List ℕ). each_of escaped (until_nul x)) value_is
-decoded_text_is (variant.Str b) bytes value_is = ap (λ (x : List ℕ). each_of escaped (until_nul x)) value_is
-decoded_text_is (variant.MinLen size b) bytes value_is = ap hex_text value_is
-decoded_text_is (variant.Nested inner) bytes value_is = ap hex_text value_is
-decoded_text_is (variant.Bytes b) bytes value_is = ap hex_text value_is
 
 -- ---- blocks
 
@@ -117,7 +70,8 @@ lines_flat zero rows policy depth kind value shape same flat =
     ap (λ (s : Shape). label_text rows policy depth kind ++ value_line s value) (sym same)
 lines_flat (suc levels) rows policy depth kind value shape same flat =
     ap (λ (n : Option ℕ). label_text rows policy depth kind ++ by_nest n
-    (λ inner. codes ":\n" ++ lines_in (value_lines levels rows inner (depth + 1)) value)
+    (λ inner. nest_line (nest_start (shape_in rows policy kind)) value
+    ++ lines_in (value_lines levels rows inner (depth + 1)) (nest_block (shape_in rows policy kind) value))
     (value_line (shape_in rows policy kind) value)) (ap nest_of (sym same) ∙ flat)
     ∙ ap (λ (s : Shape). label_text rows policy depth kind ++ value_line s value) (sym same)
 
@@ -132,13 +86,17 @@ lines_deep (suc levels) rows policy depth kind value shape same deep = absurd (o
 pub lines_nest : (levels : ℕ) (rows : List Row) (policy depth kind : ℕ) (value : List ℕ)
     (shape : Shape) (inner : ℕ) → shape ≡ shape_in rows policy kind → nest_of shape ≡ Some inner → 0 < levels
     → value_lines levels rows policy depth kind value ≡ label_text rows policy depth kind
-    ++ (codes ":\n" ++ lines_in (value_lines (levels - 1) rows inner (depth + 1)) value)
+    ++ (nest_line (nest_start shape) value
+    ++ lines_in (value_lines (levels - 1) rows inner (depth + 1)) (nest_block shape value))
 unfolding value_lines
 lines_nest zero rows policy depth kind value shape inner same nest some = absurd (omega arith)
 lines_nest (suc levels) rows policy depth kind value shape inner same nest some =
     let e : suc levels - 1 ≡ levels = omega arith in
-    ap (λ (n : Option ℕ). label_text rows policy depth kind ++ by_nest n
-    (λ inner. codes ":\n" ++ lines_in (value_lines levels rows inner (depth + 1)) value)
-    (value_line (shape_in rows policy kind) value)) (ap nest_of (sym same) ∙ nest)
-    ∙ ap (λ (n : ℕ). label_text rows policy depth kind
-    ++ (codes ":\n" ++ lines_in (value_lines n rows inner (depth + 1)) value)) (sym e)
+    ap (λ (s : Shape). label_text rows policy depth kind ++ by_nest (nest_of s)
+    (λ inner. nest_line (nest_start s) value
+    ++ lines_in (value_lines levels rows inner (depth + 1)) (nest_block s value)) (value_line s value)) (sym same)
+    ∙ ap (λ (n : Option ℕ). label_text rows policy depth kind ++ by_nest n
+    (λ inner. nest_line (nest_start shape) value
+    ++ lines_in (value_lines levels rows inner (depth + 1)) (nest_block shape value)) (value_line shape value)) nest
+    ∙ ap (λ (n : ℕ). label_text rows policy depth kind ++ (nest_line (nest_start shape) value
+    ++ lines_in (value_lines n rows inner (depth + 1)) (nest_block shape value))) (sym e)

@@ -1,5 +1,5 @@
 -- How a decoded value relates to its bytes.
-use Rattle.std.specs.Prelude.{ℕ, ◌≡◌, Bool, true, false, nat_le, List, [], ◌∷◌, length, ◌==◌, if◌then◌else◌, ⊤}
+use Rattle.std.specs.Prelude.{ℕ, ◌≡◌, Bool, true, false, nat_le, List, [], ◌∷◌, ◌++◌, length, ⊤}
 use Rattle.netlink_packet_core.specs.Numbers.{bytes_be, bytes_le, number_be, number_le, signed, unsigned}
 use Rattle.netlink_family.specs.Shapes.{Row, has_shape, nul_only_last, nul_terminated, rows_in}
 use Rattle.netlink_family.specs.declared.shape.Shape.{Shape}
@@ -24,6 +24,7 @@ value_shape (variant.NulStr b) = shape.NulStr
 value_shape (variant.Str b) = shape.Str
 value_shape (variant.MinLen size b) = shape.MinLen size
 value_shape (variant.Nested inner) = shape.Nested inner.policy
+value_shape (variant.HeaderNested header inner) = shape.HeaderNested (length header.bytes.now) inner.policy
 value_shape (variant.Bytes b) = shape.Bytes
 
 abbrev pub IsValueOf : Value → List ℕ → Type 0
@@ -43,6 +44,7 @@ IsValueOf (variant.NulStr b) bytes = b.now ≡ bytes
 IsValueOf (variant.Str b) bytes = b.now ≡ bytes
 IsValueOf (variant.MinLen size b) bytes = b.now ≡ bytes
 IsValueOf (variant.Nested inner) bytes = inner.block.now ≡ bytes
+IsValueOf (variant.HeaderNested header inner) bytes = header.bytes.now ++ inner.block.now ≡ bytes
 IsValueOf (variant.Bytes b) bytes = b.now ≡ bytes
 
 -- the bytes of a value
@@ -63,6 +65,7 @@ value_bytes (variant.NulStr b) = b.now
 value_bytes (variant.Str b) = b.now
 value_bytes (variant.MinLen size b) = b.now
 value_bytes (variant.Nested inner) = inner.block.now
+value_bytes (variant.HeaderNested header inner) = header.bytes.now ++ inner.block.now
 value_bytes (variant.Bytes b) = b.now
 
 -- the bytes of a value, other than a nest, have its shape
@@ -72,9 +75,11 @@ is_satisfied (variant.NulStr b) = nul_terminated b.now
 is_satisfied (variant.Str b) = nul_only_last b.now
 is_satisfied (variant.MinLen size b) = nat_le size (length b.now)
 is_satisfied (variant.Nested inner) = false
+is_satisfied (variant.HeaderNested header inner) = false
 is_satisfied _ = true
 
 -- a nest has this table
 abbrev pub NestHasRows : List Row → Value → Type 0
 NestHasRows rows (variant.Nested inner) = rows_in inner.rows.now ≡ rows
+NestHasRows rows (variant.HeaderNested header inner) = rows_in inner.rows.now ≡ rows
 NestHasRows rows _ = ⊤

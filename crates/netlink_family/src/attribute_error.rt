@@ -5,7 +5,7 @@ ghost use Rattle.netlink_family.specs.ErrorTexts.{attribute_error_text, reason_t
 ghost use Rattle.netlink_family.specs.Errors.{reason_of, decode_reason, error_in, left_after, value_error};
 ghost use Rattle.netlink_family.specs.Shapes.{rows_in, are_sorted};
 
-use crate::shape::{Row, Shape, has_shape, policy_of, row_shape};
+use crate::shape::{Row, Shape, has_shape, nest_block, policy_of, row_shape};
 use netlink_packet_core::{DecodeError, NlasIterator, nla_align};
 use std::fmt;
 
@@ -161,17 +161,15 @@ pub(crate) fn value_error(
     ensures { result ≡ value_error levels (rows_in rows.now) policy at kind value.now }
 {
     let shape = row_shape(rows, policy, kind);
+    if !has_shape(shape, value) {
+        return Some(AttributeError {
+            offset: at,
+            policy,
+            reason: reason_of(shape, kind, value),
+        });
+    }
     match policy_of(shape) {
-        None => {
-            if has_shape(shape, value) {
-                return None;
-            }
-            Some(AttributeError {
-                offset: at,
-                policy,
-                reason: reason_of(shape, kind, value),
-            })
-        }
+        None => None,
         Some(inner) => {
             if levels == 0 {
                 return Some(AttributeError {
@@ -180,7 +178,8 @@ pub(crate) fn value_error(
                     reason: Reason::TooDeep { kind },
                 });
             }
-            error_in(levels - 1, rows, inner, at + 4 + value.len(), value)
+            let block = nest_block(shape, value);
+            error_in(levels - 1, rows, inner, at + 4 + value.len(), block)
         }
     }
 }
@@ -269,7 +268,7 @@ fn reason_of(shape: Shape, kind: u16, value: &[u8]) -> Reason
         Shape::Ip => return Reason::WrongAddressSize { kind, received },
         Shape::NulStr => return Reason::NotNulTerminated { kind },
         Shape::Str => return Reason::InteriorNul { kind },
-        Shape::MinLen(size) => {
+        Shape::MinLen(size) | Shape::HeaderNested { size, .. } => {
             return Reason::TooSmall {
                 kind,
                 expected: size as usize,

@@ -1,17 +1,18 @@
 //! The getters of a block of attributes, the same for messages and nests.
 
-ghost use Rattle.std.specs.Prelude.{◌≡◌, ◌↔◌, None, Some, IfNone, IfSome, IsSome, IsSomeAnd, true};
+ghost use Rattle.std.specs.Prelude.{◌≡◌, ◌↔◌, None, Some, IfNone, IfSome, IsSome, IsSomeAnd, length, true};
 ghost use Rattle.std.specs.Str.{IsUtf8};
 ghost use Rattle.netlink_packet_core.specs.Steps.{unread};
-ghost use Rattle.netlink_family.specs.Finding.{be16_by, be32_by, be64_by, bytes_by, exact_by, found_at, i32_by, i64_by, ip_by, nest_by, policy_by, shape_at, str_by, u16_by, u32_by, u64_by, u8_by};
-ghost use Rattle.netlink_family.specs.Shapes.{fits_in, rows_in};
+ghost use Rattle.netlink_family.specs.Finding.{be16_by, be32_by, be64_by, bytes_by, exact_by, found_at, i32_by, i64_by, ip_by, nest_by, nest_header_by, policy_by, shape_at, str_by, u16_by, u32_by, u64_by, u8_by};
+ghost use Rattle.netlink_family.specs.Shapes.{fits_in, nest_start, rows_in};
 ghost use Rattle.netlink_family.specs.Iteration.{AreShaped};
 ghost use Rattle.netlink_family.specs.Values.{NestHasRows, IsValueOf, value_shape};
 
 use crate::attributes::Attributes;
 use crate::block_view::BlockView;
 use crate::find::first_value;
-use crate::shape::{Shape, row_shape};
+use crate::header_view::HeaderView;
+use crate::shape::{Shape, nest_block, policy_of, row_shape};
 use crate::value::{
     Value, be16_in, be32_in, be64_in, bytes_until_nul, i32_in, i64_in, str_until_nul, u16_in,
     u32_in, u64_in, value_in,
@@ -43,7 +44,8 @@ impl<'a> BlockView<'a> {
     }
 
     /// Returns a view of the attributes in the first attribute of this kind. Returns `None` if and
-    /// only if there is no such attribute or the table gives the kind another shape than `Nested`.
+    /// only if there is no such attribute or the table gives the kind another shape than `Nested`
+    /// and `HeaderNested`.
     #[tactic(auto, using(crate::specs::NestLaws::nest_shaped))]
     pub fn nest(&self, kind: u16) -> Option<BlockView<'a>>
         ensures some { IfSome result (λ v. nest_by (shape_at self.now kind) (found_at self.now kind) ≡ Some v.block.now) }
@@ -51,11 +53,29 @@ impl<'a> BlockView<'a> {
         ensures policy { IfSome result (λ v. v.policy ≡ policy_by (shape_at self.now kind)) }
         ensures rows { IfSome result (λ v. v.rows.now ≡ self.now.rows.now) }
     {
-        match row_shape(self.rows, self.policy, kind) {
-            Shape::Nested(policy) => Some(BlockView {
+        let shape = row_shape(self.rows, self.policy, kind);
+        match policy_of(shape) {
+            Some(policy) => Some(BlockView {
                 rows: self.rows,
                 policy,
-                block: self.first(kind)?,
+                block: nest_block(shape, self.first(kind)?),
+            }),
+            None => None,
+        }
+    }
+
+    /// Returns the header of the nest in the first attribute of this kind. Returns `None` if and
+    /// only if there is no such attribute or the table gives the kind another shape than
+    /// `HeaderNested`.
+    #[tactic(auto, using(crate::specs::NestLaws::header_inside))]
+    pub fn nest_header(&self, kind: u16) -> Option<HeaderView<'a>>
+        ensures some { IfSome result (λ v. nest_header_by (shape_at self.now kind) (found_at self.now kind) ≡ Some v.bytes.now) }
+        ensures none { IfNone result (nest_header_by (shape_at self.now kind) (found_at self.now kind) ≡ None) }
+        ensures size { IfSome result (λ v. length v.bytes.now ≡ nest_start (shape_at self.now kind)) }
+    {
+        match row_shape(self.rows, self.policy, kind) {
+            Shape::HeaderNested { size, .. } => Some(HeaderView {
+                bytes: &self.first(kind)?[..size as usize],
             }),
             _ => None,
         }

@@ -84,7 +84,7 @@ impl<F: Table> OwnedMessage<F> {
             | Value::Str(bytes)
             | Value::MinLen(_, bytes)
             | Value::Bytes(bytes) => self.append_attribute(alloc, kind, bytes),
-            Value::Nested(_) => unreachable!(),
+            Value::Nested(_) | Value::HeaderNested(_, _) => unreachable!(),
         }
     }
 

@@ -3,7 +3,7 @@
 ghost use Rattle.std.specs.Prelude.{◌≡◌, ◌==◌, ◌&&◌, true, if◌then◌else◌};
 ghost use Rattle.std.specs.Option.{option_map};
 ghost use Rattle.netlink_packet_core.specs.Views.{masked};
-ghost use Rattle.netlink_family.specs.Shapes.{CachesOther, any_kind, borrowed_row, has_shape, nest_of, row_at, row_in, rows_in, shape_by, shape_in, nul_terminated, nul_only_last, are_sorted, key_before};
+ghost use Rattle.netlink_family.specs.Shapes.{CachesOther, any_kind, borrowed_row, has_shape, nest_block, nest_of, nest_start, row_at, row_in, rows_in, shape_by, shape_in, nul_terminated, nul_only_last, are_sorted, key_before};
 
 use netlink_packet_core::NLA_TYPE_MASK;
 
@@ -43,6 +43,13 @@ pub enum Shape {
     MinLen(u16),
     /// Attributes of this policy.
     Nested(u16),
+    /// A fixed header, followed by attributes.
+    HeaderNested {
+        /// The size of the header.
+        size: u16,
+        /// The policy of the attributes.
+        policy: u16,
+    },
     /// Any bytes.
     Bytes,
 }
@@ -196,7 +203,7 @@ pub(crate) fn policy_of(shape: Shape) -> Option<u16>
     ensures { result ≡ nest_of shape }
 {
     match shape {
-        Shape::Nested(policy) => Some(policy),
+        Shape::Nested(policy) | Shape::HeaderNested { policy, .. } => Some(policy),
         Shape::Flag
         | Shape::U8
         | Shape::U16
@@ -214,6 +221,27 @@ pub(crate) fn policy_of(shape: Shape) -> Option<u16>
         | Shape::MinLen(_)
         | Shape::Bytes => None,
     }
+}
+
+/// Returns the size of the header before the attributes of a nest.
+pub(crate) fn nest_start(shape: Shape) -> usize
+    ensures { result ≡ nest_start shape }
+{
+    match shape {
+        Shape::HeaderNested { size, .. } => size as usize,
+        _ => 0,
+    }
+}
+
+/// Returns the attributes of a nest.
+pub(crate) fn nest_block(shape: Shape, value: &[u8]) -> &[u8]
+    ensures { result.now ≡ nest_block shape value.now }
+{
+    let start = nest_start(shape);
+    if value.len() <= start {
+        return &[];
+    }
+    &value[start..]
 }
 
 /// Returns whether the last byte is the only NUL.
@@ -260,6 +288,7 @@ pub(crate) fn has_shape(shape: Shape, value: &[u8]) -> bool
         Shape::NulStr => is_nul_terminated(value),
         Shape::Str => has_nul_only_last(value),
         Shape::MinLen(size) => value.len() >= size as usize,
+        Shape::HeaderNested { size, .. } => value.len() >= size as usize,
         Shape::Nested(_) | Shape::Bytes => true,
     }
 }

@@ -3,13 +3,16 @@
 ghost use Rattle.std.specs.Prelude.{◌≡◌, ◌+◌, ◌<◌, ◌++◌, [], ◌∷◌, IfOk, OnOk, decimal, drop, string_bytes, take, true};
 ghost use Rattle.std.specs.Fmt.{signed_decimal};
 ghost use Rattle.netlink_family.specs.Shapes.{fields_in, rows_in, are_sorted};
-ghost use Rattle.netlink_family.specs.Show.{value_line, each_of, field_lines, fixed_size, label_text, indent, escaped, lines_in, message_text, name_in, value_lines, value_text};
-ghost use Rattle.netlink_family.specs.ShowLaws.{decoded_text};
+ghost use Rattle.netlink_family.specs.Show.{value_line, each_of, field_lines, fixed_size, label_text, nest_line, indent, escaped, lines_in, message_text, name_in, value_lines, value_text};
 
 use crate::family::{Table, rows_of};
 use crate::header_view::Field;
-use crate::shape::{NEST_LEVELS, Row, Shape, TOP, find_row, has_shape, policy_of, row_shape};
-use crate::value::{Value, bytes_until_nul, value_in};
+use crate::shape::{
+    NEST_LEVELS, Row, Shape, TOP, find_row, has_shape, nest_block, nest_start, policy_of, row_shape,
+};
+use crate::value::{
+    be16_in, be32_in, be64_in, bytes_until_nul, i32_in, i64_in, u16_in, u32_in, u64_in,
+};
 use crate::view::MessageView;
 use netlink_packet_core::{NlasIterator, hex_pair, push_hex};
 use std::alloc::{AllocError, Global};
@@ -152,11 +155,25 @@ fn push_attribute(
                 push_value_line(text, shape, value)?;
                 return Ok(());
             }
-            text.push_str(":\n")?;
-            push_block(text, levels - 1, rows, inner, depth + 1, value)?;
+            push_nest_line(text, nest_start(shape), value)?;
+            let block = nest_block(shape, value);
+            push_block(text, levels - 1, rows, inner, depth + 1, block)?;
             Ok(())
         }
     }
+}
+
+/// Appends the rest of the line of a nest: its header, if it has one.
+fn push_nest_line(text: &mut String, start: usize, value: &[u8]) -> Result<(), AllocError>
+    ensures { OnOk result (string_bytes text.new ≡ string_bytes text.old ++ nest_line start value.now) }
+{
+    if start == 0 {
+        return text.push_str(":\n");
+    }
+    text.push_str(": ")?;
+    push_hex(text, field_bytes(value, 0, start))?;
+    text.push_str("\n")?;
+    Ok(())
 }
 
 /// Appends the name of a kind, indented; its number if it has no name.
@@ -220,33 +237,23 @@ fn push_value(text: &mut String, shape: Shape, value: &[u8]) -> Result<(), Alloc
         return push_hex(text, value);
     }
     match shape {
-        Shape::Nested(_) => push_hex(text, value),
-        _ => push_decoded(text, value_in(&[], shape, value)),
-    }
-}
-
-/// Appends a decoded value.
-fn push_decoded(text: &mut String, value: Value<'_>) -> Result<(), AllocError>
-    ensures { OnOk result (string_bytes text.new ≡ string_bytes text.old ++ decoded_text value.entry) }
-{
-    match value {
-        Value::Flag => text.push_str("set"),
-        Value::U8(number) => push_number(text, u64::from(number)),
-        Value::U16(number) => push_number(text, u64::from(number)),
-        Value::U32(number) => push_number(text, u64::from(number)),
-        Value::U64(number) => push_number(text, number),
-        Value::I32(number) => push_signed(text, i64::from(number)),
-        Value::I64(number) => push_signed(text, number),
-        Value::Be16(number) => push_number(text, u64::from(number)),
-        Value::Be32(number) => push_number(text, u64::from(number)),
-        Value::Be64(number) => push_number(text, number),
-        Value::ExactLen(bytes) => push_hex(text, bytes),
-        Value::Ip(bytes) => push_hex(text, bytes),
-        Value::NulStr(bytes) => push_escaped_bytes(text, bytes_until_nul(bytes)),
-        Value::Str(bytes) => push_escaped_bytes(text, bytes_until_nul(bytes)),
-        Value::MinLen(_, bytes) => push_hex(text, bytes),
-        Value::Nested(inner) => push_hex(text, inner.block),
-        Value::Bytes(bytes) => push_hex(text, bytes),
+        Shape::Flag => text.push_str("set"),
+        Shape::U8 => push_number(text, u64::from(value[0])),
+        Shape::U16 => push_number(text, u64::from(u16_in(value))),
+        Shape::U32 => push_number(text, u64::from(u32_in(value))),
+        Shape::U64 => push_number(text, u64_in(value)),
+        Shape::I32 => push_signed(text, i64::from(i32_in(value))),
+        Shape::I64 => push_signed(text, i64_in(value)),
+        Shape::Be16 => push_number(text, u64::from(be16_in(value))),
+        Shape::Be32 => push_number(text, u64::from(be32_in(value))),
+        Shape::Be64 => push_number(text, be64_in(value)),
+        Shape::NulStr | Shape::Str => push_escaped_bytes(text, bytes_until_nul(value)),
+        Shape::ExactLen(_)
+        | Shape::Ip
+        | Shape::MinLen(_)
+        | Shape::Nested(_)
+        | Shape::HeaderNested { .. }
+        | Shape::Bytes => push_hex(text, value),
     }
 }
 

@@ -1,14 +1,15 @@
 //! Decoded values.
 
-ghost use Rattle.std.specs.Prelude.{◌≡◌, ◌≤◌, ◌⊎◌, ◌↔◌, [], ◌∷◌, ◌++◌, IfSome, IsSome, length, true};
+ghost use Rattle.std.specs.Prelude.{◌≡◌, ◌≤◌, ◌⊎◌, ◌↔◌, [], ◌∷◌, ◌++◌, IfSome, IsSome, drop, length, true};
 ghost use Rattle.std.specs.Str.{IsUtf8};
 ghost use Rattle.netlink_packet_core.specs.Numbers.{number_be, number_le, signed};
 ghost use Rattle.netlink_family.specs.Shapes.{has_shape, is_block_shaped, nest_fits, nest_levels, rows_in, nul_only_last, are_sorted};
-ghost use Rattle.netlink_family.specs.declared.shape.Shape.TheVariants.{Nested};
+ghost use Rattle.netlink_family.specs.declared.shape.Shape.TheVariants.{HeaderNested, Nested};
 ghost use Rattle.netlink_family.specs.Strings.{until_nul, nul_offset, has_no_nul};
 ghost use Rattle.netlink_family.specs.Values.{NestHasRows, IsValueOf, value_shape};
 
 use crate::block_view::BlockView;
+use crate::header_view::HeaderView;
 use crate::shape::{Row, Shape};
 use netlink_packet_core::{
     parse_i32, parse_i64, parse_u16, parse_u16_be, parse_u32, parse_u32_be, parse_u64, parse_u64_be,
@@ -49,6 +50,8 @@ pub enum Value<'a> {
     MinLen(u16, &'a [u8]),
     /// A nest: a view of its attributes.
     Nested(BlockView<'a>),
+    /// A nest after a fixed header, and a view of its attributes.
+    HeaderNested(HeaderView<'a>, BlockView<'a>),
     /// Any bytes.
     Bytes(&'a [u8]),
 }
@@ -80,6 +83,7 @@ pub(crate) fn value_in<'a>(rows: &'static [Row], shape: Shape, bytes: &'a [u8]) 
         Shape::Str => Value::Str(bytes),
         Shape::MinLen(size) => Value::MinLen(size, bytes),
         Shape::Nested(policy) => nest_in(rows, policy, bytes),
+        Shape::HeaderNested { size, policy } => header_nest_in(rows, size, policy, bytes),
         Shape::Bytes => Value::Bytes(bytes),
     }
 }
@@ -99,6 +103,26 @@ fn nest_in<'a>(rows: &'static [Row], policy: u16, bytes: &'a [u8]) -> Value<'a>
         policy,
         block: bytes,
     })
+}
+
+/// The same for a nest after a fixed header.
+fn header_nest_in<'a>(rows: &'static [Row], size: u16, policy: u16, bytes: &'a [u8]) -> Value<'a>
+    requires sorted { are_sorted (rows_in rows.now) ≡ true }
+    requires long { size ≤ length bytes.now }
+    requires nest { is_block_shaped nest_levels (rows_in rows.now) policy (drop size bytes.now) ≡ true }
+    ensures value_is { IsValueOf result bytes.now }
+    ensures shape { value_shape result ≡ HeaderNested size policy }
+    ensures nest { NestHasRows (rows_in rows.now) result }
+{
+    let header = HeaderView {
+        bytes: &bytes[..size as usize],
+    };
+    let inner = BlockView {
+        rows,
+        policy,
+        block: &bytes[size as usize..],
+    };
+    Value::HeaderNested(header, inner)
 }
 
 /// Returns the bytes before the first NUL: the string in a value of shape `Str` or `NulStr`.

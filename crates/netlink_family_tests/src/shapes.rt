@@ -8,6 +8,9 @@ use netlink_family::{Field, OwnedMessage, Row, Shape, TOP, Table, is_among};
 
 pub const EVERY: u16 = 100;
 
+/// The header of a peer, kind 16.
+pub const PEER_INDEX: Field = ("index", 0, Shape::U32);
+
 const TYPES: &'static [u16] = &[EVERY];
 
 const ROWS: &'static [Row] = &[
@@ -26,6 +29,15 @@ const ROWS: &'static [Row] = &[
     (TOP, 13, "nul", Shape::NulStr),
     (TOP, 14, "str", Shape::Str),
     (TOP, 15, "min", Shape::MinLen(1)),
+    (
+        TOP,
+        16,
+        "peer",
+        Shape::HeaderNested {
+            size: 4,
+            policy: TOP,
+        },
+    ),
 ];
 
 /// The table.

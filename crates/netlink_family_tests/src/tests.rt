@@ -3,6 +3,7 @@
 mod errors;
 mod getters;
 mod messages;
+mod nests;
 mod push;
 mod show;
 mod strings;

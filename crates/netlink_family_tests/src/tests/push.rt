@@ -19,7 +19,7 @@ const NUMBERS: [u8; 104] = [
     8, 0, 9, 0, 0x01, 0x02, 0x03, 0x04, // be32
     12, 0, 10, 0, 0x01, 0x02, 0x03, 0x04, 0x05, 0x06, 0x07, 0x08, // be64
     6, 0, 11, 0, 7, 8, 0, 0, // exact
-    5, 0, 15, 0, 9, 0, 0, 0, // min
+    7, 0, 15, 0, 9, 8, 7, 0, // min, with bytes beyond the minimum
 ];
 
 /// Appends a value of each shape of a fixed size, and one of a minimum size.
@@ -35,7 +35,7 @@ fn push_numbers(alloc: Global, message: &mut EveryMessage) -> Result<(), FamilyE
     message.push(alloc, 9, Value::Be32(0x01020304))?;
     message.push(alloc, 10, Value::Be64(0x0102030405060708))?;
     message.push(alloc, 11, Value::ExactLen(&[7, 8]))?;
-    message.push(alloc, 15, Value::MinLen(1, &[9]))
+    message.push(alloc, 15, Value::MinLen(1, &[9, 8, 7]))
 }
 
 /// Appends a value of each shape of more than one size, and one of a kind without a row.

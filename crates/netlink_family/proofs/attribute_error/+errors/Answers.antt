@@ -1,39 +1,42 @@
-use Rattle.std.proofs.Common.{arith, rules, sym, ap, ◌∙◌, ◌≡◌, ◌<◌, ◌-◌, List, ℕ, Some, refl, true, false}
+use Rattle.std.proofs.Common.{arith, rules, sym, ap, ◌∙◌, ◌≡◌, ◌<◌, ◌-◌, ◌+◌, length, List, ℕ, Some, refl, true, false}
 use Rattle.std.specs.Prelude.{is_some}
 use Rattle.netlink_packet_core.specs.Steps.{unread}
 use Rattle.netlink_packet_core.specs.Views.{attribute_of, length_field}
-use Rattle.netlink_family.specs.ErrorLaws.{value_deep, value_flat, value_nest}
+use Rattle.netlink_family.specs.ErrorLaws.{value_deep, value_flat, value_nest, value_other}
 use Rattle.netlink_family.specs.Shapes.{has_shape, rows_in}
 use Rattle.netlink_family.specs.Errors.{error_at, error_in}
 use Rattle.netlink_family.specs.declared.attribute_error.Reason.{Reason}
 use Rattle.netlink_family.proofs.FirstErrors.{at_attribute, malformed_here, fine_ends, fine_later, first_found, none_found}
 use Rattle.netlink_family.proofs.attribute_error.+errors.Goals as goal
 
-pub value_error-returns-then-has_shape : goal.value_error-returns-then-has_shape
-value_error-returns-then-has_shape t c =
-    let has : has_shape c.row_shape-shape.result c.args.value.now ≡ true = search rules in
-    sym (value_flat c.args.levels (rows_in c.args.rows.now) c.args.policy c.args.at c.args.kind c.args.value.now c.row_shape-shape.result true
-    c.row_shape-shape.ensures (sym c.policy_of.ensures ∙ c.in-None.is) has)
-
-pub value_error-returns-else-has_shape : goal.value_error-returns-else-has_shape
-value_error-returns-else-has_shape t c =
+pub value_error-returns-then-not-has_shape : goal.value_error-returns-then-not-has_shape
+value_error-returns-then-not-has_shape t c =
     let has : has_shape c.row_shape-shape.result c.args.value.now ≡ false = search rules in
     let why = c.reason_of.ensures in
     ap (λ (w : Reason). Some (error_at c.args.policy c.args.at w)) why
-    ∙ sym (value_flat c.args.levels (rows_in c.args.rows.now) c.args.policy c.args.at c.args.kind c.args.value.now c.row_shape-shape.result false
+    ∙ sym (value_other c.args.levels (rows_in c.args.rows.now) c.args.policy c.args.at c.args.kind c.args.value.now c.row_shape-shape.result
+    c.row_shape-shape.ensures has)
+
+pub value_error-returns-in-None : goal.value_error-returns-in-None
+value_error-returns-in-None t c =
+    let has : has_shape c.row_shape-shape.result c.args.value.now ≡ true = search rules in
+    sym (value_flat c.args.levels (rows_in c.args.rows.now) c.args.policy c.args.at c.args.kind c.args.value.now c.row_shape-shape.result
     c.row_shape-shape.ensures (sym c.policy_of.ensures ∙ c.in-None.is) has)
 
 pub value_error-returns-then-levels-eq0 : goal.value_error-returns-then-levels-eq0
 value_error-returns-then-levels-eq0 t c =
+    let has : has_shape c.row_shape-shape.result c.args.value.now ≡ true = search rules in
     sym (value_deep c.args.levels (rows_in c.args.rows.now) c.args.policy c.args.at c.args.kind c.args.value.now c.row_shape-shape.result c.in-Some.inner
-    c.row_shape-shape.ensures (sym c.policy_of.ensures ∙ c.in-Some.is) (omega arith))
+    c.row_shape-shape.ensures (sym c.policy_of.ensures ∙ c.in-Some.is) has (omega arith))
 
 pub value_error-returns-else-levels-eq0 : goal.value_error-returns-else-levels-eq0
 value_error-returns-else-levels-eq0 t c =
+    let has : has_shape c.row_shape-shape.result c.args.value.now ≡ true = search rules in
     let some : 0 < c.args.levels = omega arith in
     c.error_in.ensures
+    ∙ ap (error_in (c.args.levels - 1) (rows_in c.args.rows.now) c.in-Some.inner (c.args.at + 4 + length c.args.value.now)) c.nest_block-block.ensures
     ∙ sym (value_nest c.args.levels (rows_in c.args.rows.now) c.args.policy c.args.at c.args.kind c.args.value.now c.row_shape-shape.result c.in-Some.inner
-    c.row_shape-shape.ensures (sym c.policy_of.ensures ∙ c.in-Some.is) some)
+    c.row_shape-shape.ensures (sym c.policy_of.ensures ∙ c.in-Some.is) has some)
 
 pub error_in-returns-then-is_some : goal.error_in-returns-then-is_some
 error_in-returns-then-is_some t c =

@@ -1,9 +1,8 @@
 use Rattle.std.proofs.Common.{arith, sym, ap, ◌∙◌, ◌≡◌, ◌+◌, ◌-◌, ◌<◌, ◌++◌, ℕ, List, string_bytes}
-use Rattle.std.specs.Prelude.{codes}
 use Rattle.netlink_packet_core.specs.Steps.{unread}
 use Rattle.netlink_packet_core.specs.Views.{attribute_of}
-use Rattle.netlink_family.specs.Shapes.{rows_in}
-use Rattle.netlink_family.specs.Show.{value_line, label_text, lines_in, value_lines}
+use Rattle.netlink_family.specs.Shapes.{nest_start, rows_in}
+use Rattle.netlink_family.specs.Show.{value_line, label_text, lines_in, nest_line, value_lines}
 use Rattle.netlink_family.specs.ShowLaws.{before_malformed, before_nothing, lines_deep, lines_flat, lines_nest}
 use Rattle.netlink_family.proofs.Lines.{joins, joins_three, lines_end, lines_later}
 use Rattle.netlink_family.proofs.show.+lines.Goals as goal
@@ -26,10 +25,16 @@ push_attribute-returns-in_ok-push_value_line-in-None t c =
 pub push_attribute-returns-in_ok-push_block-in-Some : goal.push_attribute-returns-in_ok-push_block-in-Some
 push_attribute-returns-in_ok-push_block-in-Some t c =
     let some : 0 < c.args.levels = omega arith in
-    joins_three (string_bytes c.args.text.now) (string_bytes c.push_label.new.text) (string_bytes c.push_str.new.self) _
-    (label_text (rows_in c.args.rows.now) c.args.policy c.args.depth c.args.kind) (codes ":\n")
-    (lines_in (value_lines (c.args.levels - 1) (rows_in c.args.rows.now) c.in-Some.inner (c.args.depth + 1)) c.args.value.now)
-    c.in_ok-push_label.ensures c.in_ok-push_str-in-Some.ensures.bytes c.in_ok-push_block-in-Some.ensures
+    joins_three (string_bytes c.args.text.now) (string_bytes c.push_label.new.text) (string_bytes c.push_nest_line.new.text) _
+    (label_text (rows_in c.args.rows.now) c.args.policy c.args.depth c.args.kind) (nest_line c.nest_start.result c.args.value.now)
+    (lines_in (value_lines (c.args.levels - 1) (rows_in c.args.rows.now) c.in-Some.inner (c.args.depth + 1)) c.nest_block-block.result.now)
+    c.in_ok-push_label.ensures c.in_ok-push_nest_line-in-Some.ensures c.in_ok-push_block-in-Some.ensures
+    ∙ ap (λ (n : ℕ). string_bytes c.args.text.now ++ (label_text (rows_in c.args.rows.now) c.args.policy c.args.depth c.args.kind
+    ++ (nest_line n c.args.value.now ++ lines_in (value_lines (c.args.levels - 1) (rows_in c.args.rows.now) c.in-Some.inner (c.args.depth + 1))
+    c.nest_block-block.result.now))) c.nest_start.ensures
+    ∙ ap (λ (b : List ℕ). string_bytes c.args.text.now ++ (label_text (rows_in c.args.rows.now) c.args.policy c.args.depth c.args.kind
+    ++ (nest_line (nest_start c.row_shape-shape.result) c.args.value.now
+    ++ lines_in (value_lines (c.args.levels - 1) (rows_in c.args.rows.now) c.in-Some.inner (c.args.depth + 1)) b))) c.nest_block-block.ensures
     ∙ ap (λ (x : List ℕ). string_bytes c.args.text.now ++ x)
     (sym (lines_nest c.args.levels (rows_in c.args.rows.now) c.args.policy c.args.depth c.args.kind c.args.value.now c.row_shape-shape.result c.in-Some.inner c.row_shape-shape.ensures
     (sym c.policy_of.ensures ∙ c.in-Some.is) some))
