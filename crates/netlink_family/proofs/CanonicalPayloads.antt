@@ -1,5 +1,5 @@
 -- Canonical payloads stay canonical when they are changed.
-use Rattle.std.proofs.Common.{◌≡◌, ◌≤◌, ◌<◌, ◌+◌, ◌-◌, ◌^◌, ℕ, true, List, [], ◌∷◌, ◌++◌, length, take, drop, refl, sym, ap, ◌∙◌, arith, append-nil, append_assoc, length-append, length-drop}
+use Rattle.std.proofs.Common.{◌≡◌, ◌≤◌, ◌<◌, ◌+◌, ◌-◌, ◌^◌, ℕ, true, List, [], ◌∷◌, ◌++◌, length, take, drop, refl, sym, ap, ◌∙◌, arith, append-nil, append_assoc, length-append, length-drop, None}
 use Rattle.std.specs.Prelude.{All, Result, Ok, Err, OnOk, IfErr, slice_set}
 use Rattle.std.specs.Cmp.Lexicographic.{bytes_decides}
 use Rattle.std.specs.List.{list_all}
@@ -13,14 +13,17 @@ use Rattle.netlink_packet_core.specs.Attribute.{Attribute, FitsAttribute, padded
 use Rattle.netlink_packet_core.specs.AttributeSizes.{length-padded}
 use Rattle.netlink_packet_core.specs.Block.{canonical_block}
 use Rattle.netlink_packet_core.specs.Nla.{attribute_with, block_max}
+use Rattle.netlink_packet_core.specs.ReadingLaws.{attributes_in-written}
 use Rattle.netlink_packet_core.specs.Storage.{put_at}
 use Rattle.netlink_family.specs.Blocks.{value_fits}
 use Rattle.netlink_family.specs.BlocksLaws.{AreNormalized}
 use Rattle.netlink_family.specs.PayloadReading.{IsWrittenBy, payload_again, payload_written}
 use Rattle.netlink_family.specs.Message.{is_canonical_payload, is_encoding}
 use Rattle.netlink_family.specs.CanonicalPayloadLaws.{canonical_reads, shaped_itself}
-use Rattle.netlink_family.specs.Pushing.{has_room}
-use Rattle.netlink_family.specs.Shapes.{Row, fits_kind, keeps_by, reading_by}
+use Rattle.netlink_family.specs.Listing.{listed, listed_all}
+use Rattle.netlink_family.specs.Pushing.{has_room, late_error}
+use Rattle.netlink_family.specs.Shapes.{Row, fits_kind, keeps_by, reading_by, within}
+use Rattle.netlink_family.proofs.Appending.{are_pushed}
 use Rattle.netlink_family.proofs.Normalizing.{canonical-push, nothing_normalized, normalized_push}
 
 parts_of : (size : ℕ) (rows : List Row) (bytes : List ℕ) → is_canonical_payload size rows bytes ≡ true
@@ -45,7 +48,7 @@ canonical_long size rows bytes is =
     omega (arith, by.sized, text)
 
 none_normalized : (rows : List Row) → AreNormalized (reading_by rows) []
-none_normalized rows = record { again = nothing_normalized (reading_by rows); fits = All-nil FitsAttribute; whole = refl }
+none_normalized rows = record { again = nothing_normalized (reading_by rows []); fits = All-nil FitsAttribute; whole = refl }
 
 -- a header without attributes is a canonical payload
 pub header_canonical : (size : ℕ) (rows : List Row) (head : List ℕ) → length head ≡ size → is_canonical_payload size rows head ≡ true
@@ -122,9 +125,10 @@ values_fit (a ∷ all) each =
 
 -- an attribute is appended
 pub push_canonical : (size : ℕ) (rows : List Row) (bytes new : List ℕ) (kind : ℕ) (value : List ℕ) → is_canonical_payload size rows bytes ≡ true
-    → kind < 2 ^ 16 → fits_kind rows kind value ≡ true → has_room size bytes value ≡ true → new ≡ bytes ++ padded (attribute_with kind value)
+    → kind < 2 ^ 16 → fits_kind (within rows (drop size bytes)) kind value ≡ true
+    → late_error (within rows (drop size bytes)) kind ≡ None → has_room size bytes value ≡ true → new ≡ bytes ++ padded (attribute_with kind value)
     → is_canonical_payload size rows new ≡ true
-push_canonical size rows bytes new kind value is small shaped has writes =
+push_canonical size rows bytes new kind value is small shaped late has writes =
     let parts = and_parts _ _ has in
     let fit = leb-true (length value) value_max parts.0 in
     let room = leb-true (length bytes - size + (4 + length value + padding (length value))) block_max parts.1 in
@@ -132,6 +136,15 @@ push_canonical size rows bytes new kind value is small shaped has writes =
     let by = parts_of size rows bytes is in
     let all : List Attribute = by.all ++ (a ∷ []) in
     let text = parts_join size rows bytes by in
+    let after : drop size bytes ≡ canonical_block by.all =
+    ap (drop size) text ∙ drop_at by.head (canonical_block by.all) size by.sized in
+    let same : listed (drop size bytes) ≡ by.all =
+    ap listed after
+    ∙ listed_all (canonical_block by.all) by.all (attributes_in-written by.all by.normalized.fits) in
+    let own : fits_kind (rows, by.all) kind value ≡ true =
+    ap (λ (x : List Attribute). fits_kind (rows, x) kind value) (sym same) ∙ shaped in
+    let pushed = are_pushed rows by.all a
+    (ap (λ (x : List Attribute). late_error (rows, x) kind) (sym same) ∙ late) in
     let block : canonical_block all ≡ canonical_block by.all ++ padded a = canonical-push by.all a in
     let each : All FitsAttribute all =
     All-append FitsAttribute by.all (a ∷ []) by.normalized.fits
@@ -148,7 +161,9 @@ push_canonical size rows bytes new kind value is small shaped has writes =
           ∙ ap (λ (x : List ℕ). by.head ++ x) (sym block));
       sized = by.sized;
       normalized = record {
-        again = normalized_push (reading_by rows) by.all a by.normalized.again (shaped_itself rows kind value shaped);
+        again =
+            normalized_push (reading_by rows all) by.all a (pushed.before ∙ by.normalized.again)
+            (pushed.own ∙ shaped_itself (rows, by.all) kind value own);
         fits = each;
         whole = and_from _ _ (values_fit all each) (le-leb _ _ (omega (arith, long, was, more, by.sized, room)));
       };

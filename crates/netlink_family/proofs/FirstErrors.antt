@@ -8,45 +8,45 @@ use Rattle.netlink_packet_core.specs.Views.{attribute_of, length_field}
 use Rattle.netlink_packet_core.specs.Walk.{IsFault, Starts}
 use Rattle.netlink_family.specs.ErrorLaws.{left_after_start, error_malformed, error_nothing, error_step, value_shaped}
 use Rattle.netlink_family.specs.Errors.{decode_reason, error_at, error_in, left_after, value_error}
-use Rattle.netlink_family.specs.Shapes.{Row, is_shaped, or_first, shape_in}
+use Rattle.netlink_family.specs.Shapes.{Scope, is_shaped, or_first, shape_among}
 use Rattle.netlink_family.specs.declared.attribute_error.AttributeError.{AttributeError}
 
 -- the invariant: the attributes before the rest have no error, and `left` is the length of the rest
-pub record AreFine (levels : ℕ) (rows : List Row) (policy end : ℕ) (block : List ℕ) (left : ℕ) (rest : List ℕ) : Type 0 where
-  pub same : error_in levels rows policy end block ≡ error_in levels rows policy end rest
+pub record AreFine (levels : ℕ) (scope : Scope) (policy end : ℕ) (block : List ℕ) (left : ℕ) (rest : List ℕ) : Type 0 where
+  pub same : error_in levels scope policy end block ≡ error_in levels scope policy end rest
   pub counted : left ≡ length rest
   pub within : length rest ≤ end
 
 -- the step over an attribute whose kind and value were read
-pub at_attribute : (levels : ℕ) (rows : List Row) (policy end : ℕ) (block : List ℕ) (left : ℕ) (bytes rest : List ℕ)
+pub at_attribute : (levels : ℕ) (scope : Scope) (policy end : ℕ) (block : List ℕ) (left : ℕ) (bytes rest : List ℕ)
     (at kind : ℕ) (value : List ℕ) (found : Option AttributeError)
-    → AreFine levels rows policy end block left bytes → Starts bytes (attribute_of bytes) rest
+    → AreFine levels scope policy end block left bytes → Starts bytes (attribute_of bytes) rest
     → at ≡ end - left → kind ≡ (attribute_of bytes).kind → value ≡ (attribute_of bytes).value
-    → found ≡ value_error levels rows policy at kind value
-    → error_in levels rows policy end block ≡ or_first found (error_in levels rows policy end rest)
-at_attribute levels rows policy end block left bytes rest at kind value found fine starts place same is finds =
+    → found ≡ value_error levels scope policy at kind value
+    → error_in levels scope policy end block ≡ or_first found (error_in levels scope policy end rest)
+at_attribute levels scope policy end block left bytes rest at kind value found fine starts place same is finds =
     let a : Attribute = attribute_of bytes in
-    fine.same ∙ error_step (value_error levels rows policy) policy end bytes a rest starts
-    ∙ ap (λ (o : Option AttributeError). or_first o (error_in levels rows policy end rest))
-    (ap (λ (n : ℕ). value_error levels rows policy (end - n) a.kind a.value) (sym fine.counted)
-    ∙ ap (λ (n : ℕ). value_error levels rows policy n a.kind a.value) (sym place)
-    ∙ ap (λ (k : ℕ). value_error levels rows policy at k a.value) (sym same)
-    ∙ ap (value_error levels rows policy at kind) (sym is) ∙ sym finds)
+    fine.same ∙ error_step (value_error levels scope policy) policy end bytes a rest starts
+    ∙ ap (λ (o : Option AttributeError). or_first o (error_in levels scope policy end rest))
+    (ap (λ (n : ℕ). value_error levels scope policy (end - n) a.kind a.value) (sym fine.counted)
+    ∙ ap (λ (n : ℕ). value_error levels scope policy n a.kind a.value) (sym place)
+    ∙ ap (λ (k : ℕ). value_error levels scope policy at k a.value) (sym same)
+    ∙ ap (value_error levels scope policy at kind) (sym is) ∙ sym finds)
 
 -- an attribute without an error is passed
-pub fine_later : (levels : ℕ) (rows : List Row) (policy end : ℕ) (block : List ℕ) (left : ℕ) (bytes rest : List ℕ)
+pub fine_later : (levels : ℕ) (scope : Scope) (policy end : ℕ) (block : List ℕ) (left : ℕ) (bytes rest : List ℕ)
     (at kind : ℕ) (value : List ℕ) (found : Option AttributeError) (field new : ℕ)
-    → AreFine levels rows policy end block left bytes → Starts bytes (attribute_of bytes) rest
+    → AreFine levels scope policy end block left bytes → Starts bytes (attribute_of bytes) rest
     → at ≡ end - left → kind ≡ (attribute_of bytes).kind → value ≡ (attribute_of bytes).value
-    → found ≡ value_error levels rows policy at kind value → found ≡ None → field ≡ length_field bytes → new ≡ left_after left field
-    → AreFine levels rows policy end block new rest
-fine_later levels rows policy end block left bytes rest at kind value found field new fine starts place same is finds none number less =
+    → found ≡ value_error levels scope policy at kind value → found ≡ None → field ≡ length_field bytes → new ≡ left_after left field
+    → AreFine levels scope policy end block new rest
+fine_later levels scope policy end block left bytes rest at kind value found field new fine starts place same is finds none number less =
     let size = starts-length bytes (attribute_of bytes) rest starts in
     let within = fine.within in
     record {
       same =
-          at_attribute levels rows policy end block left bytes rest at kind value found fine starts place same is finds
-          ∙ ap (λ (o : Option AttributeError). or_first o (error_in levels rows policy end rest)) none;
+          at_attribute levels scope policy end block left bytes rest at kind value found fine starts place same is finds
+          ∙ ap (λ (o : Option AttributeError). or_first o (error_in levels scope policy end rest)) none;
       counted =
           less ∙ ap (left_after left) number ∙ ap (λ (n : ℕ). left_after n (length_field bytes)) fine.counted
           ∙ left_after_start bytes (attribute_of bytes) rest starts;
@@ -54,19 +54,19 @@ fine_later levels rows policy end block left bytes rest at kind value found fiel
     }
 
 -- the walk ends with an error
-pub malformed_here : (levels : ℕ) (rows : List Row) (policy end : ℕ) (block : List ℕ) (left : ℕ) (bytes : List ℕ) (at : ℕ) (e : DecodeError)
-    → AreFine levels rows policy end block left bytes → at ≡ end - left → bytes ≢ [] → IsFault bytes e
-    → error_in levels rows policy end block ≡ Some (error_at policy at (decode_reason e))
-malformed_here levels rows policy end block left bytes at e fine place some is =
-    fine.same ∙ error_malformed (value_error levels rows policy) policy end bytes e some is
+pub malformed_here : (levels : ℕ) (scope : Scope) (policy end : ℕ) (block : List ℕ) (left : ℕ) (bytes : List ℕ) (at : ℕ) (e : DecodeError)
+    → AreFine levels scope policy end block left bytes → at ≡ end - left → bytes ≢ [] → IsFault bytes e
+    → error_in levels scope policy end block ≡ Some (error_at policy at (decode_reason e))
+malformed_here levels scope policy end block left bytes at e fine place some is =
+    fine.same ∙ error_malformed (value_error levels scope policy) policy end bytes e some is
     ∙ ap (λ (n : ℕ). Some (error_at policy (end - n) (decode_reason e))) (sym fine.counted)
     ∙ ap (λ (n : ℕ). Some (error_at policy n (decode_reason e))) (sym place)
 
 -- at the end of the block there was no error
-pub fine_ends : (levels : ℕ) (rows : List Row) (policy end : ℕ) (block : List ℕ) (left : ℕ) (bytes : List ℕ)
-    → AreFine levels rows policy end block left bytes → bytes ≡ [] → error_in levels rows policy end block ≡ None
-fine_ends levels rows policy end block left bytes fine none =
-    fine.same ∙ error_nothing (value_error levels rows policy) policy end bytes none
+pub fine_ends : (levels : ℕ) (scope : Scope) (policy end : ℕ) (block : List ℕ) (left : ℕ) (bytes : List ℕ)
+    → AreFine levels scope policy end block left bytes → bytes ≡ [] → error_in levels scope policy end block ≡ None
+fine_ends levels scope policy end block left bytes fine none =
+    fine.same ∙ error_nothing (value_error levels scope policy) policy end bytes none
 
 -- ---- what the loop has found
 
@@ -85,10 +85,10 @@ none_by_not_some (Some x) true is = absurd (cc)
 none_by_not_some (Some x) false is = refl
 
 -- a value has its shape if and only if no error was found
-pub shaped_by : (levels : ℕ) (rows names : List Row) (policy at kind : ℕ) (value : List ℕ) (found : Option AttributeError)
-    → names ≡ rows → found ≡ value_error levels names policy at kind value
-    → is_none found ≡ is_shaped levels rows (shape_in rows policy kind) value
-shaped_by levels rows names policy at kind value found same finds =
+pub shaped_by : (levels : ℕ) (scope names : Scope) (policy at kind : ℕ) (value : List ℕ) (found : Option AttributeError)
+    → names ≡ scope → found ≡ value_error levels names policy at kind value
+    → is_none found ≡ is_shaped levels scope.0 (shape_among scope policy kind) value
+shaped_by levels scope names policy at kind value found same finds =
     ap (λ (o : Option AttributeError). is_none o) finds
-    ∙ ap (λ (r : List Row). is_none (value_error levels r policy at kind value)) same
-    ∙ value_shaped levels rows policy at kind value
+    ∙ ap (λ (r : Scope). is_none (value_error levels r policy at kind value)) same
+    ∙ value_shaped levels scope policy at kind value

@@ -1,5 +1,6 @@
 pub mod Checking
 pub mod FirstErrors
+pub mod Appending
 pub mod Lines
 pub mod CanonicalPayloads
 pub mod ZeroPadding

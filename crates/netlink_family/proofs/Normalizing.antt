@@ -4,7 +4,7 @@ use Rattle.std.specs.Option.{option_map}
 use Rattle.netlink_packet_core.specs.Attribute.{Attribute, padded}
 use Rattle.netlink_packet_core.specs.Block.{canonical_block}
 use Rattle.netlink_packet_core.specs.Nla.{attribute_with}
-use Rattle.netlink_family.specs.Blocks.{ValueReading, all_normalized, normalized, with_first}
+use Rattle.netlink_family.specs.Blocks.{KindReading, all_normalized, normalized, with_first}
 
 -- two lists appended, if there are two
 abbrev joined : Option (List Attribute) → Option (List Attribute) → Option (List Attribute)
@@ -22,7 +22,7 @@ first-joined (Some a) None s = refl
 first-joined (Some a) (Some xs) None = refl
 first-joined (Some a) (Some xs) (Some ys) = refl
 
-normalized-append : (reading : ValueReading) (xs ys : List Attribute)
+normalized-append : (reading : KindReading) (xs ys : List Attribute)
     → all_normalized reading (xs ++ ys) ≡ joined (all_normalized reading xs) (all_normalized reading ys)
 unfolding all_normalized
 normalized-append reading [] ys = sym (joined-nothing (all_normalized reading ys))
@@ -30,26 +30,26 @@ normalized-append reading (x ∷ xs) ys =
     ap (with_first (normalized reading x)) (normalized-append reading xs ys)
     ∙ first-joined (normalized reading x) (all_normalized reading xs) (all_normalized reading ys)
 
-alone : (reading : ValueReading) (a : Attribute) (b : Option Attribute) → normalized reading a ≡ b
+alone : (reading : KindReading) (a : Attribute) (b : Option Attribute) → normalized reading a ≡ b
     → all_normalized reading (a ∷ []) ≡ with_first b (Some [])
 unfolding all_normalized
 alone reading a b is = ap (λ (x : Option Attribute). with_first x (Some [])) is
 
 -- an attribute that was read is written with its kind and the value that was read
-normalized_as : (reading : ValueReading) (a : Attribute) (kind : ℕ) (value : List ℕ) → kind ≡ a.kind → reading a.kind a.value ≡ Some value
+normalized_as : (reading : KindReading) (a : Attribute) (kind : ℕ) (value : List ℕ) → kind ≡ a.kind → reading a.kind a.value ≡ Some value
     → normalized reading a ≡ Some (attribute_with kind value)
 normalized_as reading a kind value same is =
     ap (option_map (attribute_with a.kind)) is ∙ ap (λ (k : ℕ). Some (attribute_with k value)) (sym same)
 
 -- appending an attribute that reading does not change
-pub normalized_push : (reading : ValueReading) (done : List Attribute) (a : Attribute) → all_normalized reading done ≡ Some done
+pub normalized_push : (reading : KindReading) (done : List Attribute) (a : Attribute) → all_normalized reading done ≡ Some done
     → reading a.kind a.value ≡ Some a.value → all_normalized reading (done ++ (a ∷ [])) ≡ Some (done ++ (a ∷ []))
 normalized_push reading done a are is =
     let one = alone reading a _ (normalized_as reading a a.kind a.value refl is) in
     normalized-append reading done (a ∷ []) ∙ ap (λ (x : Option (List Attribute)). joined x (all_normalized reading (a ∷ []))) are
     ∙ ap (joined (Some done)) one
 
-pub nothing_normalized : (reading : ValueReading) → all_normalized reading [] ≡ Some []
+pub nothing_normalized : (reading : KindReading) → all_normalized reading [] ≡ Some []
 unfolding all_normalized
 nothing_normalized reading = refl
 

@@ -18,11 +18,11 @@ use Rattle.netlink_packet_core.specs.Views.{attribute_of}
 use Rattle.netlink_packet_core.specs.Walk.{IsFault, Starts, Walk}
 use Rattle.netlink_family.specs.Blocks.{all_normalized, block_fits}
 use Rattle.netlink_family.specs.PayloadReading.{payload_reading}
-use Rattle.netlink_family.specs.ErrorLaws.{block_shaped, payload_complete, error_malformed, error_step, none_of, value_shaped}
-use Rattle.netlink_family.specs.Errors.{block_error, payload_error, message_error, too_long_error, value_error}
+use Rattle.netlink_family.specs.ErrorLaws.{block_shaped, payload_complete, error_malformed, error_nothing, error_step, none_of, value_shaped}
+use Rattle.netlink_family.specs.Errors.{block_error, payload_error, message_error, rest_error, too_long_error, value_error}
 use Rattle.netlink_family.specs.Message.{is_canonical_payload}
 use Rattle.netlink_family.specs.CanonicalPayloadLaws.{fits_by_size, canonical_reads, payload_read}
-use Rattle.netlink_family.specs.Shapes.{Row, all_shaped, fits_kind, is_block_shaped, nest_levels, or_first, reading_by}
+use Rattle.netlink_family.specs.Shapes.{Row, Scope, all_shaped, are_shaped, fits_kind, is_block_shaped, nest_levels, or_first, reading_by, within}
 use Rattle.netlink_family.specs.Iteration.{AreShaped, fits, fits_at}
 use Rattle.netlink_family.specs.declared.error.FamilyError.{FamilyError}
 use Rattle.netlink_family.specs.declared.error.FamilyError.TheVariants.{InvalidAttribute, HeaderShort, TooLong}
@@ -78,15 +78,15 @@ fits_by_own block all long each is reads =
 
 -- ---- a payload whose attributes have no error
 
-by_found : (rows : List Row) (policy : ℕ) (block : List ℕ) (found : Option (List Attribute)) → IsBytes block
-    → attributes_in block ≡ found → all_shaped (fits_at rows policy) found ≡ true → AreShaped rows policy block
-by_found rows policy block None each reads shaped = absurd (cc)
-by_found rows policy block (Some all) each reads shaped =
+by_found : (scope : Scope) (policy : ℕ) (block : List ℕ) (found : Option (List Attribute)) → IsBytes block
+    → attributes_in block ≡ found → all_shaped (fits_at scope policy) found ≡ true → AreShaped scope policy block
+by_found scope policy block None each reads shaped = absurd (cc)
+by_found scope policy block (Some all) each reads shaped =
     record { all = all; walk = walk-attributes_in block all each reads; shaped = shaped }
 
-pub block_attributes : (rows : List Row) (policy : ℕ) (block : List ℕ) → IsBytes block
-    → is_block_shaped nest_levels rows policy block ≡ true → AreShaped rows policy block
-block_attributes rows policy block each shaped = by_found rows policy block (attributes_in block) each refl shaped
+pub block_attributes : (scope : Scope) (policy : ℕ) (block : List ℕ) → IsBytes block
+    → are_shaped nest_levels scope policy block ≡ true → AreShaped scope policy block
+block_attributes scope policy block each shaped = by_found scope policy block (attributes_in block) each refl shaped
 
 -- ---- the error of a payload
 
@@ -101,7 +101,7 @@ pub long_none : (rows : List Row) (end : ℕ) (block : List ℕ) → block_error
     → or_first (option_map InvalidAttribute (block_error rows end block)) (too_long_error (attributes_in block)) ≡ Some TooLong
 long_none rows end block none long =
     ap (λ (o : Option AttributeError). or_first (option_map InvalidAttribute o) (too_long_error (attributes_in block))) none
-    ∙ by_long (fits rows) (attributes_in block)
+    ∙ by_long (fits (within rows block)) (attributes_in block)
     (sym (block_shaped rows end block) ∙ ap (λ (o : Option AttributeError). is_none o) none) long
 
 -- facts about a payload without an error
@@ -150,7 +150,7 @@ good_shaped is size rows names t payload block after same good =
 -- the walk has no error, every attribute has its shape, and in canonical form they fit
 record AreRead (rows : List Row) (all : List Attribute) (malformed : Option DecodeError) : Type 0 where
   pub whole : malformed ≡ None
-  pub normalized : all_normalized (reading_by rows) all ≡ Some all
+  pub normalized : all_normalized (reading_by rows all) all ≡ Some all
   pub fits : block_fits all ≡ true
 
 by_room : (fit : Bool) → (if fit then None else Some TooLong) ≡ None → fit ≡ true
@@ -215,45 +215,58 @@ canonical_good false size rows t bytes own canonical = absurd (cc)
 
 -- ---- the next attribute, whose kind and value were read
 
-next_none : (rows : List Row) (end : ℕ) (bytes : List ℕ) (kind : ℕ) (value : List ℕ) (is : Bool)
-    → kind ≡ (attribute_of bytes).kind → value ≡ (attribute_of bytes).value → is ≡ fits_kind rows kind value
-    → is_none (value_error nest_levels rows 0 (end - length bytes) (attribute_of bytes).kind (attribute_of bytes).value) ≡ is
-next_none rows end bytes kind value is same value_is tested =
+next_none : (scope : Scope) (end : ℕ) (bytes : List ℕ) (kind : ℕ) (value : List ℕ) (is : Bool)
+    → kind ≡ (attribute_of bytes).kind → value ≡ (attribute_of bytes).value → is ≡ fits_kind scope kind value
+    → is_none (value_error nest_levels scope 0 (end - length bytes) (attribute_of bytes).kind (attribute_of bytes).value) ≡ is
+next_none scope end bytes kind value is same value_is tested =
     let a : Attribute = attribute_of bytes in
-    value_shaped nest_levels rows 0 (end - length bytes) a.kind a.value
-    ∙ ap (λ (k : ℕ). fits_kind rows k a.value) (sym same) ∙ ap (fits_kind rows kind) (sym value_is) ∙ sym tested
+    value_shaped nest_levels scope 0 (end - length bytes) a.kind a.value
+    ∙ ap (λ (k : ℕ). fits_kind scope k a.value) (sym same) ∙ ap (fits_kind scope kind) (sym value_is) ∙ sym tested
 
 -- if it has the shape of its kind, the error of the rest is that of the whole
-pub fit_next : (rows : List Row) (end : ℕ) (bytes rest : List ℕ) (kind : ℕ) (value : List ℕ) (is : Bool)
+pub fit_next : (scope : Scope) (end : ℕ) (bytes rest : List ℕ) (kind : ℕ) (value : List ℕ) (is : Bool)
     → Starts bytes (attribute_of bytes) rest → kind ≡ (attribute_of bytes).kind → value ≡ (attribute_of bytes).value
-    → is ≡ fits_kind rows kind value → is ≡ true → block_error rows end bytes ≡ block_error rows end rest
-fit_next rows end bytes rest kind value is starts same value_is tested fit =
+    → is ≡ fits_kind scope kind value → is ≡ true → rest_error scope end bytes ≡ rest_error scope end rest
+fit_next scope end bytes rest kind value is starts same value_is tested fit =
     let a : Attribute = attribute_of bytes in
-    error_step (value_error nest_levels rows 0) 0 end bytes a rest starts
-    ∙ ap (λ (o : Option AttributeError). or_first o (block_error rows end rest))
-    (none_is _ (next_none rows end bytes kind value is same value_is tested ∙ fit))
+    error_step (value_error nest_levels scope 0) 0 end bytes a rest starts
+    ∙ ap (λ (o : Option AttributeError). or_first o (rest_error scope end rest))
+    (none_is _ (next_none scope end bytes kind value is same value_is tested ∙ fit))
 
 -- otherwise there is an error
-pub other_next : (rows : List Row) (end : ℕ) (bytes rest : List ℕ) (kind : ℕ) (value : List ℕ) (is : Bool)
+pub other_next : (scope : Scope) (end : ℕ) (bytes rest : List ℕ) (kind : ℕ) (value : List ℕ) (is : Bool)
     → Starts bytes (attribute_of bytes) rest → kind ≡ (attribute_of bytes).kind → value ≡ (attribute_of bytes).value
-    → is ≡ fits_kind rows kind value → is ≡ false → is_none (block_error rows end bytes) ≡ false
-other_next rows end bytes rest kind value is starts same value_is tested other =
+    → is ≡ fits_kind scope kind value → is ≡ false → is_none (rest_error scope end bytes) ≡ false
+other_next scope end bytes rest kind value is starts same value_is tested other =
     let a : Attribute = attribute_of bytes in
-    ap (λ (o : Option AttributeError). is_none o) (error_step (value_error nest_levels rows 0) 0 end bytes a rest starts)
-    ∙ none_of (value_error nest_levels rows 0 (end - length bytes) a.kind a.value) (block_error rows end rest)
-    ∙ ap (λ (b : Bool). b && is_none (block_error rows end rest))
-    (next_none rows end bytes kind value is same value_is tested ∙ other)
+    ap (λ (o : Option AttributeError). is_none o) (error_step (value_error nest_levels scope 0) 0 end bytes a rest starts)
+    ∙ none_of (value_error nest_levels scope 0 (end - length bytes) a.kind a.value) (rest_error scope end rest)
+    ∙ ap (λ (b : Bool). b && is_none (rest_error scope end rest))
+    (next_none scope end bytes kind value is same value_is tested ∙ other)
 
 -- the walk ends with an error
-pub malformed_next : (rows : List Row) (end : ℕ) (bytes : List ℕ) (e : DecodeError) → bytes ≢ [] → IsFault bytes e
-    → is_none (block_error rows end bytes) ≡ false
-malformed_next rows end bytes e some is =
-    ap (λ (o : Option AttributeError). is_none o) (error_malformed (value_error nest_levels rows 0) 0 end bytes e some is)
+pub malformed_next : (scope : Scope) (end : ℕ) (bytes : List ℕ) (e : DecodeError) → bytes ≢ [] → IsFault bytes e
+    → is_none (rest_error scope end bytes) ≡ false
+malformed_next scope end bytes e some is =
+    ap (λ (o : Option AttributeError). is_none o) (error_malformed (value_error nest_levels scope 0) 0 end bytes e some is)
 
 -- a block with an error does not have its shapes
-pub error_shaped : (names rows : List Row) (end : ℕ) (block bytes : List ℕ) → names ≡ rows
-    → block_error rows end block ≡ block_error rows end bytes → is_none (block_error rows end bytes) ≡ false
+pub error_shaped : (names rows : List Row) (end : ℕ) (block : List ℕ) (found : Option AttributeError) → names ≡ rows
+    → (is_none found ≡ false → block_error rows end block ≡ found) → is_none found ≡ false
     → is_block_shaped nest_levels names 0 block ≡ false
-error_shaped names rows end block bytes table passed some =
+error_shaped names rows end block found table passed some =
     ap (λ (r : List Row). is_block_shaped nest_levels r 0 block) table ∙ sym (block_shaped rows end block)
-    ∙ ap (λ (o : Option AttributeError). is_none o) passed ∙ some
+    ∙ ap (λ (o : Option AttributeError). is_none o) (passed some) ∙ some
+
+-- at the end there is no error left
+pub none_left : (scope : Scope) (end : ℕ) (rest : List ℕ) → rest ≡ [] → is_none (rest_error scope end rest) ≡ false → ⊥
+none_left scope end rest none some =
+    let is = sym (ap (λ (o : Option AttributeError). is_none o) (error_nothing (value_error nest_levels scope 0) 0 end rest none)) ∙ some in
+    absurd (cc)
+
+-- an error of the rest is that of the whole, also after an attribute without an error
+pub passed_next : (rows : List Row) (end : ℕ) (block : List ℕ) (before after : Option AttributeError)
+    → before ≡ after → (is_none before ≡ false → block_error rows end block ≡ before)
+    → is_none after ≡ false → block_error rows end block ≡ after
+passed_next rows end block before after same passed some =
+    passed (ap (λ (o : Option AttributeError). is_none o) same ∙ some) ∙ same

@@ -9,11 +9,15 @@ use Rattle.netlink_packet_core.specs.Nla.{attribute_with, block_max}
 use Rattle.netlink_packet_core.specs.Reading.{attributes_in}
 
 -- the canonical form of a value of a kind, or nothing if the value is not valid for the kind
+abbrev pub KindReading : Type 0
+KindReading = ℕ → List ℕ → Option (List ℕ)
+
+-- the same in a block with these attributes
 abbrev pub ValueReading : Type 0
-ValueReading = ℕ → List ℕ → Option (List ℕ)
+ValueReading = List Attribute → KindReading
 
 -- the canonical form of an attribute
-abbrev pub normalized : ValueReading → Attribute → Option Attribute
+abbrev pub normalized : KindReading → Attribute → Option Attribute
 normalized reading a = option_map (attribute_with a.kind) (reading a.kind a.value)
 
 abbrev pub with_first : Option Attribute → Option (List Attribute) → Option (List Attribute)
@@ -21,13 +25,13 @@ with_first None more = None
 with_first (Some a) more = option_map (λ all. a ∷ all) more
 
 -- the canonical form of all attributes, or nothing if one is not valid for its kind
-unfoldable pub all_normalized : ValueReading → List Attribute → Option (List Attribute)
+unfoldable pub all_normalized : KindReading → List Attribute → Option (List Attribute)
 all_normalized reading [] = Some []
 all_normalized reading (a ∷ more) = with_first (normalized reading a) (all_normalized reading more)
 
 abbrev pub normalize : ValueReading → Option (List Attribute) → Option (List Attribute)
 normalize reading None = None
-normalize reading (Some all) = all_normalized reading all
+normalize reading (Some all) = all_normalized (reading all) all
 
 -- the attributes of a block in canonical form, if every one is valid for its kind
 abbrev pub normalized_in : ValueReading → List ℕ → Option (List Attribute)
@@ -48,7 +52,7 @@ keep_fit (Some all) = if block_fits all then Some all else None
 abbrev pub block_reading : ValueReading → List ℕ → Option (List Attribute)
 block_reading reading bytes = keep_fit (normalized_in reading bytes)
 
--- a canonical value is read as itself
+-- the canonical form of a value is the value
 abbrev pub KeepsValues : ValueReading → Type 0
 KeepsValues reading =
-    (kind : ℕ) (value text : List ℕ) → reading kind value ≡ Some text → reading kind text ≡ Some text
+    (all : List Attribute) (kind : ℕ) (value text : List ℕ) → reading all kind value ≡ Some text → value ≡ text

@@ -22,7 +22,7 @@ use Rattle.netlink_family.specs.declared.error.FamilyError.TheVariants.{InvalidA
 use Rattle.netlink_family.specs.declared.attribute_error.AttributeError.{AttributeError}
 use Rattle.netlink_family.specs.Message.{message_decoding, is_canonical_payload, is_encoding}
 use Rattle.netlink_family.specs.MessageLaws.{HasOwnTypes, reading_lawful}
-use Rattle.netlink_family.specs.Shapes.{Row, fits_kind, keep, keeps_by, or_first, reading_by}
+use Rattle.netlink_family.specs.Shapes.{Row, Scope, fits_kind, keep, keeps_by, or_first, reading_by, reading_in}
 
 by_found : (long : Bool) (head : List ℕ) (found : Option (List Attribute)) (bytes : List ℕ)
     → is_encoding bytes (if long then after_header 0 head found else None) ≡ true
@@ -85,12 +85,12 @@ fits_by_size block all walk =
     ap (λ (b : Bool). b && nat_le (length (canonical_block all)) block_max) values
 
 pub normalized_block : (values : ValueReading) (block : List ℕ) (all : List Attribute)
-    → Walk block all None → all_normalized values all ≡ Some all → normalize values (attributes_in block) ≡ Some all
+    → Walk block all None → all_normalized (values all) all ≡ Some all → normalize values (attributes_in block) ≡ Some all
 normalized_block values block all walk normalized =
     ap (normalize values) (attributes_in-walk block all walk) ∙ normalized
 
 pub block_read : (values : ValueReading) (block : List ℕ) (all : List Attribute)
-    → Walk block all None → all_normalized values all ≡ Some all
+    → Walk block all None → all_normalized (values all) all ≡ Some all
     → length (canonical_block all) ≤ block_max → block_reading values block ≡ Some all
 block_read values block all walk normalized small =
     ap keep_fit (normalized_block values block all walk normalized) ∙ ap (λ (b : Bool). if b then Some all else None)
@@ -99,7 +99,7 @@ block_read values block all walk normalized small =
 -- a header and attributes in canonical form are what the payload is read as
 pub payload_read : (size : ℕ) (values : ValueReading) (payload out : List ℕ)
     (all : List Attribute) → size ≤ length payload → Walk (drop size payload) all None
-    → all_normalized values all ≡ Some all → out ≡ take size payload ++ canonical_block all
+    → all_normalized (values all) all ≡ Some all → out ≡ take size payload ++ canonical_block all
     → length out - size ≤ block_max → (t : ℕ) → payload_reading size values t payload ≡ Some (t, out)
 payload_read size values payload out all long walk normalized is small t =
     let front = length-take-le size payload long in
@@ -121,7 +121,7 @@ too_long size payload out all long walk is big =
 -- the same in the terms of the code
 pub payload_read_at : (size sz : ℕ) (values : ValueReading) (payload front block start out : List ℕ)
     (all : List Attribute) → sz ≡ size → sz ≤ length payload → front ≡ take sz payload
-    → block ≡ drop sz payload → start ≡ front → Walk block all None → all_normalized values all ≡ Some all
+    → block ≡ drop sz payload → start ≡ front → Walk block all None → all_normalized (values all) all ≡ Some all
     → out ≡ start ++ canonical_block all → length out - sz ≤ block_max
     → (t : ℕ) → payload_reading size values t payload ≡ Some (t, out)
 payload_read_at size sz values payload front block start out all same long head rest begun walk normalized is
@@ -159,6 +159,6 @@ too_long_at size sz rows payload front block start out all same reaches head res
     ∙ ap (λ (b : Bool). if b then None else Some TooLong) over
 
 -- values that have their shapes are read as themselves
-pub shaped_itself : (rows : List Row) (kind : ℕ) (value : List ℕ)
-    → fits_kind rows kind value ≡ true → reading_by rows kind value ≡ Some value
-shaped_itself rows kind value is = ap (λ (b : Bool). keep b value) is
+pub shaped_itself : (scope : Scope) (kind : ℕ) (value : List ℕ)
+    → fits_kind scope kind value ≡ true → reading_in scope kind value ≡ Some value
+shaped_itself scope kind value is = ap (λ (b : Bool). keep b value) is

@@ -13,8 +13,9 @@ use Rattle.netlink_packet_core.specs.Views.{attribute_of, length_field, raw_kind
 use Rattle.netlink_packet_core.specs.Walk.{IsFault, Starts}
 use Rattle.netlink_family.specs.Blocks.{all_normalized, block_fits, block_reading, keep_fit, normalize, normalized, with_first}
 use Rattle.netlink_family.specs.PayloadReading.{after_header, payload_reading}
-use Rattle.netlink_family.specs.Errors.{ValueError, block_error, reason_of, decode_reason, walk_reason, payload_error, error_at, error_in, first_error, flat_error, left_after, message_error, too_long_error, value_error}
-use Rattle.netlink_family.specs.Shapes.{Row, all_shaped, by_nest, fits_kind, has_shape, is_shaped, nest_block, nest_levels, nest_of, or_first, reading_by, shape_in}
+use Rattle.netlink_family.specs.Errors.{ValueError, block_error, reason_of, decode_reason, walk_reason, payload_error, error_at, nest_error, rest_error, first_error, flat_error, left_after, message_error, too_long_error, value_error}
+use Rattle.netlink_family.specs.Listing.{listed_all}
+use Rattle.netlink_family.specs.Shapes.{Row, Scope, all_shaped, by_nest, fits_kind, has_shape, is_block_shaped, is_shaped, nest_block, nest_levels, nest_of, or_first, reading_by, reading_in, shape_among, within}
 use Rattle.netlink_family.specs.declared.error.FamilyError.{FamilyError}
 use Rattle.netlink_family.specs.declared.error.FamilyError.TheVariants.{InvalidAttribute, TooLong}
 use Rattle.netlink_family.specs.declared.attribute_error.Reason.{Reason}
@@ -142,23 +143,23 @@ left_after_start bytes a rest starts =
 -- ---- one value
 
 -- a value has its own error, or else that of its nest; `nest` is the policy of that
-value_step : (levels : ℕ) (rows : List Row) (policy at kind : ℕ) (value : List ℕ) (shape : Shape) (nest : Option ℕ)
-    → shape ≡ shape_in rows policy kind → nest_of shape ≡ nest → value_error (suc levels) rows policy at kind value
+value_step : (levels : ℕ) (scope : Scope) (policy at kind : ℕ) (value : List ℕ) (shape : Shape) (nest : Option ℕ)
+    → shape ≡ shape_among scope policy kind → nest_of shape ≡ nest → value_error (suc levels) scope policy at kind value
     ≡ or_first (flat_error policy at shape kind value) (by_nest nest
-    (λ inner. error_in levels rows inner (at + 4 + length value) (nest_block shape value)) None)
+    (λ inner. nest_error levels scope.0 inner (at + 4 + length value) (nest_block shape value)) None)
 unfolding value_error
-value_step levels rows policy at kind value shape nest same is =
+value_step levels scope policy at kind value shape nest same is =
     ap (λ (s : Shape). or_first (flat_error policy at s kind value) (by_nest (nest_of s)
-    (λ inner. error_in levels rows inner (at + 4 + length value) (nest_block s value)) None)) (sym same)
+    (λ inner. nest_error levels scope.0 inner (at + 4 + length value) (nest_block s value)) None)) (sym same)
     ∙ ap (λ (n : Option ℕ). or_first (flat_error policy at shape kind value) (by_nest n
-    (λ inner. error_in levels rows inner (at + 4 + length value) (nest_block shape value)) None)) is
+    (λ inner. nest_error levels scope.0 inner (at + 4 + length value) (nest_block shape value)) None)) is
 
-deep_step : (rows : List Row) (policy at kind : ℕ) (value : List ℕ) (shape : Shape) (nest : Option ℕ)
-    → shape ≡ shape_in rows policy kind → nest_of shape ≡ nest → value_error 0 rows policy at kind value
+deep_step : (scope : Scope) (policy at kind : ℕ) (value : List ℕ) (shape : Shape) (nest : Option ℕ)
+    → shape ≡ shape_among scope policy kind → nest_of shape ≡ nest → value_error 0 scope policy at kind value
     ≡ or_first (flat_error policy at shape kind value)
     (by_nest nest (λ inner. Some (error_at policy at (TooDeep kind))) None)
 unfolding value_error
-deep_step rows policy at kind value shape nest same is =
+deep_step scope policy at kind value shape nest same is =
     ap (λ (s : Shape). or_first (flat_error policy at s kind value)
     (by_nest (nest_of s) (λ inner. Some (error_at policy at (TooDeep kind))) None)) (sym same)
     ∙ ap (λ (n : Option ℕ). or_first (flat_error policy at shape kind value)
@@ -173,44 +174,44 @@ flat_has policy at shape kind value false later has =
     ap (λ (b : Bool). or_first (if b then None else Some (error_at policy at (reason_of shape kind value))) later) has
 
 -- a value without its shape
-pub value_other : (levels : ℕ) (rows : List Row) (policy at kind : ℕ) (value : List ℕ) (shape : Shape)
-    → shape ≡ shape_in rows policy kind → has_shape shape value ≡ false
-    → value_error levels rows policy at kind value ≡ Some (error_at policy at (reason_of shape kind value))
-value_other zero rows policy at kind value shape same has =
-    deep_step rows policy at kind value shape (nest_of shape) same refl ∙ flat_has policy at shape kind value false _ has
-value_other (suc levels) rows policy at kind value shape same has =
-    value_step levels rows policy at kind value shape (nest_of shape) same refl
+pub value_other : (levels : ℕ) (scope : Scope) (policy at kind : ℕ) (value : List ℕ) (shape : Shape)
+    → shape ≡ shape_among scope policy kind → has_shape shape value ≡ false
+    → value_error levels scope policy at kind value ≡ Some (error_at policy at (reason_of shape kind value))
+value_other zero scope policy at kind value shape same has =
+    deep_step scope policy at kind value shape (nest_of shape) same refl ∙ flat_has policy at shape kind value false _ has
+value_other (suc levels) scope policy at kind value shape same has =
+    value_step levels scope policy at kind value shape (nest_of shape) same refl
     ∙ flat_has policy at shape kind value false _ has
 
 -- a value that is not a nest
-pub value_flat : (levels : ℕ) (rows : List Row) (policy at kind : ℕ) (value : List ℕ) (shape : Shape)
-    → shape ≡ shape_in rows policy kind → nest_of shape ≡ None → has_shape shape value ≡ true
-    → value_error levels rows policy at kind value ≡ None
-value_flat zero rows policy at kind value shape same flat has =
-    deep_step rows policy at kind value shape None same flat ∙ flat_has policy at shape kind value true None has
-value_flat (suc levels) rows policy at kind value shape same flat has =
-    value_step levels rows policy at kind value shape None same flat ∙ flat_has policy at shape kind value true None has
+pub value_flat : (levels : ℕ) (scope : Scope) (policy at kind : ℕ) (value : List ℕ) (shape : Shape)
+    → shape ≡ shape_among scope policy kind → nest_of shape ≡ None → has_shape shape value ≡ true
+    → value_error levels scope policy at kind value ≡ None
+value_flat zero scope policy at kind value shape same flat has =
+    deep_step scope policy at kind value shape None same flat ∙ flat_has policy at shape kind value true None has
+value_flat (suc levels) scope policy at kind value shape same flat has =
+    value_step levels scope policy at kind value shape None same flat ∙ flat_has policy at shape kind value true None has
 
 -- a nest that is too deep
-pub value_deep : (levels : ℕ) (rows : List Row) (policy at kind : ℕ) (value : List ℕ)
-    (shape : Shape) (inner : ℕ) → shape ≡ shape_in rows policy kind → nest_of shape ≡ Some inner
+pub value_deep : (levels : ℕ) (scope : Scope) (policy at kind : ℕ) (value : List ℕ)
+    (shape : Shape) (inner : ℕ) → shape ≡ shape_among scope policy kind → nest_of shape ≡ Some inner
     → has_shape shape value ≡ true → levels ≡ 0
-    → value_error levels rows policy at kind value ≡ Some (error_at policy at (TooDeep kind))
-value_deep zero rows policy at kind value shape inner same nest has deep =
-    deep_step rows policy at kind value shape (Some inner) same nest ∙ flat_has policy at shape kind value true _ has
-value_deep (suc levels) rows policy at kind value shape inner same nest has deep = absurd (omega arith)
+    → value_error levels scope policy at kind value ≡ Some (error_at policy at (TooDeep kind))
+value_deep zero scope policy at kind value shape inner same nest has deep =
+    deep_step scope policy at kind value shape (Some inner) same nest ∙ flat_has policy at shape kind value true _ has
+value_deep (suc levels) scope policy at kind value shape inner same nest has deep = absurd (omega arith)
 
 -- a nest
-pub value_nest : (levels : ℕ) (rows : List Row) (policy at kind : ℕ) (value : List ℕ)
-    (shape : Shape) (inner : ℕ) → shape ≡ shape_in rows policy kind → nest_of shape ≡ Some inner
-    → has_shape shape value ≡ true → 0 < levels → value_error levels rows policy at kind value
-    ≡ error_in (levels - 1) rows inner (at + 4 + length value) (nest_block shape value)
-value_nest zero rows policy at kind value shape inner same nest has some = absurd (omega arith)
-value_nest (suc levels) rows policy at kind value shape inner same nest has some =
+pub value_nest : (levels : ℕ) (scope : Scope) (policy at kind : ℕ) (value : List ℕ)
+    (shape : Shape) (inner : ℕ) → shape ≡ shape_among scope policy kind → nest_of shape ≡ Some inner
+    → has_shape shape value ≡ true → 0 < levels → value_error levels scope policy at kind value
+    ≡ nest_error (levels - 1) scope.0 inner (at + 4 + length value) (nest_block shape value)
+value_nest zero scope policy at kind value shape inner same nest has some = absurd (omega arith)
+value_nest (suc levels) scope policy at kind value shape inner same nest has some =
     let e : suc levels - 1 ≡ levels = omega arith in
-    value_step levels rows policy at kind value shape (Some inner) same nest
+    value_step levels scope policy at kind value shape (Some inner) same nest
     ∙ flat_has policy at shape kind value true _ has
-    ∙ ap (λ (n : ℕ). error_in n rows inner (at + 4 + length value) (nest_block shape value)) (sym e)
+    ∙ ap (λ (n : ℕ). nest_error n scope.0 inner (at + 4 + length value) (nest_block shape value)) (sym e)
 
 -- ---- attributes that have their shapes have no error
 
@@ -257,79 +258,87 @@ flat_none : (has : Bool) (error : AttributeError) → is_none (if has then None 
 flat_none true error = refl
 flat_none false error = refl
 
-pub value_shaped : (levels : ℕ) (rows : List Row) (policy at kind : ℕ) (value : List ℕ)
-    → is_none (value_error levels rows policy at kind value) ≡ is_shaped levels rows (shape_in rows policy kind) value
+pub value_shaped : (levels : ℕ) (scope : Scope) (policy at kind : ℕ) (value : List ℕ)
+    → is_none (value_error levels scope policy at kind value) ≡ is_shaped levels scope.0 (shape_among scope policy kind) value
 unfolding value_error is_shaped
-value_shaped zero rows policy at kind value =
-    none_of (flat_error policy at (shape_in rows policy kind) kind value) _
-    ∙ ap (λ (b : Bool). b && is_none (by_nest (nest_of (shape_in rows policy kind))
+value_shaped zero scope policy at kind value =
+    none_of (flat_error policy at (shape_among scope policy kind) kind value) _
+    ∙ ap (λ (b : Bool). b && is_none (by_nest (nest_of (shape_among scope policy kind))
     (λ inner. Some (error_at policy at (TooDeep kind))) None))
-    (flat_none (has_shape (shape_in rows policy kind) value) _)
-    ∙ ap (λ (b : Bool). has_shape (shape_in rows policy kind) value && b)
-    (by_cases (nest_of (shape_in rows policy kind)) _ (λ inner. false) (λ inner. refl))
-value_shaped (suc levels) rows policy at kind value =
-    let block : List ℕ = nest_block (shape_in rows policy kind) value in
-    none_of (flat_error policy at (shape_in rows policy kind) kind value) _
-    ∙ ap (λ (b : Bool). b && is_none (by_nest (nest_of (shape_in rows policy kind))
-    (λ inner. error_in levels rows inner (at + 4 + length value) block) None))
-    (flat_none (has_shape (shape_in rows policy kind) value) _)
-    ∙ ap (λ (b : Bool). has_shape (shape_in rows policy kind) value && b)
-    (by_cases (nest_of (shape_in rows policy kind)) _
-    (λ inner. all_shaped (λ a. is_shaped levels rows (shape_in rows inner a.kind) a.value) (attributes_in block))
-    (λ inner. first_shaped (value_error levels rows inner)
-    (λ a. is_shaped levels rows (shape_in rows inner a.kind) a.value) inner
-    (at + 4 + length value) (length block) block (λ place a. value_shaped levels rows inner place a.kind a.value)))
+    (flat_none (has_shape (shape_among scope policy kind) value) _)
+    ∙ ap (λ (b : Bool). has_shape (shape_among scope policy kind) value && b)
+    (by_cases (nest_of (shape_among scope policy kind)) _ (λ inner. false) (λ inner. refl))
+value_shaped (suc levels) scope policy at kind value =
+    let block : List ℕ = nest_block (shape_among scope policy kind) value in
+    none_of (flat_error policy at (shape_among scope policy kind) kind value) _
+    ∙ ap (λ (b : Bool). b && is_none (by_nest (nest_of (shape_among scope policy kind))
+    (λ inner. nest_error levels scope.0 inner (at + 4 + length value) block) None))
+    (flat_none (has_shape (shape_among scope policy kind) value) _)
+    ∙ ap (λ (b : Bool). has_shape (shape_among scope policy kind) value && b)
+    (by_cases (nest_of (shape_among scope policy kind)) _
+    (λ inner. is_block_shaped levels scope.0 inner block)
+    (λ inner. first_shaped (value_error levels (within scope.0 block) inner)
+    (λ a. is_shaped levels scope.0 (shape_among (within scope.0 block) inner a.kind) a.value) inner
+    (at + 4 + length value) (length block) block
+    (λ place a. value_shaped levels (within scope.0 block) inner place a.kind a.value)))
 
-abbrev fits : List Row → Attribute → Bool
-fits rows a = fits_kind rows a.kind a.value
+abbrev fits : Scope → Attribute → Bool
+fits scope a = fits_kind scope a.kind a.value
+
+pub rest_shaped : (scope : Scope) (end : ℕ) (bytes : List ℕ)
+    → is_none (rest_error scope end bytes) ≡ all_shaped (fits scope) (attributes_in bytes)
+rest_shaped scope end bytes =
+    first_shaped (value_error nest_levels scope 0) (fits scope) 0 end (length bytes) bytes
+    (λ at a. value_shaped nest_levels scope 0 at a.kind a.value)
 
 pub block_shaped : (rows : List Row) (end : ℕ) (block : List ℕ)
-    → is_none (block_error rows end block) ≡ all_shaped (fits rows) (attributes_in block)
-block_shaped rows end block =
-    first_shaped (value_error nest_levels rows 0) (fits rows) 0 end (length block) block
-    (λ at a. value_shaped nest_levels rows 0 at a.kind a.value)
+    → is_none (block_error rows end block) ≡ all_shaped (fits (within rows block)) (attributes_in block)
+block_shaped rows end block = rest_shaped (within rows block) end block
 
 -- ---- and a payload without an error is read
 
-by_kept : (rows : List Row) (a : Attribute) (rest : Option (List Attribute)) (more : List Attribute)
-    (is later : Bool) → fits rows a ≡ is → rest ≡ (if later then Some more else None)
-    → with_first (normalized (reading_by rows) a) rest ≡ (if is && later then Some (a ∷ more) else None)
-by_kept rows a rest more true true one all = rw (one, all) refl
-by_kept rows a rest more true false one all = rw (one, all) refl
-by_kept rows a rest more false later one all = rw one refl
+by_kept : (scope : Scope) (a : Attribute) (rest : Option (List Attribute)) (more : List Attribute)
+    (is later : Bool) → fits scope a ≡ is → rest ≡ (if later then Some more else None)
+    → with_first (normalized (reading_in scope) a) rest ≡ (if is && later then Some (a ∷ more) else None)
+by_kept scope a rest more true true one all = rw (one, all) refl
+by_kept scope a rest more true false one all = rw (one, all) refl
+by_kept scope a rest more false later one all = rw one refl
 
-pub normalized_by_rows : (rows : List Row) (all : List Attribute)
-    → all_normalized (reading_by rows) all ≡ (if list_all (fits rows) all then Some all else None)
+pub normalized_by_rows : (scope : Scope) (all : List Attribute)
+    → all_normalized (reading_in scope) all ≡ (if list_all (fits scope) all then Some all else None)
 unfolding all_normalized
-normalized_by_rows rows [] = refl
-normalized_by_rows rows (a ∷ more) =
-    by_kept rows a (all_normalized (reading_by rows) more) more (fits rows a)
-    (list_all (fits rows) more) refl (normalized_by_rows rows more)
+normalized_by_rows scope [] = refl
+normalized_by_rows scope (a ∷ more) =
+    by_kept scope a (all_normalized (reading_in scope) more) more (fits scope a)
+    (list_all (fits scope) more) refl (normalized_by_rows scope more)
 
 by_fit : (t : ℕ) (head : List ℕ) (all : List Attribute) (b : Bool) → is_none (if b then None else Some TooLong)
     ≡ is_some (after_header t head (if b then Some all else None))
 by_fit t head all true = refl
 by_fit t head all false = refl
 
-by_list : (rows : List Row) (t : ℕ) (head : List ℕ) (all : List Attribute) (is : Bool)
-    (error : Option FamilyError) → list_all (fits rows) all ≡ is → is_none error ≡ is
+by_list : (scope : Scope) (t : ℕ) (head : List ℕ) (all : List Attribute) (is : Bool)
+    (error : Option FamilyError) → list_all (fits scope) all ≡ is → is_none error ≡ is
     → is_none (or_first error (too_long_error (Some all)))
     ≡ is_some (after_header t head (keep_fit (if is then Some all else None)))
-by_list rows t head all true None good none = by_fit t head all (block_fits all)
-by_list rows t head all true (Some e) good none = absurd (cc)
-by_list rows t head all false None good none = absurd (cc)
-by_list rows t head all false (Some e) good none = refl
+by_list scope t head all true None good none = by_fit t head all (block_fits all)
+by_list scope t head all true (Some e) good none = absurd (cc)
+by_list scope t head all false None good none = absurd (cc)
+by_list scope t head all false (Some e) good none = refl
 
-by_attributes : (rows : List Row) (t : ℕ) (head : List ℕ) (all : Option (List Attribute))
-    (error : Option FamilyError) → is_none error ≡ all_shaped (fits rows) all
+by_attributes : (rows : List Row) (t : ℕ) (head block : List ℕ) (all : Option (List Attribute))
+    (error : Option FamilyError) → attributes_in block ≡ all → is_none error ≡ all_shaped (fits (within rows block)) all
     → is_none (or_first error (too_long_error all))
     ≡ is_some (after_header t head (keep_fit (normalize (reading_by rows) all)))
-by_attributes rows t head None None is = absurd (cc)
-by_attributes rows t head None (Some e) is = refl
-by_attributes rows t head (Some all) error is =
-    by_list rows t head all (list_all (fits rows) all) error refl is
+by_attributes rows t head block None None reads is = absurd (cc)
+by_attributes rows t head block None (Some e) reads is = refl
+by_attributes rows t head block (Some all) error reads is =
+    let scope : Scope = (rows, all) in
+    let same = listed_all block all reads in
+    by_list scope t head all (list_all (fits scope) all) error refl
+    (is ∙ ap (λ (x : List Attribute). list_all (fits (rows, x)) all) same)
     ∙ ap (λ (x : Option (List Attribute)). is_some (after_header t head (keep_fit x)))
-    (sym (normalized_by_rows rows all))
+    (sym (normalized_by_rows scope all))
 
 none_map : (error : Option AttributeError) → is_none (option_map InvalidAttribute error) ≡ is_none error
 none_map None = refl
@@ -341,9 +350,9 @@ by_long : (long : Bool) (size : ℕ) (rows : List Row) (t : ℕ) (payload : List
     (too_long_error (attributes_in (drop size payload))) else Some short) ≡ is_some (if long
     then after_header t (take size payload) (block_reading (reading_by rows) (drop size payload)) else None)
 by_long true size rows t payload short =
-    by_attributes rows t (take size payload) (attributes_in (drop size payload))
+    by_attributes rows t (take size payload) (drop size payload) (attributes_in (drop size payload))
     (option_map InvalidAttribute (block_error rows (length payload) (drop size payload)))
-    (none_map (block_error rows (length payload) (drop size payload))
+    refl (none_map (block_error rows (length payload) (drop size payload))
     ∙ block_shaped rows (length payload) (drop size payload))
 by_long false size rows t payload short = refl
 

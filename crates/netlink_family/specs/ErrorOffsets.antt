@@ -9,7 +9,7 @@ use Rattle.netlink_packet_core.specs.Reading.{attributes_in, starts_whole}
 use Rattle.netlink_packet_core.specs.Views.{attribute_of, length_field, raw_kind}
 use Rattle.netlink_family.specs.Blocks.{block_fits}
 use Rattle.netlink_family.specs.Errors.{ValueError, block_error, first_error, message_error, too_long_error, value_error}
-use Rattle.netlink_family.specs.Shapes.{Row, by_nest, has_shape, nest_block, nest_levels, nest_of, nest_start, or_first, shape_in}
+use Rattle.netlink_family.specs.Shapes.{Row, Scope, by_nest, has_shape, nest_block, nest_levels, nest_of, nest_start, or_first, shape_among, within}
 use Rattle.netlink_family.specs.declared.error.FamilyError.{FamilyError}
 use Rattle.netlink_family.specs.declared.error.FamilyError.TheVariants.{InvalidAttribute, HeaderShort, TooLong}
 use Rattle.netlink_family.specs.declared.attribute_error.AttributeError.{AttributeError}
@@ -74,24 +74,24 @@ flat_inside : (has : Bool) (from end : ℕ) (f : AttributeError) → IsInside fr
 flat_inside true from end f is = tt
 flat_inside false from end f is = is
 
-value_inside : (levels : ℕ) (rows : List Row) (policy at kind : ℕ) (value : List ℕ)
-    → IsInside at (at + 4 + length value) (value_error levels rows policy at kind value)
+value_inside : (levels : ℕ) (scope : Scope) (policy at kind : ℕ) (value : List ℕ)
+    → IsInside at (at + 4 + length value) (value_error levels scope policy at kind value)
 unfolding value_error
-value_inside zero rows policy at kind value =
+value_inside zero scope policy at kind value =
     inside_first at (at + 4 + length value) _ _
-    (flat_inside (has_shape (shape_in rows policy kind) value) at (at + 4 + length value) _ (omega arith, omega arith))
-    (by_nest_inside (nest_of (shape_in rows policy kind)) at (at + 4 + length value) _
+    (flat_inside (has_shape (shape_among scope policy kind) value) at (at + 4 + length value) _ (omega arith, omega arith))
+    (by_nest_inside (nest_of (shape_among scope policy kind)) at (at + 4 + length value) _
     (λ inner. (omega arith, omega arith)))
-value_inside (suc levels) rows policy at kind value =
-    let block : List ℕ = nest_block (shape_in rows policy kind) value in
-    let shorter = length-drop (nest_start (shape_in rows policy kind)) value in
+value_inside (suc levels) scope policy at kind value =
+    let block : List ℕ = nest_block (shape_among scope policy kind) value in
+    let shorter = length-drop (nest_start (shape_among scope policy kind)) value in
     inside_first at (at + 4 + length value) _ _
-    (flat_inside (has_shape (shape_in rows policy kind) value) at (at + 4 + length value) _ (omega arith, omega arith))
-    (by_nest_inside (nest_of (shape_in rows policy kind)) at (at + 4 + length value) _
+    (flat_inside (has_shape (shape_among scope policy kind) value) at (at + 4 + length value) _ (omega arith, omega arith))
+    (by_nest_inside (nest_of (shape_among scope policy kind)) at (at + 4 + length value) _
     (λ inner. inside_wider (at + 4 + length value - length block) at (at + 4 + length value)
     (at + 4 + length value) _ (omega arith) (omega arith)
-    (first_inside (value_error levels rows inner) inner (at + 4 + length value) (length block) block
-    (λ place k v. value_inside levels rows inner place k v) (omega arith))))
+    (first_inside (value_error levels (within scope.0 block) inner) inner (at + 4 + length value) (length block) block
+    (λ place k v. value_inside levels (within scope.0 block) inner place k v) (omega arith))))
 
 -- the offset of an error in the attributes is after the header and before the end of the payload
 pub block_inside : (rows : List Row) (size : ℕ) (payload : List ℕ) (f : AttributeError) → size ≤ length payload
@@ -101,8 +101,8 @@ block_inside rows size payload f long is =
     subst (IsInside size (length payload)) is
     (inside_wider (length payload - length (drop size payload)) size (length payload)
     (length payload) _ (omega arith) (omega arith)
-    (first_inside (value_error nest_levels rows 0) 0 (length payload) (length (drop size payload))
-    (drop size payload) (λ place k v. value_inside nest_levels rows 0 place k v) (omega arith)))
+    (first_inside (value_error nest_levels (within rows (drop size payload)) 0) 0 (length payload) (length (drop size payload))
+    (drop size payload) (λ place k v. value_inside nest_levels (within rows (drop size payload)) 0 place k v) (omega arith)))
 
 too_long_none : (fits : Bool) (f : AttributeError)
     → ◌≡◌ {A = Option FamilyError} (if fits then None else Some TooLong) (Some (InvalidAttribute f)) → ⊥

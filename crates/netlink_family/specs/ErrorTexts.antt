@@ -3,7 +3,7 @@ use Rattle.std.specs.Prelude.{ℕ, Bool, true, false, List, ◌++◌, codes, dec
 use Rattle.netlink_family.specs.declared.error.FamilyError.{FamilyError}
 use Rattle.netlink_family.specs.declared.error.FamilyError.TheVariants.{UnknownType, HeaderShort, InvalidAttribute, TooLong, OutOfMemory}
 use Rattle.netlink_family.specs.declared.attribute_error.Reason.{Reason}
-use Rattle.netlink_family.specs.declared.attribute_error.Reason.TheVariants.{Short, Truncated, InvalidLength, WrongSize, NotNulTerminated, InteriorNul, TooSmall, WrongAddressSize, TooDeep}
+use Rattle.netlink_family.specs.declared.attribute_error.Reason.TheVariants.{Short, Truncated, InvalidLength, WrongSize, NotNulTerminated, InteriorNul, TooSmall, WrongAddressSize, TooDeep, LateChoice}
 use Rattle.netlink_family.specs.declared.attribute_error.AttributeError.{AttributeError}
 
 abbrev pub wants_memory : FamilyError → Bool
@@ -30,6 +30,8 @@ reason_text (WrongAddressSize kind received) =
     ++ (codes " has an address of " ++ (decimal received ++ codes " bytes instead of 4 or 16")))
 reason_text (TooDeep kind) =
     codes "attribute " ++ (decimal kind ++ codes " is nested too deeply")
+reason_text (LateChoice kind) =
+    codes "attribute " ++ (decimal kind ++ codes " comes after an attribute whose shape it chooses")
 
 abbrev pub attribute_error_text : AttributeError → List ℕ
 attribute_error_text error =

@@ -8,14 +8,14 @@ use Rattle.netlink_packet_core.specs.DecodeError.TheVariants.{NlaBufferTooSmall,
 use Rattle.netlink_packet_core.specs.Reading.{attributes_in, starts_whole}
 use Rattle.netlink_packet_core.specs.Views.{attribute_of, length_field, raw_kind}
 use Rattle.netlink_family.specs.Blocks.{block_fits}
-use Rattle.netlink_family.specs.Shapes.{Row, by_nest, has_shape, nest_block, nest_levels, nest_of, or_first, shape_in, has_type}
+use Rattle.netlink_family.specs.Shapes.{Row, Scope, by_nest, has_shape, has_type, nest_block, nest_levels, nest_of, or_first, shape_among, within}
 use Rattle.netlink_family.specs.declared.error.FamilyError.{FamilyError}
 use Rattle.netlink_family.specs.declared.error.FamilyError.TheVariants.{HeaderShort, InvalidAttribute, TooLong, UnknownType}
 use Rattle.netlink_family.specs.declared.attribute_error.Reason.{Reason}
 use Rattle.netlink_family.specs.declared.attribute_error.Reason.TheVariants as reason
 use Rattle.netlink_family.specs.declared.attribute_error.AttributeError.{AttributeError}
 use Rattle.netlink_family.specs.declared.shape.Shape.{Shape}
-use Rattle.netlink_family.specs.declared.shape.Shape.TheVariants.{Flag, U8, U16, U32, U64, I32, I64, Be16, Be32, Be64, ExactLen, Ip, NulStr, Str, MinLen, Nested, HeaderNested, Bytes}
+use Rattle.netlink_family.specs.declared.shape.Shape.TheVariants.{Flag, U8, U16, U32, U64, I32, I64, Be16, Be32, Be64, ExactLen, Ip, NulStr, Str, MinLen, Nested, HeaderNested, Chosen, Bytes}
 
 abbrev pub error_at : ℕ → ℕ → Reason → AttributeError
 error_at policy at why = record { offset = at; policy = policy; reason = why }
@@ -52,6 +52,7 @@ reason_of Str kind value = reason.InteriorNul kind
 reason_of (MinLen size) kind value = reason.TooSmall kind size (length value)
 reason_of (Nested policy) kind value = reason.TooDeep kind
 reason_of (HeaderNested size policy) kind value = reason.TooSmall kind size (length value)
+reason_of (Chosen by policy) kind value = reason.WrongSize kind 0 (length value)
 reason_of Bytes kind value = reason.WrongSize kind 0 (length value)
 
 -- the error of a value, by the offset and the kind of its attribute
@@ -77,23 +78,32 @@ first_error values policy end (suc most) (b ∷ more) =
 
 -- the error of a value in a table, if nests may be `levels` deep; the attributes of a nest end where
 -- its attribute ends
-unfoldable pub value_error : ℕ → List Row → ℕ → ValueError
-value_error zero rows policy at kind value =
-    or_first (flat_error policy at (shape_in rows policy kind) kind value)
-    (by_nest (nest_of (shape_in rows policy kind)) (λ inner. Some (error_at policy at (reason.TooDeep kind))) None)
-value_error (suc levels) rows policy at kind value =
-    or_first (flat_error policy at (shape_in rows policy kind) kind value)
-    (by_nest (nest_of (shape_in rows policy kind)) (λ inner. first_error (value_error levels rows inner) inner
-    (at + 4 + length value) (length (nest_block (shape_in rows policy kind) value))
-    (nest_block (shape_in rows policy kind) value)) None)
+unfoldable pub value_error : ℕ → Scope → ℕ → ValueError
+value_error zero scope policy at kind value =
+    or_first (flat_error policy at (shape_among scope policy kind) kind value)
+    (by_nest (nest_of (shape_among scope policy kind)) (λ inner. Some (error_at policy at (reason.TooDeep kind))) None)
+value_error (suc levels) scope policy at kind value =
+    or_first (flat_error policy at (shape_among scope policy kind) kind value)
+    (by_nest (nest_of (shape_among scope policy kind)) (λ inner. first_error
+    (value_error levels (within scope.0 (nest_block (shape_among scope policy kind) value)) inner) inner
+    (at + 4 + length value) (length (nest_block (shape_among scope policy kind) value))
+    (nest_block (shape_among scope policy kind) value)) None)
 
-abbrev pub error_in : ℕ → List Row → ℕ → ℕ → List ℕ → Option AttributeError
-error_in levels rows policy end block =
-    first_error (value_error levels rows policy) policy end (length block) block
+-- the first error of attributes of a block that end at offset `end`
+abbrev pub error_in : ℕ → Scope → ℕ → ℕ → List ℕ → Option AttributeError
+error_in levels scope policy end bytes =
+    first_error (value_error levels scope policy) policy end (length bytes) bytes
 
--- the first error of a message's attributes
+-- the same for all attributes of a block
+abbrev pub nest_error : ℕ → List Row → ℕ → ℕ → List ℕ → Option AttributeError
+nest_error levels rows policy end block = error_in levels (within rows block) policy end block
+
+-- the same for a message's attributes, and for the last ones of them
 abbrev pub block_error : List Row → ℕ → List ℕ → Option AttributeError
-block_error rows end block = error_in nest_levels rows 0 end block
+block_error rows end block = nest_error nest_levels rows 0 end block
+
+abbrev pub rest_error : Scope → ℕ → List ℕ → Option AttributeError
+rest_error scope end bytes = error_in nest_levels scope 0 end bytes
 
 -- the number of bytes left after an attribute with this length field
 abbrev pub left_after : ℕ → ℕ → ℕ

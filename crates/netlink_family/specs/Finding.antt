@@ -1,21 +1,17 @@
 -- Finding the first attribute of a kind.
-use Rattle.std.specs.Prelude.{ℕ, ℤ, ◌==◌, List, [], ◌∷◌, drop, slice_index, take, Option, Some, None, if◌then◌else◌}
+use Rattle.std.specs.Prelude.{ℕ, ℤ, List, drop, slice_index, take, Option, Some, None}
 use Rattle.std.specs.Option.{option_map}
 use Rattle.netlink_packet_core.specs.Attribute.{Attribute}
 use Rattle.netlink_packet_core.specs.Numbers.{number_be, number_le, signed}
-use Rattle.netlink_packet_core.specs.Views.{masked}
 use Rattle.netlink_packet_core.specs.Reading.{attributes_in}
-use Rattle.netlink_family.specs.Shapes.{rows_in, shape_in}
+pub use Rattle.netlink_family.specs.Listing.{first_of}
+use Rattle.netlink_family.specs.Shapes.{rows_in, shape_among, within}
 use Rattle.netlink_family.specs.Strings.{until_nul}
 use Rattle.netlink_family.specs.declared.block_view.BlockView.{BlockView}
 use Rattle.netlink_family.specs.declared.shape.Shape.{Shape}
 use Rattle.netlink_family.specs.declared.shape.Shape.TheVariants.{U8, U16, U32, U64, I32, I64, Be16, Be32, Be64, ExactLen, Ip, NulStr, Str, MinLen, Nested, HeaderNested, Bytes}
 
--- the value of the first attribute of a kind, whatever its flag bits
-abbrev pub first_of : ℕ → List Attribute → Option (List ℕ)
-first_of kind [] = None
-first_of kind (a ∷ more) = if masked a.kind == kind then Some a.value else first_of kind more
-
+-- the first attribute of a kind, if the walk has no error
 abbrev pub first_in : ℕ → Option (List Attribute) → Option (List ℕ)
 first_in kind None = None
 first_in kind (Some all) = first_of kind all
@@ -29,7 +25,7 @@ abbrev pub found_at : BlockView → ℕ → Option (List ℕ)
 found_at view kind = found_in view.block.now kind
 
 abbrev pub shape_at : BlockView → ℕ → Shape
-shape_at view kind = shape_in (rows_in view.rows.now) view.policy kind
+shape_at view kind = shape_among (within (rows_in view.rows.now) view.block.now) view.policy kind
 
 -- in a nest that may be missing
 abbrev pub found_within : Option (List ℕ) → ℕ → Option (List ℕ)

@@ -5,12 +5,11 @@ use Rattle.std.proofs.Common.{ap, arith, sym, ◌∙◌}
 use Rattle.std.proofs.lemmas.Bool.{and_parts, eqb-true, eq-eqb}
 use Rattle.netlink_packet_core.specs.Attribute.{Attribute}
 use Rattle.netlink_packet_core.specs.ReadingLaws.{attributes_in-walk}
-use Rattle.netlink_packet_core.specs.DecodeError.{DecodeError}
 use Rattle.netlink_packet_core.specs.Views.{masked}
-use Rattle.netlink_packet_core.specs.Walk.{Walk}
-use Rattle.netlink_family.specs.Finding.{first_in, first_of, found_in}
+use Rattle.netlink_family.specs.Finding.{first_in, found_in}
+use Rattle.netlink_family.specs.Listing.{first_of, listed, listed_all}
 use Rattle.netlink_family.specs.NestLaws.{kind_has}
-use Rattle.netlink_family.specs.Shapes.{Row, any_kind, fits_in, has_shape, is_shaped, nest_levels, or_first, row_at, shape_by, shape_in}
+use Rattle.netlink_family.specs.Shapes.{Scope, any_kind, fits_in, has_shape, is_shaped, nest_levels, or_first, resolved, row_at, shape_by, shape_among}
 use Rattle.netlink_family.specs.SortedLaws.{if_not}
 use Rattle.netlink_family.specs.Iteration.{AreShaped, fits_at}
 use Rattle.netlink_family.specs.declared.shape.Shape.{Shape}
@@ -47,54 +46,53 @@ first_after kind (a ∷ done) more none =
 mask_again : (k n : ℕ) → masked k ≡ n → masked n ≡ masked k
 mask_again k n is = omega arith
 
-by_kind : (rows : List Row) (policy kind : ℕ) (a : Attribute) (v : List ℕ) (rest : Option (List ℕ))
-    (b : Bool) → (masked a.kind == kind) ≡ b → fits_at rows policy a ≡ true
-    → (rest ≡ Some v → fits_in rows policy kind v ≡ true) → (if b then Some a.value else rest) ≡ Some v
-    → fits_in rows policy kind v ≡ true
-by_kind rows policy kind a v rest true same shaped later gives =
+by_kind : (scope : Scope) (policy kind : ℕ) (a : Attribute) (v : List ℕ) (rest : Option (List ℕ))
+    (b : Bool) → (masked a.kind == kind) ≡ b → fits_at scope policy a ≡ true
+    → (rest ≡ Some v → fits_in scope policy kind v ≡ true) → (if b then Some a.value else rest) ≡ Some v
+    → fits_in scope policy kind v ≡ true
+by_kind scope policy kind a v rest true same shaped later gives =
     let k = mask_again a.kind kind (eqb-true (masked a.kind) kind same) in
     let w : a.value ≡ v = cc in
-    ap (λ (n : ℕ). is_shaped nest_levels rows
-    (shape_by (or_first (row_at rows policy n) (row_at rows policy any_kind))) v) k
-    ∙ ap (is_shaped nest_levels rows (shape_in rows policy a.kind)) (sym w) ∙ shaped
-by_kind rows policy kind a v rest false other shaped later gives = later gives
+    ap (λ (n : ℕ). is_shaped nest_levels scope.0
+    (resolved scope (shape_by (or_first (row_at scope.0 policy n) (row_at scope.0 policy any_kind)))) v) k
+    ∙ ap (is_shaped nest_levels scope.0 (shape_among scope policy a.kind)) (sym w) ∙ shaped
+by_kind scope policy kind a v rest false other shaped later gives = later gives
 
-pub first_fits : (rows : List Row) (policy kind : ℕ) (all : List Attribute) (v : List ℕ)
-    → list_all (fits_at rows policy) all ≡ true → first_of kind all ≡ Some v → fits_in rows policy kind v ≡ true
-first_fits rows policy kind [] v shaped gives = absurd (cc)
-first_fits rows policy kind (a ∷ more) v shaped gives =
-    let p = and_parts (fits_at rows policy a) (list_all (fits_at rows policy) more) shaped in
-    by_kind rows policy kind a v (first_of kind more) (masked a.kind == kind) refl p.0
-    (first_fits rows policy kind more v p.1) gives
+pub first_fits : (scope : Scope) (policy kind : ℕ) (all : List Attribute) (v : List ℕ)
+    → list_all (fits_at scope policy) all ≡ true → first_of kind all ≡ Some v → fits_in scope policy kind v ≡ true
+first_fits scope policy kind [] v shaped gives = absurd (cc)
+first_fits scope policy kind (a ∷ more) v shaped gives =
+    let p = and_parts (fits_at scope policy a) (list_all (fits_at scope policy) more) shaped in
+    by_kind scope policy kind a v (first_of kind more) (masked a.kind == kind) refl p.0
+    (first_fits scope policy kind more v p.1) gives
 
 -- ---- in a block
 
--- the first attribute of a kind in the block's only walk
-pub first_of_block : (rows : List Row) (policy : ℕ) (block : List ℕ) (kind : ℕ) (found : Option (List ℕ))
-    → AreShaped rows policy block
-    → ((all : List Attribute) (error : Option DecodeError) → Walk block all error → first_of kind all ≡ found)
-    → found_in block kind ≡ found
-first_of_block rows policy block kind found are by =
-    ap (first_in kind) (attributes_in-walk block are.all are.walk) ∙ by are.all None are.walk
+-- if the walk has no error, the first attribute of a kind in it
+pub first_of_block : (scope : Scope) (policy : ℕ) (block : List ℕ) (kind : ℕ) (found : Option (List ℕ))
+    → AreShaped scope policy block → first_of kind (listed block) ≡ found → found_in block kind ≡ found
+first_of_block scope policy block kind found are is =
+    let reads = attributes_in-walk block are.all are.walk in
+    ap (first_in kind) reads ∙ ap (first_of kind) (sym (listed_all block are.all reads)) ∙ is
 
 -- it has the shape of its kind
-pub first_shaped : (rows : List Row) (policy : ℕ) (block : List ℕ) (kind : ℕ) (v : List ℕ)
-    → AreShaped rows policy block → found_in block kind ≡ Some v → fits_in rows policy kind v ≡ true
-first_shaped rows policy block kind v are gives =
-    first_fits rows policy kind are.all v are.shaped
+pub first_shaped : (scope : Scope) (policy : ℕ) (block : List ℕ) (kind : ℕ) (v : List ℕ)
+    → AreShaped scope policy block → found_in block kind ≡ Some v → fits_in scope policy kind v ≡ true
+first_shaped scope policy block kind v are gives =
+    first_fits scope policy kind are.all v are.shaped
     (sym (ap (first_in kind) (attributes_in-walk block are.all are.walk)) ∙ gives)
 
 -- ---- a value whose shape is known
 
 -- a value of a kind that has this shape has this size
 abbrev pub HasSize : Shape → ℕ → Type 0
-HasSize known size = (rows : List Row) (policy kind : ℕ) (value : List ℕ) (shape : Shape)
-    → shape ≡ shape_in rows policy kind → shape ≡ known → fits_in rows policy kind value ≡ true → length value ≡ size
+HasSize known size = (scope : Scope) (policy kind : ℕ) (value : List ℕ) (shape : Shape)
+    → shape ≡ shape_among scope policy kind → shape ≡ known → fits_in scope policy kind value ≡ true → length value ≡ size
 
 known_size : (known : Shape) (size : ℕ) → ((v : List ℕ) → has_shape known v ≡ (length v == size)) → HasSize known size
-known_size known size by rows policy kind value shape at is fit =
+known_size known size by scope policy kind value shape at is fit =
     eqb-true (length value) size (sym (by value) ∙ ap (λ (s : Shape). has_shape s value) (sym is ∙ at)
-    ∙ kind_has rows policy kind value fit)
+    ∙ kind_has scope policy kind value fit)
 
 pub u8_size : HasSize U8 1
 u8_size = known_size U8 1 (λ v. refl)

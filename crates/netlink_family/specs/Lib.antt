@@ -9,6 +9,7 @@ pub mod Finding
 pub mod FindingLaws
 pub mod Iteration
 pub mod IterationLaws
+pub mod Listing
 pub mod Message
 pub mod MessageLaws
 pub mod NestLaws

@@ -6,7 +6,7 @@ use Rattle.std.proofs.lemmas.Bool.{and_from, and_parts, leb-true}
 use Rattle.std.proofs.lemmas.List.{length-take-le}
 use Rattle.netlink_packet_core.specs.Attribute.{Attribute}
 use Rattle.netlink_packet_core.specs.Reading.{attributes_in}
-use Rattle.netlink_family.specs.Shapes.{Row, all_shaped, by_nest, fits_in, has_shape, is_block_shaped, is_shaped, nest_block, nest_fits, nest_levels, nest_of, shape_in}
+use Rattle.netlink_family.specs.Shapes.{Row, Scope, all_shaped, by_nest, fits_in, has_shape, is_block_shaped, is_shaped, nest_block, nest_fits, nest_levels, nest_of, shape_among, within}
 use Rattle.netlink_family.specs.declared.shape.Shape.{Shape}
 use Rattle.netlink_family.specs.declared.shape.Shape.TheVariants.{HeaderNested}
 
@@ -31,9 +31,9 @@ unfolding is_shaped
 shaped_has zero rows shape value is = (and_parts (has_shape shape value) _ is).0
 shaped_has (suc levels) rows shape value is = (and_parts (has_shape shape value) _ is).0
 
-pub kind_has : (rows : List Row) (policy kind : ℕ) (value : List ℕ) → fits_in rows policy kind value ≡ true
-    → has_shape (shape_in rows policy kind) value ≡ true
-kind_has rows policy kind value is = shaped_has nest_levels rows (shape_in rows policy kind) value is
+pub kind_has : (scope : Scope) (policy kind : ℕ) (value : List ℕ) → fits_in scope policy kind value ≡ true
+    → has_shape (shape_among scope policy kind) value ≡ true
+kind_has scope policy kind value is = shaped_has nest_levels scope.0 (shape_among scope policy kind) value is
 
 -- ---- in a nest
 
@@ -65,14 +65,15 @@ deeper (suc levels) rows shape value is =
     let parts = and_parts (has_shape shape value) _ is in
     and_from _ _ parts.0
     (by_level (nest_of shape) (λ policy. is_block_shaped levels rows policy (nest_block shape value)) _
-    (λ policy. all_deeper (λ a. is_shaped levels rows (shape_in rows policy a.kind) a.value) _
-    (attributes_in (nest_block shape value)) (λ a. deeper levels rows (shape_in rows policy a.kind) a.value)) parts.1)
+    (λ policy. all_deeper (λ a. is_shaped levels rows (shape_among (within rows (nest_block shape value)) policy a.kind) a.value) _
+    (attributes_in (nest_block shape value))
+    (λ a. deeper levels rows (shape_among (within rows (nest_block shape value)) policy a.kind) a.value)) parts.1)
 
 block_deeper : (levels : ℕ) (rows : List Row) (policy : ℕ) (value : List ℕ)
     → is_block_shaped levels rows policy value ≡ true → is_block_shaped (suc levels) rows policy value ≡ true
 block_deeper levels rows policy value =
-    all_deeper (λ a. is_shaped levels rows (shape_in rows policy a.kind) a.value) _
-    (attributes_in value) (λ a. deeper levels rows (shape_in rows policy a.kind) a.value)
+    all_deeper (λ a. is_shaped levels rows (shape_among (within rows value) policy a.kind) a.value) _
+    (attributes_in value) (λ a. deeper levels rows (shape_among (within rows value) policy a.kind) a.value)
 
 nested_step : (levels : ℕ) (rows : List Row) (shape : Shape) (value : List ℕ)
     → is_shaped (suc levels) rows shape value ≡ true
@@ -87,22 +88,22 @@ pub shaped_nests : (rows : List Row) (shape : Shape) (value : List ℕ)
     → is_shaped nest_levels rows shape value ≡ true → nest_fits rows shape value ≡ true
 shaped_nests rows shape value is = nested_step 7 rows shape value is
 
-pub kind_nests : (rows : List Row) (policy kind : ℕ) (value : List ℕ) → fits_in rows policy kind value ≡ true
-    → nest_fits rows (shape_in rows policy kind) value ≡ true
-kind_nests rows policy kind value is = shaped_nests rows (shape_in rows policy kind) value is
+pub kind_nests : (scope : Scope) (policy kind : ℕ) (value : List ℕ) → fits_in scope policy kind value ≡ true
+    → nest_fits scope.0 (shape_among scope policy kind) value ≡ true
+kind_nests scope policy kind value is = shaped_nests scope.0 (shape_among scope policy kind) value is
 
-pub nest_shaped : (rows : List Row) (policy kind : ℕ) (value : List ℕ) (shape : Shape) (inner : ℕ)
-    → shape ≡ shape_in rows policy kind → nest_of shape ≡ Some inner → fits_in rows policy kind value ≡ true
-    → is_block_shaped nest_levels rows inner (nest_block shape value) ≡ true
-nest_shaped rows policy kind value shape inner by is fit =
+pub nest_shaped : (scope : Scope) (policy kind : ℕ) (value : List ℕ) (shape : Shape) (inner : ℕ)
+    → shape ≡ shape_among scope policy kind → nest_of shape ≡ Some inner → fits_in scope policy kind value ≡ true
+    → is_block_shaped nest_levels scope.0 inner (nest_block shape value) ≡ true
+nest_shaped scope policy kind value shape inner by is fit =
     sym (ap (λ (n : Option ℕ). by_nest n
-    (λ p. is_block_shaped nest_levels rows p (nest_block shape value)) true) is)
-    ∙ shaped_nests rows shape value (ap (λ (s : Shape). is_shaped nest_levels rows s value) by ∙ fit)
+    (λ p. is_block_shaped nest_levels scope.0 p (nest_block shape value)) true) is)
+    ∙ shaped_nests scope.0 shape value (ap (λ (s : Shape). is_shaped nest_levels scope.0 s value) by ∙ fit)
 
 -- a value contains the whole header of its nest
-pub header_inside : (rows : List Row) (policy kind : ℕ) (value : List ℕ) (shape : Shape) (size inner : ℕ)
-    → shape ≡ shape_in rows policy kind → shape ≡ HeaderNested size inner → fits_in rows policy kind value ≡ true
+pub header_inside : (scope : Scope) (policy kind : ℕ) (value : List ℕ) (shape : Shape) (size inner : ℕ)
+    → shape ≡ shape_among scope policy kind → shape ≡ HeaderNested size inner → fits_in scope policy kind value ≡ true
     → length (take size value) ≡ size
-header_inside rows policy kind value shape size inner by is fit =
+header_inside scope policy kind value shape size inner by is fit =
     length-take-le size value (leb-true size (length value)
-    (ap (λ (s : Shape). has_shape s value) (sym is ∙ by) ∙ kind_has rows policy kind value fit))
+    (ap (λ (s : Shape). has_shape s value) (sym is ∙ by) ∙ kind_has scope policy kind value fit))

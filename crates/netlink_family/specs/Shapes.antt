@@ -1,14 +1,17 @@
 -- The shapes of values, and the tables of families.
-use Rattle.std.specs.Prelude.{ℕ, zero, suc, ◌≡◌, ◌==◌, ◌^◌, Bool, true, false, not, ◌&&◌, ◌||◌, List, [], ◌∷◌, length, drop, map, nat_le, nat_lt, Option, Some, None, if◌then◌else◌}
+use Rattle.std.specs.Prelude.{ℕ, zero, suc, ◌≡◌, ◌==◌, ◌^◌, Bool, true, false, not, ◌&&◌, ◌||◌, List, [], ◌∷◌, length, drop, map, bytes_eq, nat_le, nat_lt, Option, Some, None, if◌then◌else◌}
 use Rattle.std.specs.List.{list_all}
 use Rattle.std.specs.Option.{ForSome}
 use denote.Ref.{Bor}
 use Rattle.netlink_packet_core.specs.Attribute.{Attribute}
 use Rattle.netlink_packet_core.specs.Reading.{attributes_in}
 use Rattle.netlink_packet_core.specs.Views.{masked}
-use Rattle.netlink_family.specs.Blocks.{KeepsValues, ValueReading}
+use Rattle.netlink_family.specs.Blocks.{KeepsValues, KindReading, ValueReading}
+use Rattle.netlink_family.specs.Listing.{first_of, listed}
+pub use Rattle.netlink_family.specs.Strings.{nul_only_last, nul_terminated}
+use Rattle.netlink_family.specs.Strings.{until_nul}
 use Rattle.netlink_family.specs.declared.shape.Shape.{Shape}
-use Rattle.netlink_family.specs.declared.shape.Shape.TheVariants.{Flag, U8, U16, U32, U64, I32, I64, Be16, Be32, Be64, ExactLen, Ip, NulStr, Str, MinLen, Nested, HeaderNested, Bytes}
+use Rattle.netlink_family.specs.declared.shape.Shape.TheVariants.{Flag, U8, U16, U32, U64, I32, I64, Be16, Be32, Be64, ExactLen, Ip, NulStr, Str, MinLen, Nested, HeaderNested, Chosen, Bytes}
 
 -- a row of a table: the policy that it belongs to, a kind, its name, and the shape of its values
 abbrev pub Row : Type 0
@@ -43,20 +46,6 @@ fields_in fields = named_fields fields (λ (name : Bor (List ℕ)). name.now)
 abbrev pub any_kind : ℕ
 any_kind = 65535
 
--- the last byte is the only NUL
-abbrev pub nul_terminated : List ℕ → Bool
-nul_terminated [] = false
-nul_terminated (zero ∷ []) = true
-nul_terminated (zero ∷ b ∷ more) = false
-nul_terminated (suc b ∷ more) = nul_terminated more
-
--- no byte but the last may be NUL
-abbrev pub nul_only_last : List ℕ → Bool
-nul_only_last [] = true
-nul_only_last (zero ∷ []) = true
-nul_only_last (zero ∷ b ∷ more) = false
-nul_only_last (suc b ∷ more) = nul_only_last more
-
 abbrev pub has_shape : Shape → List ℕ → Bool
 has_shape Flag value = length value == 0
 has_shape U8 value = length value == 1
@@ -75,6 +64,7 @@ has_shape Str value = nul_only_last value
 has_shape (MinLen size) value = nat_le size (length value)
 has_shape (Nested policy) value = true
 has_shape (HeaderNested size policy) value = nat_le size (length value)
+has_shape (Chosen by policy) value = false
 has_shape Bytes value = true
 
 -- the first row of a policy and a kind
@@ -106,6 +96,38 @@ shape_in rows policy kind = shape_by (row_in rows policy kind)
 abbrev pub CachesOther : List Row → ℕ → Option Shape → Type 0
 CachesOther rows policy other = ForSome other (λ shape. shape ≡ shape_by (row_at rows policy any_kind))
 
+-- ---- shapes that are chosen by a value
+
+-- the rows of a table, and the attributes of the block that they are used for
+abbrev pub Scope : Type 0
+Scope = List Row × List Attribute
+
+-- the same, given the bytes of the block
+abbrev pub within : List Row → List ℕ → Scope
+within rows block = (rows, listed block)
+
+-- the shape in the first row of a policy with this name; `Bytes` if there is none
+abbrev pub choice_at : List Row → ℕ → List ℕ → Shape
+choice_at [] policy name = Bytes
+choice_at (row ∷ rows) policy name =
+    if row.0 == policy && bytes_eq row.2 name then row.3 else choice_at rows policy name
+
+-- the shape that a value chooses by its bytes before its first NUL; `Bytes` without a value
+abbrev pub choice_by : List Row → ℕ → Option (List ℕ) → Shape
+choice_by rows policy None = Bytes
+choice_by rows policy (Some value) = choice_at rows policy (until_nul value)
+
+-- a chosen shape is chosen by the first attribute of its choosing kind
+abbrev pub resolved : Scope → Shape → Shape
+resolved scope (Chosen by policy) = choice_by scope.0 policy (first_of by scope.1)
+resolved scope shape = shape
+
+-- the shape of a kind in a policy, in a block
+abbrev pub shape_among : Scope → ℕ → ℕ → Shape
+shape_among scope policy kind = resolved scope (shape_in scope.0 policy kind)
+
+-- ---- nests
+
 -- the policy of a nest
 abbrev pub nest_of : Shape → Option ℕ
 nest_of Flag = None
@@ -125,6 +147,7 @@ nest_of Str = None
 nest_of (MinLen size) = None
 nest_of (Nested policy) = Some policy
 nest_of (HeaderNested size policy) = Some policy
+nest_of (Chosen by policy) = None
 nest_of Bytes = None
 
 -- the size of the header before the attributes of a nest
@@ -150,23 +173,28 @@ unfoldable pub is_shaped : ℕ → List Row → Shape → List ℕ → Bool
 is_shaped zero rows shape value = has_shape shape value && by_nest (nest_of shape) (λ policy. false) true
 is_shaped (suc levels) rows shape value =
     has_shape shape value && by_nest (nest_of shape)
-    (λ policy. all_shaped (λ a. is_shaped levels rows (shape_in rows policy a.kind) a.value)
+    (λ policy. all_shaped (λ a. is_shaped levels rows
+    (shape_among (within rows (nest_block shape value)) policy a.kind) a.value)
     (attributes_in (nest_block shape value))) true
 
+-- attributes of a block have the shapes of a policy
+abbrev pub are_shaped : ℕ → Scope → ℕ → List ℕ → Bool
+are_shaped levels scope policy bytes =
+    all_shaped (λ a. is_shaped levels scope.0 (shape_among scope policy a.kind) a.value) (attributes_in bytes)
+
 abbrev pub is_block_shaped : ℕ → List Row → ℕ → List ℕ → Bool
-is_block_shaped levels rows policy block =
-    all_shaped (λ a. is_shaped levels rows (shape_in rows policy a.kind) a.value) (attributes_in block)
+is_block_shaped levels rows policy block = are_shaped levels (within rows block) policy block
 
 -- the maximum depth of nests
 abbrev pub nest_levels : ℕ
 nest_levels = 8
 
 -- a value has the shape of its kind in a policy; the policy of a message's own attributes is 0
-abbrev pub fits_in : List Row → ℕ → ℕ → List ℕ → Bool
-fits_in rows policy kind value = is_shaped nest_levels rows (shape_in rows policy kind) value
+abbrev pub fits_in : Scope → ℕ → ℕ → List ℕ → Bool
+fits_in scope policy kind value = is_shaped nest_levels scope.0 (shape_among scope policy kind) value
 
-abbrev pub fits_kind : List Row → ℕ → List ℕ → Bool
-fits_kind rows kind value = is_shaped nest_levels rows (shape_in rows 0 kind) value
+abbrev pub fits_kind : Scope → ℕ → List ℕ → Bool
+fits_kind scope kind value = is_shaped nest_levels scope.0 (shape_among scope 0 kind) value
 
 -- if the shape is a nest, the attributes in the value have the shapes of its policy
 abbrev pub nest_fits : List Row → Shape → List ℕ → Bool
@@ -186,17 +214,19 @@ are_own (t ∷ more) = nat_le 5 t && (nat_lt t (2 ^ 16) && (not (has_type more t
 abbrev pub keep : Bool → List ℕ → Option (List ℕ)
 keep is value = if is then Some value else None
 
+abbrev pub reading_in : Scope → KindReading
+reading_in scope kind value = keep (fits_kind scope kind value) value
+
 abbrev pub reading_by : List Row → ValueReading
-reading_by rows kind value = keep (fits_kind rows kind value) value
+reading_by rows all = reading_in (rows, all)
 
 kept : (is : Bool) (value text : List ℕ) → keep is value ≡ Some text → value ≡ text
 kept true value text gives = cc
 kept false value text gives = absurd (cc)
 
--- what is read by a table is read again as itself
+-- what is read by a table is the value itself
 pub keeps_by : (rows : List Row) → KeepsValues (reading_by rows)
-keeps_by rows kind value text gives =
-    rw (kept (fits_kind rows kind value) value text gives) at gives
+keeps_by rows all kind value text gives = kept (fits_kind (rows, all) kind value) value text gives
 
 -- ---- rows sorted by policy and kind
 

@@ -1,16 +1,16 @@
 -- The text of a message: one line per attribute; the attributes of a nest follow it, indented.
 -- Every line ends with a line feed, 10.
-use Rattle.std.specs.Prelude.{ℕ, zero, suc, ◌+◌, not, ◌==◌, ◌&&◌, List, [], ◌∷◌, ◌++◌, length, take, drop, nat_le, nat_lt, codes, decimal, Option, Some, None, if◌then◌else◌}
+use Rattle.std.specs.Prelude.{ℕ, zero, suc, ◌+◌, not, ◌==◌, ◌&&◌, List, [], ◌∷◌, ◌++◌, take, drop, nat_le, nat_lt, codes, decimal, Option, Some, None, if◌then◌else◌}
 use Rattle.std.specs.Fmt.{signed_decimal}
-use Rattle.netlink_packet_core.specs.Attribute.{Attribute, padded_size}
+use Rattle.netlink_packet_core.specs.Attribute.{Attribute}
 use Rattle.netlink_packet_core.specs.Numbers.{number_be, number_le, signed}
-use Rattle.netlink_packet_core.specs.Reading.{starts_whole}
 use Rattle.netlink_packet_core.specs.Text.{hex_pair, hex_text}
-use Rattle.netlink_packet_core.specs.Views.{attribute_of}
-use Rattle.netlink_family.specs.Shapes.{Field, Row, by_nest, has_shape, nest_block, nest_levels, nest_of, nest_start, row_in, shape_in}
+pub use Rattle.netlink_family.specs.Listing.{before_error}
+use Rattle.netlink_family.specs.Listing.{listed}
+use Rattle.netlink_family.specs.Shapes.{Field, Row, by_nest, has_shape, nest_block, nest_levels, nest_of, nest_start, row_in, Scope, shape_among, within}
 use Rattle.netlink_family.specs.Strings.{until_nul}
 use Rattle.netlink_family.specs.declared.shape.Shape.{Shape}
-use Rattle.netlink_family.specs.declared.shape.Shape.TheVariants.{Flag, U8, U16, U32, U64, I32, I64, Be16, Be32, Be64, ExactLen, Ip, NulStr, Str, MinLen, Nested, HeaderNested, Bytes}
+use Rattle.netlink_family.specs.declared.shape.Shape.TheVariants.{Flag, U8, U16, U32, U64, I32, I64, Be16, Be32, Be64, ExactLen, Ip, NulStr, Str, MinLen, Nested, HeaderNested, Chosen, Bytes}
 
 -- the texts of bytes, one after another
 abbrev pub each_of : (ℕ → List ℕ) → List ℕ → List ℕ
@@ -46,6 +46,7 @@ shaped_text Ip value = hex_text value
 shaped_text (MinLen size) value = hex_text value
 shaped_text (Nested policy) value = hex_text value
 shaped_text (HeaderNested size policy) value = hex_text value
+shaped_text (Chosen by policy) value = hex_text value
 shaped_text Bytes value = hex_text value
 
 abbrev pub value_text : Shape → List ℕ → List ℕ
@@ -79,31 +80,28 @@ nest_line (suc size) value = codes ": " ++ (hex_text (take (suc size) value) ++ 
 abbrev pub value_line : Shape → List ℕ → List ℕ
 value_line shape value = codes ": " ++ (value_text shape value ++ (10 ∷ []))
 
--- the attributes of bytes up to their end or to an error of the walk
-unfoldable pub before_error : ℕ → List ℕ → List Attribute
-before_error zero bytes = []
-before_error (suc most) [] = []
-before_error (suc most) (b ∷ more) =
-    if starts_whole (b ∷ more) then attribute_of (b ∷ more)
-    ∷ before_error most (drop (padded_size (attribute_of (b ∷ more))) (b ∷ more)) else []
-
 abbrev pub lines_of : (ℕ → List ℕ → List ℕ) → List Attribute → List ℕ
 lines_of line [] = []
 lines_of line (a ∷ more) = line a.kind a.value ++ lines_of line more
 
 abbrev pub lines_in : (ℕ → List ℕ → List ℕ) → List ℕ → List ℕ
-lines_in line block = lines_of line (before_error (length block) block)
+lines_in line block = lines_of line (listed block)
 
 -- the lines of an attribute: its name and its value, or its name and the lines of its nest, after its
 -- header
-unfoldable pub value_lines : ℕ → List Row → ℕ → ℕ → ℕ → List ℕ → List ℕ
-value_lines zero rows policy depth kind value =
-    label_text rows policy depth kind ++ value_line (shape_in rows policy kind) value
-value_lines (suc levels) rows policy depth kind value =
-    label_text rows policy depth kind ++ by_nest (nest_of (shape_in rows policy kind))
-    (λ inner. nest_line (nest_start (shape_in rows policy kind)) value
-    ++ lines_in (value_lines levels rows inner (depth + 1)) (nest_block (shape_in rows policy kind) value))
-    (value_line (shape_in rows policy kind) value)
+unfoldable pub value_lines : ℕ → Scope → ℕ → ℕ → ℕ → List ℕ → List ℕ
+value_lines zero scope policy depth kind value =
+    label_text scope.0 policy depth kind ++ value_line (shape_among scope policy kind) value
+value_lines (suc levels) scope policy depth kind value =
+    label_text scope.0 policy depth kind ++ by_nest (nest_of (shape_among scope policy kind))
+    (λ inner. nest_line (nest_start (shape_among scope policy kind)) value
+    ++ lines_in (value_lines levels (within scope.0 (nest_block (shape_among scope policy kind) value)) inner (depth + 1))
+    (nest_block (shape_among scope policy kind) value))
+    (value_line (shape_among scope policy kind) value)
+
+-- the lines of the attributes of a block
+abbrev pub block_lines : ℕ → List Row → ℕ → ℕ → List ℕ → List ℕ
+block_lines levels rows policy depth block = lines_in (value_lines levels (within rows block) policy depth) block
 
 -- the size of values of a shape; 0 if it is not fixed
 abbrev pub fixed_size : Shape → ℕ
@@ -132,4 +130,4 @@ field_lines (field ∷ more) header = field_line field header ++ field_lines mor
 abbrev pub message_text : ℕ → List Field → List Row → ℕ → List ℕ → List ℕ
 message_text size fields rows t bytes =
     codes "type " ++ (decimal t ++ (codes "\n" ++ (field_lines fields (take size bytes)
-    ++ lines_in (value_lines nest_levels rows 0 0) (drop size bytes))))
+    ++ block_lines nest_levels rows 0 0 (drop size bytes))))

@@ -8,8 +8,9 @@ use Rattle.netlink_packet_core.specs.StartLaws.{nothing_starts, starts-attribute
 use Rattle.netlink_packet_core.specs.Views.{attribute_of}
 use Rattle.netlink_packet_core.specs.Walk.{IsFault, Starts}
 use Rattle.netlink_family.specs.ErrorLaws.{malformed_whole, whole_starts}
-use Rattle.netlink_family.specs.Shapes.{Row, by_nest, nest_block, nest_of, nest_start, shape_in}
-use Rattle.netlink_family.specs.Show.{value_line, before_error, label_text, lines_in, nest_line, value_lines}
+use Rattle.netlink_family.specs.Shapes.{Scope, by_nest, nest_block, nest_of, nest_start, shape_among}
+use Rattle.netlink_family.specs.Listing.{before_error}
+use Rattle.netlink_family.specs.Show.{value_line, block_lines, label_text, nest_line, value_lines}
 use Rattle.netlink_family.specs.declared.shape.Shape.{Shape}
 
 -- ---- blocks
@@ -62,41 +63,41 @@ before_nothing (b ∷ more) none = absurd (cc)
 -- ---- attributes
 
 -- an attribute that is not a nest, or is too deep
-pub lines_flat : (levels : ℕ) (rows : List Row) (policy depth kind : ℕ) (value : List ℕ)
-    (shape : Shape) → shape ≡ shape_in rows policy kind → nest_of shape ≡ None
-    → value_lines levels rows policy depth kind value ≡ label_text rows policy depth kind ++ value_line shape value
+pub lines_flat : (levels : ℕ) (scope : Scope) (policy depth kind : ℕ) (value : List ℕ)
+    (shape : Shape) → shape ≡ shape_among scope policy kind → nest_of shape ≡ None
+    → value_lines levels scope policy depth kind value ≡ label_text scope.0 policy depth kind ++ value_line shape value
 unfolding value_lines
-lines_flat zero rows policy depth kind value shape same flat =
-    ap (λ (s : Shape). label_text rows policy depth kind ++ value_line s value) (sym same)
-lines_flat (suc levels) rows policy depth kind value shape same flat =
-    ap (λ (n : Option ℕ). label_text rows policy depth kind ++ by_nest n
-    (λ inner. nest_line (nest_start (shape_in rows policy kind)) value
-    ++ lines_in (value_lines levels rows inner (depth + 1)) (nest_block (shape_in rows policy kind) value))
-    (value_line (shape_in rows policy kind) value)) (ap nest_of (sym same) ∙ flat)
-    ∙ ap (λ (s : Shape). label_text rows policy depth kind ++ value_line s value) (sym same)
+lines_flat zero scope policy depth kind value shape same flat =
+    ap (λ (s : Shape). label_text scope.0 policy depth kind ++ value_line s value) (sym same)
+lines_flat (suc levels) scope policy depth kind value shape same flat =
+    ap (λ (n : Option ℕ). label_text scope.0 policy depth kind ++ by_nest n
+    (λ inner. nest_line (nest_start (shape_among scope policy kind)) value
+    ++ block_lines levels scope.0 inner (depth + 1) (nest_block (shape_among scope policy kind) value))
+    (value_line (shape_among scope policy kind) value)) (ap nest_of (sym same) ∙ flat)
+    ∙ ap (λ (s : Shape). label_text scope.0 policy depth kind ++ value_line s value) (sym same)
 
-pub lines_deep : (levels : ℕ) (rows : List Row) (policy depth kind : ℕ) (value : List ℕ)
-    (shape : Shape) → shape ≡ shape_in rows policy kind → levels ≡ 0 → value_lines levels rows policy depth kind value
-    ≡ label_text rows policy depth kind ++ value_line shape value
+pub lines_deep : (levels : ℕ) (scope : Scope) (policy depth kind : ℕ) (value : List ℕ)
+    (shape : Shape) → shape ≡ shape_among scope policy kind → levels ≡ 0 → value_lines levels scope policy depth kind value
+    ≡ label_text scope.0 policy depth kind ++ value_line shape value
 unfolding value_lines
-lines_deep zero rows policy depth kind value shape same deep =
-    ap (λ (s : Shape). label_text rows policy depth kind ++ value_line s value) (sym same)
-lines_deep (suc levels) rows policy depth kind value shape same deep = absurd (omega arith)
+lines_deep zero scope policy depth kind value shape same deep =
+    ap (λ (s : Shape). label_text scope.0 policy depth kind ++ value_line s value) (sym same)
+lines_deep (suc levels) scope policy depth kind value shape same deep = absurd (omega arith)
 
-pub lines_nest : (levels : ℕ) (rows : List Row) (policy depth kind : ℕ) (value : List ℕ)
-    (shape : Shape) (inner : ℕ) → shape ≡ shape_in rows policy kind → nest_of shape ≡ Some inner → 0 < levels
-    → value_lines levels rows policy depth kind value ≡ label_text rows policy depth kind
+pub lines_nest : (levels : ℕ) (scope : Scope) (policy depth kind : ℕ) (value : List ℕ)
+    (shape : Shape) (inner : ℕ) → shape ≡ shape_among scope policy kind → nest_of shape ≡ Some inner → 0 < levels
+    → value_lines levels scope policy depth kind value ≡ label_text scope.0 policy depth kind
     ++ (nest_line (nest_start shape) value
-    ++ lines_in (value_lines (levels - 1) rows inner (depth + 1)) (nest_block shape value))
+    ++ block_lines (levels - 1) scope.0 inner (depth + 1) (nest_block shape value))
 unfolding value_lines
-lines_nest zero rows policy depth kind value shape inner same nest some = absurd (omega arith)
-lines_nest (suc levels) rows policy depth kind value shape inner same nest some =
+lines_nest zero scope policy depth kind value shape inner same nest some = absurd (omega arith)
+lines_nest (suc levels) scope policy depth kind value shape inner same nest some =
     let e : suc levels - 1 ≡ levels = omega arith in
-    ap (λ (s : Shape). label_text rows policy depth kind ++ by_nest (nest_of s)
+    ap (λ (s : Shape). label_text scope.0 policy depth kind ++ by_nest (nest_of s)
     (λ inner. nest_line (nest_start s) value
-    ++ lines_in (value_lines levels rows inner (depth + 1)) (nest_block s value)) (value_line s value)) (sym same)
-    ∙ ap (λ (n : Option ℕ). label_text rows policy depth kind ++ by_nest n
+    ++ block_lines levels scope.0 inner (depth + 1) (nest_block s value)) (value_line s value)) (sym same)
+    ∙ ap (λ (n : Option ℕ). label_text scope.0 policy depth kind ++ by_nest n
     (λ inner. nest_line (nest_start shape) value
-    ++ lines_in (value_lines levels rows inner (depth + 1)) (nest_block shape value)) (value_line shape value)) nest
-    ∙ ap (λ (n : ℕ). label_text rows policy depth kind ++ (nest_line (nest_start shape) value
-    ++ lines_in (value_lines n rows inner (depth + 1)) (nest_block shape value))) (sym e)
+    ++ block_lines levels scope.0 inner (depth + 1) (nest_block shape value)) (value_line shape value)) nest
+    ∙ ap (λ (n : ℕ). label_text scope.0 policy depth kind ++ (nest_line (nest_start shape) value
+    ++ block_lines n scope.0 inner (depth + 1) (nest_block shape value))) (sym e)

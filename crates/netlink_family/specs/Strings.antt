@@ -1,7 +1,20 @@
 -- Strings with or without a NUL at the end.
 use Rattle.std.specs.Prelude.{ℕ, zero, suc, ◌≡◌, ◌⊎◌, Bool, true, false, List, [], ◌∷◌, ◌++◌, take, refl}
 use Rattle.std.proofs.Common.{ap, inl, inr}
-use Rattle.netlink_family.specs.Shapes.{nul_only_last}
+
+-- the last byte is the only NUL
+abbrev pub nul_terminated : List ℕ → Bool
+nul_terminated [] = false
+nul_terminated (zero ∷ []) = true
+nul_terminated (zero ∷ b ∷ more) = false
+nul_terminated (suc b ∷ more) = nul_terminated more
+
+-- no byte but the last may be NUL
+abbrev pub nul_only_last : List ℕ → Bool
+nul_only_last [] = true
+nul_only_last (zero ∷ []) = true
+nul_only_last (zero ∷ b ∷ more) = false
+nul_only_last (suc b ∷ more) = nul_only_last more
 
 -- the offset of the first NUL, or the length if there is none
 abbrev pub nul_offset : List ℕ → ℕ

@@ -2,10 +2,11 @@
 
 ghost use Rattle.std.specs.Prelude.{◌≡◌, ◌+◌, ◌≤◌, ◌<◌, ◌^◌, Some, length, true};
 ghost use Rattle.netlink_family.specs.ErrorTexts.{attribute_error_text, reason_text};
-ghost use Rattle.netlink_family.specs.Errors.{reason_of, decode_reason, error_in, left_after, value_error};
-ghost use Rattle.netlink_family.specs.Shapes.{rows_in, are_sorted};
+ghost use Rattle.netlink_family.specs.Errors.{reason_of, decode_reason, left_after, nest_error, value_error};
+ghost use Rattle.netlink_family.specs.Shapes.{rows_in, within, are_sorted};
 
-use crate::shape::{Row, Shape, has_shape, nest_block, policy_of, row_shape};
+use crate::choice::shape_among;
+use crate::shape::{Row, Shape, has_shape, nest_block, policy_of};
 use netlink_packet_core::{DecodeError, NlasIterator, nla_align};
 use std::fmt;
 
@@ -80,6 +81,12 @@ pub enum Reason {
         /// The kind of the attribute.
         kind: u16,
     },
+    /// The attribute would choose its own shape, or that of an attribute before it. Only `push` and
+    /// `try_push` return this.
+    LateChoice {
+        /// The kind of the attribute.
+        kind: u16,
+    },
 }
 
 impl fmt::Display for Reason {
@@ -130,6 +137,10 @@ impl fmt::Display for Reason {
                 "attribute {kind} has an address of {received} bytes instead of 4 or 16"
             ),
             Reason::TooDeep { kind } => { write!(f, "attribute {kind} is nested too deeply") }
+            Reason::LateChoice { kind } => write!(
+                f,
+                "attribute {kind} comes after an attribute whose shape it chooses"
+            ),
         }
     }
 }
@@ -146,21 +157,23 @@ impl fmt::Display for AttributeError {
     }
 }
 
-/// Returns the error of the value of the attribute at offset `at`, if it has one.
+/// Returns the error of the value of the attribute at offset `at` in the block `around`, if it has
+/// one.
 #[cycle(errors)]
 pub(crate) fn value_error(
     levels: u8,
     rows: &[Row],
     policy: u16,
+    around: &[u8],
     at: usize,
     kind: u16,
     value: &[u8],
 ) -> Option<AttributeError>
     requires sorted { are_sorted (rows_in rows.now) ≡ true }
     requires inside { at + 4 + length value.now < 2 ^ 64 }
-    ensures { result ≡ value_error levels (rows_in rows.now) policy at kind value.now }
+    ensures { result ≡ value_error levels (within (rows_in rows.now) around.now) policy at kind value.now }
 {
-    let shape = row_shape(rows, policy, kind);
+    let shape = shape_among(rows, policy, around, kind);
     if !has_shape(shape, value) {
         return Some(AttributeError {
             offset: at,
@@ -195,14 +208,15 @@ pub(crate) fn error_in(
 ) -> Option<AttributeError>
     requires sorted { are_sorted (rows_in rows.now) ≡ true }
     requires inside { length block.now ≤ end }
-    ensures { result ≡ error_in levels (rows_in rows.now) policy end block.now }
+    ensures { result ≡ nest_error levels (rows_in rows.now) policy end block.now }
 {
     let mut left = block.len();
     for item in NlasIterator::new(block) {
         let offset = end - left;
         match item {
             Ok(nla) => {
-                let error = value_error(levels, rows, policy, offset, nla.raw_kind(), nla.value());
+                let kind = nla.raw_kind();
+                let error = value_error(levels, rows, policy, block, offset, kind, nla.value());
                 if error.is_some() {
                     return error;
                 }
@@ -259,7 +273,7 @@ fn reason_of(shape: Shape, kind: u16, value: &[u8]) -> Reason
 {
     let received = value.len();
     let expected = match shape {
-        Shape::Flag | Shape::Bytes => 0,
+        Shape::Flag | Shape::Chosen { .. } | Shape::Bytes => 0,
         Shape::U8 => 1,
         Shape::U16 | Shape::Be16 => 2,
         Shape::U32 | Shape::I32 | Shape::Be32 => 4,

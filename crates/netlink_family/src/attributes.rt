@@ -3,10 +3,11 @@
 ghost use Rattle.std.specs.Prelude.{◌≡◌, true};
 ghost use Rattle.std.specs.Iterator.{at_most};
 ghost use Rattle.netlink_packet_core.specs.Steps.{item_bound, unread};
-ghost use Rattle.netlink_family.specs.Shapes.{CachesOther, rows_in, are_sorted};
+ghost use Rattle.netlink_family.specs.Shapes.{CachesOther, rows_in, within, are_sorted};
 ghost use Rattle.netlink_family.specs.Iteration.{AreShaped, YieldsValue};
 
-use crate::shape::{Row, Shape, cached_shape};
+use crate::choice::cached_shape_among;
+use crate::shape::{Row, Shape};
 use crate::value::{Value, value_in};
 use netlink_packet_core::NlasIterator;
 
@@ -20,10 +21,12 @@ pub struct Attributes<'a> {
     pub rows: &'static [Row],
     /// The policy that the attributes belong to.
     pub policy: u16,
+    /// All attributes of the block.
+    pub block: &'a [u8],
     /// The shape of the kinds without a row, once it has been looked up.
     pub other: Option<Shape>,
     pub ghost sorted: { are_sorted (rows_in rows.now) ≡ true },
-    pub ghost shaped: { ∥ AreShaped (rows_in rows.now) policy (unread walk) ∥₁ },
+    pub ghost shaped: { ∥ AreShaped (within (rows_in rows.now) block.now) policy (unread walk) ∥₁ },
     pub ghost kept: { CachesOther (rows_in rows.now) policy other },
 }
 
@@ -31,8 +34,9 @@ impl<'a> Iterator for Attributes<'a> {
     type Item = (u16, Value<'a>);
 
     ghost next_gives = { λ before item after.
-        YieldsValue (rows_in before.rows.now) before.policy (unread before.walk) item (unread after.walk)
-        × (after.rows ≡ before.rows) × (after.policy ≡ before.policy) };
+        YieldsValue (within (rows_in before.rows.now) before.block.now) before.policy (unread before.walk) item
+        (unread after.walk)
+        × (after.rows ≡ before.rows) × (after.policy ≡ before.policy) × (after.block ≡ before.block) };
 
     ghost remaining = { λ all. at_most (item_bound (unread all.walk)) };
 
@@ -42,7 +46,13 @@ impl<'a> Iterator for Attributes<'a> {
         match item {
             Ok(nla) => {
                 let kind = nla.raw_kind();
-                let shape = cached_shape(self.rows, self.policy, kind, &mut self.other);
+                let shape = cached_shape_among(
+                    self.rows,
+                    self.policy,
+                    self.block,
+                    kind,
+                    &mut self.other,
+                );
                 return Some((kind, value_in(self.rows, shape, nla.value())));
             }
             Err(_) => return None,

@@ -10,11 +10,12 @@ ghost use Rattle.netlink_packet_core.specs.Walk.{Walk};
 ghost use Rattle.netlink_family.specs.Blocks.{all_normalized};
 ghost use Rattle.netlink_family.specs.ErrorTexts.{wants_memory};
 ghost use Rattle.netlink_family.specs.Errors.{block_error};
-ghost use Rattle.netlink_family.specs.Shapes.{CachesOther, fits_kind, is_block_shaped, nest_levels, reading_by, rows_in, shape_in, are_sorted};
+ghost use Rattle.netlink_family.specs.Shapes.{CachesOther, are_shaped, fits_kind, is_block_shaped, nest_levels, reading_by, rows_in, shape_among, within, are_sorted};
 
 use crate::attribute_error::{AttributeError, error_in, value_error};
+use crate::choice::cached_shape_among;
 use crate::error::FamilyError;
-use crate::shape::{NEST_LEVELS, Row, Shape, TOP, cached_shape, has_shape, policy_of};
+use crate::shape::{NEST_LEVELS, Row, Shape, TOP, has_shape, policy_of};
 use netlink_packet_core::{NlasIterator, append_nla, nla_align};
 use std::alloc::{AllocError, Global};
 
@@ -32,7 +33,7 @@ pub(crate) fn append_block(
     requires inside { length block.now ≤ end }
     ensures ok { OnOk result
         ((all : List Attribute) × Walk block.now all None
-        × (all_normalized (reading_by (rows_in rows.now)) all ≡ Some all)
+        × (all_normalized (reading_by (rows_in rows.now) all) all ≡ Some all)
         × (bytes.new.items ≡ bytes.old.items ++ canonical_block all)) }
     ensures good { OnOk result (block_error (rows_in rows.now) end block.now ≡ None) }
     ensures error { IfErr result (λ e. wants_memory e ≡ false
@@ -63,7 +64,7 @@ fn check_block(rows: &[Row], block: &[u8]) -> Option<bool>
     for item in NlasIterator::new(block) {
         match item {
             Ok(nla) => {
-                if !fits_kind(rows, &mut other, nla.raw_kind(), nla.value()) {
+                if !fits_kind(rows, &mut other, block, nla.raw_kind(), nla.value()) {
                     return None;
                 }
                 let size = nla.length() as usize;
@@ -76,57 +77,57 @@ fn check_block(rows: &[Row], block: &[u8]) -> Option<bool>
     Some(canonical)
 }
 
-/// Returns whether a value has the shape of its kind in the policy `TOP`. Keeps the shape of the
-/// kinds without a row in `other`.
+/// Returns whether a value of a message's block has the shape of its kind in the policy `TOP`. Keeps
+/// the shape of the kinds without a row in `other`.
 #[inline(always)]
-fn fits_kind(rows: &[Row], other: &mut Option<Shape>, kind: u16, value: &[u8]) -> bool
+fn fits_kind(rows: &[Row], other: &mut Option<Shape>, block: &[u8], kind: u16, value: &[u8]) -> bool
     requires sorted { are_sorted (rows_in rows.now) ≡ true }
     requires other { CachesOther (rows_in rows.now) 0 other.old }
     requires fits { length value.now ≤ value_max }
-    ensures fits { result ≡ fits_kind (rows_in rows.now) kind value.now }
+    ensures fits { result ≡ fits_kind (within (rows_in rows.now) block.now) kind value.now }
     ensures other { CachesOther (rows_in rows.now) 0 other.new }
 {
-    let shape = cached_shape(rows, TOP, kind, other);
-    fits_shape(rows, shape, kind, value)
+    let shape = cached_shape_among(rows, TOP, block, kind, other);
+    fits_shape(rows, block, shape, kind, value)
 }
 
 /// The same if the shape of the kind is already known.
 #[inline(always)]
 #[tactic(auto, using(crate::specs::NestLaws::flat_step))]
-pub(crate) fn fits_shape(rows: &[Row], shape: Shape, kind: u16, value: &[u8]) -> bool
+pub(crate) fn fits_shape(rows: &[Row], block: &[u8], shape: Shape, kind: u16, value: &[u8]) -> bool
     requires sorted { are_sorted (rows_in rows.now) ≡ true }
-    requires shape { shape ≡ shape_in (rows_in rows.now) 0 kind }
+    requires shape { shape ≡ shape_among (within (rows_in rows.now) block.now) 0 kind }
     requires fits { length value.now ≤ value_max }
-    ensures { result ≡ fits_kind (rows_in rows.now) kind value.now }
+    ensures { result ≡ fits_kind (within (rows_in rows.now) block.now) kind value.now }
 {
     match policy_of(shape) {
         None => has_shape(shape, value),
-        Some(_) => fits_nest(rows, kind, value),
+        Some(_) => fits_nest(rows, block, kind, value),
     }
 }
 
 /// The same for a nest. It is a separate function so that other values do not initialize the space
 /// for an error.
 #[inline(never)]
-fn fits_nest(rows: &[Row], kind: u16, value: &[u8]) -> bool
+fn fits_nest(rows: &[Row], block: &[u8], kind: u16, value: &[u8]) -> bool
     requires sorted { are_sorted (rows_in rows.now) ≡ true }
     requires fits { length value.now ≤ value_max }
-    ensures { result ≡ fits_kind (rows_in rows.now) kind value.now }
+    ensures { result ≡ fits_kind (within (rows_in rows.now) block.now) kind value.now }
 {
-    value_error(NEST_LEVELS, rows, TOP, 0, kind, value).is_none()
+    value_error(NEST_LEVELS, rows, TOP, block, 0, kind, value).is_none()
 }
 
-/// Returns whether the attributes of a walk have the shapes of their kinds, and the walk has no
-/// error.
-pub(crate) fn has_shapes(rows: &[Row], walk: NlasIterator<&[u8]>) -> bool
+/// Returns whether the attributes of a walk in a block have the shapes of their kinds, and the walk
+/// has no error.
+pub(crate) fn has_shapes(rows: &[Row], block: &[u8], walk: NlasIterator<&[u8]>) -> bool
     requires sorted { are_sorted (rows_in rows.now) ≡ true }
-    ensures { result ≡ is_block_shaped nest_levels (rows_in rows.now) 0 (unread walk.entry) }
+    ensures { result ≡ are_shaped nest_levels (within (rows_in rows.now) block.now) 0 (unread walk.entry) }
 {
     let mut other = None;
     for item in walk {
         match item {
             Ok(nla) => {
-                if !fits_kind(rows, &mut other, nla.raw_kind(), nla.value()) {
+                if !fits_kind(rows, &mut other, block, nla.raw_kind(), nla.value()) {
                     return false;
                 }
             }

@@ -8,14 +8,15 @@ ghost use Rattle.netlink_packet_core.specs.Reading.{attributes_in};
 ghost use Rattle.netlink_packet_core.specs.Steps.{item_bound, unread};
 ghost use Rattle.netlink_family.specs.Blocks.{block_fits};
 ghost use Rattle.netlink_family.specs.Iteration.{YieldsChecked};
-ghost use Rattle.netlink_family.specs.Errors.{block_error, family_error, too_long_error};
-ghost use Rattle.netlink_family.specs.Shapes.{or_first, rows_in, are_sorted};
+ghost use Rattle.netlink_family.specs.Errors.{block_error, family_error, rest_error, too_long_error};
+ghost use Rattle.netlink_family.specs.Shapes.{or_first, rows_in, within, are_sorted};
 
 use crate::attribute_error::{AttributeError, error_in};
 use crate::block::{block_error, fits_shape};
+use crate::choice::shape_among;
 use crate::error::{FamilyError, header_short};
 use crate::family::{Table, rows_of};
-use crate::shape::{NEST_LEVELS, Row, TOP, row_shape};
+use crate::shape::{NEST_LEVELS, Row, TOP};
 use crate::value::{Value, value_in};
 use netlink_packet_core::{NLA_BLOCK_MAX, NlasIterator};
 use std::marker::PhantomData;
@@ -26,7 +27,7 @@ use std::marker::PhantomData;
 pub struct CheckedAttributes<'a, F: Table> {
     /// The rest of the walk.
     pub walk: NlasIterator<&'a [u8]>,
-    /// All attributes, or none after an error.
+    /// All attributes.
     pub block: &'a [u8],
     /// The offset of their end in the payload.
     pub end: usize,
@@ -38,8 +39,10 @@ pub struct CheckedAttributes<'a, F: Table> {
     pub family: PhantomData<F>,
     pub ghost table: { rows_in rows.now ≡ F.rows message_type },
     pub ghost inside: { length block.now ≤ end },
-    pub ghost passed: { block_error (F.rows message_type) end block.now
-        ≡ block_error (F.rows message_type) end (unread walk) },
+    // an error of the rest is that of the whole
+    pub ghost passed: { is_none (rest_error (within (F.rows message_type) block.now) end (unread walk)) ≡ false
+        → block_error (F.rows message_type) end block.now
+        ≡ rest_error (within (F.rows message_type) block.now) end (unread walk) },
 }
 
 impl<'a, F: Table> CheckedAttributes<'a, F> {
@@ -50,7 +53,8 @@ impl<'a, F: Table> CheckedAttributes<'a, F> {
         ensures error { IfErr result (λ e. family_error F.types F.header_len F.rows message_type payload.now ≡ Some e) }
         ensures later { IfOk result (λ all. family_error F.types F.header_len F.rows message_type payload.now
             ≡ option_map FamilyError.InvalidAttribute
-            (block_error (F.rows message_type) (length payload.now) (unread all.walk))) }
+            (rest_error (within (F.rows message_type) all.block.now) (length payload.now) (unread all.walk))) }
+        ensures block { IfOk result (λ all. all.block.now ≡ unread all.walk) }
         ensures walk { IfOk result (λ all. unread all.walk ≡ drop (F.header_len message_type) payload.now) }
         ensures end { IfOk result (λ all. all.end ≡ length payload.now) }
         ensures message_type { IfOk result (λ all. all.message_type ≡ message_type) }
@@ -82,15 +86,17 @@ impl<'a, F: Table> CheckedAttributes<'a, F> {
     #[cold]
     #[inline(never)]
     pub(crate) fn stop(&mut self) -> AttributeError
-        requires { is_none (block_error (F.rows self.old.message_type) self.old.end (unread self.old.walk)) ≡ false }
-        ensures error { block_error (F.rows self.old.message_type) self.old.end (unread self.old.walk) ≡ Some result }
+        requires { is_none (rest_error (within (F.rows self.old.message_type) self.old.block.now) self.old.end
+            (unread self.old.walk)) ≡ false }
+        ensures error { rest_error (within (F.rows self.old.message_type) self.old.block.now) self.old.end
+            (unread self.old.walk) ≡ Some result }
         ensures walk { unread self.new.walk ≡ [] }
         ensures end { self.new.end ≡ self.old.end }
+        ensures block { self.new.block ≡ self.old.block }
         ensures message_type { self.new.message_type ≡ self.old.message_type }
     {
         let error = block_error(self.rows, self.end, self.block);
         self.walk = NlasIterator::new(&[]);
-        self.block = &[];
         error
     }
 
@@ -98,11 +104,13 @@ impl<'a, F: Table> CheckedAttributes<'a, F> {
     /// space for an error.
     #[inline(always)]
     fn last(&mut self) -> Option<Result<(u16, Value<'a>), AttributeError>>
-        requires { is_none (block_error (F.rows self.old.message_type) self.old.end (unread self.old.walk)) ≡ false }
-        ensures item { YieldsChecked (F.rows self.old.message_type) self.old.end (unread self.old.walk) result
-            (unread self.new.walk) }
+        requires { is_none (rest_error (within (F.rows self.old.message_type) self.old.block.now) self.old.end
+            (unread self.old.walk)) ≡ false }
+        ensures item { YieldsChecked (within (F.rows self.old.message_type) self.old.block.now) self.old.end
+            (unread self.old.walk) result (unread self.new.walk) }
         ensures walk { unread self.new.walk ≡ [] }
         ensures end { self.new.end ≡ self.old.end }
+        ensures block { self.new.block ≡ self.old.block }
         ensures message_type { self.new.message_type ≡ self.old.message_type }
     {
         Some(Err(self.stop()))
@@ -138,8 +146,9 @@ impl<'a, F: Table> Iterator for CheckedAttributes<'a, F> {
     type Item = Result<(u16, Value<'a>), AttributeError>;
 
     ghost next_gives = { λ before item after.
-        YieldsChecked (F.rows before.message_type) before.end (unread before.walk) item (unread after.walk)
-        × (after.message_type ≡ before.message_type) × (after.end ≡ before.end) };
+        YieldsChecked (within (F.rows before.message_type) before.block.now) before.end (unread before.walk) item
+        (unread after.walk)
+        × (after.message_type ≡ before.message_type) × (after.end ≡ before.end) × (after.block ≡ before.block) };
 
     ghost remaining = { λ all. at_most (item_bound (unread all.walk)) };
 
@@ -151,8 +160,8 @@ impl<'a, F: Table> Iterator for CheckedAttributes<'a, F> {
             Ok(nla) => {
                 let kind = nla.raw_kind();
                 let value = nla.value();
-                let shape = row_shape(self.rows, TOP, kind);
-                if fits_shape(self.rows, shape, kind, value) {
+                let shape = shape_among(self.rows, TOP, self.block, kind);
+                if fits_shape(self.rows, self.block, shape, kind, value) {
                     self.walk = walk;
                     return Some(Ok((kind, value_in(self.rows, shape, value))));
                 }

@@ -4,15 +4,16 @@ ghost use Rattle.std.specs.Prelude.{◌≡◌, ◌↔◌, None, Some, IfNone, If
 ghost use Rattle.std.specs.Str.{IsUtf8};
 ghost use Rattle.netlink_packet_core.specs.Steps.{unread};
 ghost use Rattle.netlink_family.specs.Finding.{be16_by, be32_by, be64_by, bytes_by, exact_by, found_at, i32_by, i64_by, ip_by, nest_by, nest_header_by, policy_by, shape_at, str_by, u16_by, u32_by, u64_by, u8_by};
-ghost use Rattle.netlink_family.specs.Shapes.{fits_in, nest_start, rows_in};
+ghost use Rattle.netlink_family.specs.Shapes.{fits_in, nest_start, rows_in, within};
 ghost use Rattle.netlink_family.specs.Iteration.{AreShaped};
 ghost use Rattle.netlink_family.specs.Values.{NestHasRows, IsValueOf, value_shape};
 
 use crate::attributes::Attributes;
 use crate::block_view::BlockView;
+use crate::choice::shape_among;
 use crate::find::first_value;
 use crate::header_view::HeaderView;
-use crate::shape::{Shape, nest_block, policy_of, row_shape};
+use crate::shape::{Shape, nest_block, policy_of};
 use crate::value::{
     Value, be16_in, be32_in, be64_in, bytes_until_nul, i32_in, i64_in, str_until_nul, u16_in,
     u32_in, u64_in, value_in,
@@ -20,11 +21,20 @@ use crate::value::{
 use netlink_packet_core::NlasIterator;
 
 impl<'a> BlockView<'a> {
+    /// Returns the shape of this kind in the block. For a kind whose shape is `Chosen`, that is the
+    /// shape that the first attribute of the choosing kind chooses.
+    #[inline(always)]
+    pub fn shape(&self, kind: u16) -> Shape
+        ensures { result ≡ shape_at self.now kind }
+    {
+        shape_among(self.rows, self.policy, self.block, kind)
+    }
+
     /// Returns the value of the first attribute of this kind as bytes, whatever its shape.
     pub fn first(&self, kind: u16) -> Option<&'a [u8]>
         ensures some { IfSome result (λ v. found_at self.now kind ≡ Some v.now) }
         ensures none { IfNone result (found_at self.now kind ≡ None) }
-        ensures shaped { IfSome result (λ v. fits_in (rows_in self.now.rows.now) self.now.policy kind v.now ≡ true) }
+        ensures shaped { IfSome result (λ v. fits_in (within (rows_in self.now.rows.now) self.now.block.now) self.now.policy kind v.now ≡ true) }
     {
         are_shaped(self, self.block);
         first_value(self.block, kind)
@@ -40,7 +50,7 @@ impl<'a> BlockView<'a> {
         ensures nest { IfSome result (λ v. NestHasRows (rows_in self.now.rows.now) v) }
     {
         let bytes = self.first(kind)?;
-        Some(value_in(self.rows, row_shape(self.rows, self.policy, kind), bytes))
+        Some(value_in(self.rows, self.shape(kind), bytes))
     }
 
     /// Returns a view of the attributes in the first attribute of this kind. Returns `None` if and
@@ -53,7 +63,7 @@ impl<'a> BlockView<'a> {
         ensures policy { IfSome result (λ v. v.policy ≡ policy_by (shape_at self.now kind)) }
         ensures rows { IfSome result (λ v. v.rows.now ≡ self.now.rows.now) }
     {
-        let shape = row_shape(self.rows, self.policy, kind);
+        let shape = self.shape(kind);
         match policy_of(shape) {
             Some(policy) => Some(BlockView {
                 rows: self.rows,
@@ -73,7 +83,7 @@ impl<'a> BlockView<'a> {
         ensures none { IfNone result (nest_header_by (shape_at self.now kind) (found_at self.now kind) ≡ None) }
         ensures size { IfSome result (λ v. length v.bytes.now ≡ nest_start (shape_at self.now kind)) }
     {
-        match row_shape(self.rows, self.policy, kind) {
+        match self.shape(kind) {
             Shape::HeaderNested { size, .. } => Some(HeaderView {
                 bytes: &self.first(kind)?[..size as usize],
             }),
@@ -87,7 +97,7 @@ impl<'a> BlockView<'a> {
     pub fn u8(&self, kind: u16) -> Option<u8>
         ensures { result ≡ u8_by (shape_at self.now kind) (found_at self.now kind) }
     {
-        match row_shape(self.rows, self.policy, kind) {
+        match self.shape(kind) {
             Shape::U8 => Some(self.first(kind)?[0]),
             _ => None,
         }
@@ -99,7 +109,7 @@ impl<'a> BlockView<'a> {
     pub fn u16(&self, kind: u16) -> Option<u16>
         ensures { result ≡ u16_by (shape_at self.now kind) (found_at self.now kind) }
     {
-        match row_shape(self.rows, self.policy, kind) {
+        match self.shape(kind) {
             Shape::U16 => Some(u16_in(self.first(kind)?)),
             _ => None,
         }
@@ -111,7 +121,7 @@ impl<'a> BlockView<'a> {
     pub fn u32(&self, kind: u16) -> Option<u32>
         ensures { result ≡ u32_by (shape_at self.now kind) (found_at self.now kind) }
     {
-        match row_shape(self.rows, self.policy, kind) {
+        match self.shape(kind) {
             Shape::U32 => Some(u32_in(self.first(kind)?)),
             _ => None,
         }
@@ -123,7 +133,7 @@ impl<'a> BlockView<'a> {
     pub fn u64(&self, kind: u16) -> Option<u64>
         ensures { result ≡ u64_by (shape_at self.now kind) (found_at self.now kind) }
     {
-        match row_shape(self.rows, self.policy, kind) {
+        match self.shape(kind) {
             Shape::U64 => Some(u64_in(self.first(kind)?)),
             _ => None,
         }
@@ -135,7 +145,7 @@ impl<'a> BlockView<'a> {
     pub fn i32(&self, kind: u16) -> Option<i32>
         ensures { result ≡ i32_by (shape_at self.now kind) (found_at self.now kind) }
     {
-        match row_shape(self.rows, self.policy, kind) {
+        match self.shape(kind) {
             Shape::I32 => Some(i32_in(self.first(kind)?)),
             _ => None,
         }
@@ -147,7 +157,7 @@ impl<'a> BlockView<'a> {
     pub fn i64(&self, kind: u16) -> Option<i64>
         ensures { result ≡ i64_by (shape_at self.now kind) (found_at self.now kind) }
     {
-        match row_shape(self.rows, self.policy, kind) {
+        match self.shape(kind) {
             Shape::I64 => Some(i64_in(self.first(kind)?)),
             _ => None,
         }
@@ -159,7 +169,7 @@ impl<'a> BlockView<'a> {
     pub fn be16(&self, kind: u16) -> Option<u16>
         ensures { result ≡ be16_by (shape_at self.now kind) (found_at self.now kind) }
     {
-        match row_shape(self.rows, self.policy, kind) {
+        match self.shape(kind) {
             Shape::Be16 => Some(be16_in(self.first(kind)?)),
             _ => None,
         }
@@ -171,7 +181,7 @@ impl<'a> BlockView<'a> {
     pub fn be32(&self, kind: u16) -> Option<u32>
         ensures { result ≡ be32_by (shape_at self.now kind) (found_at self.now kind) }
     {
-        match row_shape(self.rows, self.policy, kind) {
+        match self.shape(kind) {
             Shape::Be32 => Some(be32_in(self.first(kind)?)),
             _ => None,
         }
@@ -183,7 +193,7 @@ impl<'a> BlockView<'a> {
     pub fn be64(&self, kind: u16) -> Option<u64>
         ensures { result ≡ be64_by (shape_at self.now kind) (found_at self.now kind) }
     {
-        match row_shape(self.rows, self.policy, kind) {
+        match self.shape(kind) {
             Shape::Be64 => Some(be64_in(self.first(kind)?)),
             _ => None,
         }
@@ -196,7 +206,7 @@ impl<'a> BlockView<'a> {
         ensures some { IfSome result (λ v. str_by (shape_at self.now kind) (found_at self.now kind) ≡ Some v.now) }
         ensures none { IfNone result (str_by (shape_at self.now kind) (found_at self.now kind) ≡ None) }
     {
-        match row_shape(self.rows, self.policy, kind) {
+        match self.shape(kind) {
             Shape::NulStr | Shape::Str => Some(bytes_until_nul(self.first(kind)?)),
             _ => None,
         }
@@ -207,7 +217,7 @@ impl<'a> BlockView<'a> {
         ensures some { IfSome result (λ v. str_by (shape_at self.now kind) (found_at self.now kind) ≡ Some v.now) }
         ensures utf8 { IsSome result ↔ IsSomeAnd (str_by (shape_at self.now kind) (found_at self.now kind)) IsUtf8 }
     {
-        match row_shape(self.rows, self.policy, kind) {
+        match self.shape(kind) {
             Shape::NulStr | Shape::Str => str_until_nul(self.first(kind)?),
             _ => None,
         }
@@ -219,7 +229,7 @@ impl<'a> BlockView<'a> {
         ensures some { IfSome result (λ v. ip_by (shape_at self.now kind) (found_at self.now kind) ≡ Some v.now) }
         ensures none { IfNone result (ip_by (shape_at self.now kind) (found_at self.now kind) ≡ None) }
     {
-        match row_shape(self.rows, self.policy, kind) {
+        match self.shape(kind) {
             Shape::Ip => self.first(kind),
             _ => None,
         }
@@ -231,7 +241,7 @@ impl<'a> BlockView<'a> {
         ensures some { IfSome result (λ v. exact_by (shape_at self.now kind) (found_at self.now kind) ≡ Some v.now) }
         ensures none { IfNone result (exact_by (shape_at self.now kind) (found_at self.now kind) ≡ None) }
     {
-        match row_shape(self.rows, self.policy, kind) {
+        match self.shape(kind) {
             Shape::ExactLen(_) => self.first(kind),
             _ => None,
         }
@@ -243,7 +253,7 @@ impl<'a> BlockView<'a> {
         ensures some { IfSome result (λ v. bytes_by (shape_at self.now kind) (found_at self.now kind) ≡ Some v.now) }
         ensures none { IfNone result (bytes_by (shape_at self.now kind) (found_at self.now kind) ≡ None) }
     {
-        match row_shape(self.rows, self.policy, kind) {
+        match self.shape(kind) {
             Shape::Bytes | Shape::MinLen(_) => self.first(kind),
             _ => None,
         }
@@ -254,12 +264,14 @@ impl<'a> BlockView<'a> {
         ensures walk { unread result.walk ≡ self.now.block.now }
         ensures rows { result.rows.now ≡ self.now.rows.now }
         ensures policy { result.policy ≡ self.now.policy }
+        ensures block { result.block ≡ self.now.block }
     {
         are_shaped(self, self.block);
         Attributes {
             walk: NlasIterator::new(self.block),
             rows: self.rows,
             policy: self.policy,
+            block: self.block,
             other: None,
         }
     }
@@ -268,5 +280,5 @@ impl<'a> BlockView<'a> {
 /// A law: the attributes have the shapes of their kinds. Does nothing at run time.
 fn are_shaped(view: &BlockView<'_>, block: &[u8])
     requires { block.now ≡ view.now.block.now }
-    ensures { AreShaped (rows_in view.now.rows.now) view.now.policy block.now }
+    ensures { AreShaped (within (rows_in view.now.rows.now) view.now.block.now) view.now.policy block.now }
 {}

@@ -1,21 +1,19 @@
 //! Appending attributes to an owned message.
 
-ghost use Rattle.std.specs.Prelude.{◌≡◌, ◌++◌, Err, None, Some, IfErr, OnOk, false, true};
+ghost use Rattle.std.specs.Prelude.{◌≡◌, ◌++◌, drop, Err, None, Some, IfErr, OnOk, false, true};
 ghost use Rattle.netlink_packet_core.specs.Attribute.{padded};
 ghost use Rattle.netlink_packet_core.specs.Nla.{attribute_with};
 ghost use Rattle.netlink_packet_core.specs.Numbers.{bytes_be, bytes_le, unsigned};
 ghost use Rattle.netlink_family.specs.ErrorTexts.{wants_memory};
-ghost use Rattle.netlink_family.specs.Errors.{value_error};
-ghost use Rattle.netlink_family.specs.Pushing.{has_room, push_error, room_error};
-ghost use Rattle.netlink_family.specs.Shapes.{fits_kind, nest_levels, shape_in};
+ghost use Rattle.netlink_family.specs.Pushing.{added_error, has_room, late_error, push_error, room_error, satisfied_error};
+ghost use Rattle.netlink_family.specs.Shapes.{fits_kind, shape_in, within};
 ghost use Rattle.netlink_family.specs.Values.{is_satisfied, value_bytes, value_shape};
 ghost use Rattle.netlink_family.specs.declared.attribute_error.AttributeError.{AttributeError};
 
-use crate::attribute_error::value_error;
 use crate::error::FamilyError;
 use crate::family::{Table, rows_of};
+use crate::late::{added_error, late_error};
 use crate::owned::{OwnedMessage, header_fits};
-use crate::shape::{NEST_LEVELS, TOP};
 use crate::value::Value;
 use netlink_packet_core::{
     NLA_BLOCK_MAX, NLA_HEADER_SIZE, NLA_VALUE_MAX, append_nla, emit_i32, emit_i64, emit_u16,
@@ -25,10 +23,11 @@ use std::alloc::Global;
 
 impl<F: Table> OwnedMessage<F> {
     /// Appends an attribute whose kind is known only at run time, or a nest. Returns
-    /// `InvalidAttribute` if the value does not have the shape of its kind, with the offset counted from the start of the new attribute; `TooLong` if the value or
-    /// the message would be too long; `OutOfMemory` if the allocation fails. After an error the
-    /// message is unchanged.
-    #[tactic(auto, using(crate::specs::PushingLaws::push_by_value, crate::specs::PushingLaws::no_error_fits))]
+    /// `InvalidAttribute`, with the offset counted from the start of the new attribute, if the value
+    /// does not have the shape of its kind, or if the attribute would choose its own shape or that of
+    /// an attribute before it (`LateChoice`); `TooLong` if the value or the message would be too long;
+    /// `OutOfMemory` if the allocation fails. After an error the message is unchanged.
+    #[tactic(auto, using(crate::specs::PushingLaws::push_by_value))]
     pub fn try_push(&mut self, alloc: Global, kind: u16, value: &[u8]) -> Result<(), FamilyError>
         ensures ok { OnOk result
             (self.new.bytes.items ≡ self.old.bytes.items ++ padded (attribute_with kind value.now)) }
@@ -38,35 +37,41 @@ impl<F: Table> OwnedMessage<F> {
             → push_error (F.header_len self.old.message_type) (F.rows self.old.message_type)
             self.old.bytes.items kind value.now ≡ Some e) }
         ensures invalid { (f : AttributeError)
-            → value_error nest_levels (F.rows self.old.message_type) 0 0 kind value.now ≡ Some f
+            → added_error (within (F.rows self.old.message_type)
+            (drop (F.header_len self.old.message_type) self.old.bytes.items)) kind value.now ≡ Some f
             → result ≡ Err (FamilyError.InvalidAttribute f) }
         ensures unchanged { IfErr result (λ _. self.new.bytes.items ≡ self.old.bytes.items) }
         ensures message_type { self.new.message_type ≡ self.old.message_type }
     {
         let rows = rows_of::<F>(self.message_type);
-        match value_error(NEST_LEVELS, rows, TOP, 0, kind, value) {
+        match added_error(rows, self.block(), kind, value) {
             Some(error) => Err(FamilyError::InvalidAttribute(error)),
             None => self.append_attribute(alloc, kind, value),
         }
     }
 
     /// Appends an attribute. Requires that the table gives the kind the shape of the value, and that
-    /// the value satisfies its shape. Nests are appended by `try_push`. Returns `TooLong` if the
-    /// value or the message would be too long, and `OutOfMemory` if an allocation fails; the message
-    /// is then unchanged.
+    /// the value satisfies its shape. Nests are appended by `try_push`. Returns `InvalidAttribute` with
+    /// `LateChoice` if the attribute would choose the shape of one before it, `TooLong` if the value or
+    /// the message would be too long, and `OutOfMemory` if an allocation fails; the message is then
+    /// unchanged.
     pub fn push(&mut self, alloc: Global, kind: u16, value: Value<'_>) -> Result<(), FamilyError>
         requires shape { shape_in (F.rows self.old.message_type) 0 kind ≡ value_shape value }
         requires satisfied { is_satisfied value ≡ true }
         ensures ok { OnOk result
             (self.new.bytes.items ≡ self.old.bytes.items ++ padded (attribute_with kind (value_bytes value.entry))) }
-        ensures room { OnOk result
-            (room_error (F.header_len self.old.message_type) self.old.bytes.items (value_bytes value.entry) ≡ None) }
+        ensures room { OnOk result (satisfied_error (F.header_len self.old.message_type) (F.rows self.old.message_type)
+            self.old.bytes.items kind (value_bytes value.entry) ≡ None) }
         ensures error { IfErr result (λ e. wants_memory e ≡ false
-            → room_error (F.header_len self.old.message_type) self.old.bytes.items (value_bytes value.entry) ≡ Some e) }
+            → satisfied_error (F.header_len self.old.message_type) (F.rows self.old.message_type)
+            self.old.bytes.items kind (value_bytes value.entry) ≡ Some e) }
         ensures unchanged { IfErr result (λ _. self.new.bytes.items ≡ self.old.bytes.items) }
         ensures message_type { self.new.message_type ≡ self.old.message_type }
     {
         value_fits(self, kind, value);
+        if let Some(error) = late_error(rows_of::<F>(self.message_type), self.block(), kind) {
+            return Err(FamilyError::InvalidAttribute(error));
+        }
         match value {
             Value::Flag => self.append_attribute(alloc, kind, &[]),
             Value::U8(number) => self.append_attribute(alloc, kind, &[number]),
@@ -88,14 +93,26 @@ impl<F: Table> OwnedMessage<F> {
         }
     }
 
-    /// Appends an attribute whose value has the shape of its kind.
+    /// Returns the attributes.
+    fn block(&self) -> &[u8]
+        ensures { result.now ≡ drop (F.header_len self.now.message_type) self.now.bytes.items }
+    {
+        header_fits(self);
+        &self.bytes[F::header_len(self.message_type)..]
+    }
+
+    /// Appends an attribute whose value has the shape of its kind, and that does not change other
+    /// shapes.
     fn append_attribute(
         &mut self,
         alloc: Global,
         kind: u16,
         value: &[u8],
     ) -> Result<(), FamilyError>
-        requires shape { fits_kind (F.rows self.old.message_type) kind value.now ≡ true }
+        requires shape { fits_kind (within (F.rows self.old.message_type)
+            (drop (F.header_len self.old.message_type) self.old.bytes.items)) kind value.now ≡ true }
+        requires late { late_error (within (F.rows self.old.message_type)
+            (drop (F.header_len self.old.message_type) self.old.bytes.items)) kind ≡ None }
         ensures ok { OnOk result
             (self.new.bytes.items ≡ self.old.bytes.items ++ padded (attribute_with kind value.now)) }
         ensures room { OnOk result
@@ -130,7 +147,8 @@ impl<F: Table> OwnedMessage<F> {
 fn value_fits<F: Table>(message: &OwnedMessage<F>, kind: u16, value: Value<'_>)
     requires shape { shape_in (F.rows message.now.message_type) 0 kind ≡ value_shape value }
     requires satisfied { is_satisfied value ≡ true }
-    ensures { fits_kind (F.rows message.now.message_type) kind (value_bytes value.entry) ≡ true }
+    ensures { fits_kind (within (F.rows message.now.message_type)
+        (drop (F.header_len message.now.message_type) message.now.bytes.items)) kind (value_bytes value.entry) ≡ true }
 {}
 
 /// Encodes a `u16`.

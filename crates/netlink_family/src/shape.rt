@@ -50,6 +50,14 @@ pub enum Shape {
         /// The policy of the attributes.
         policy: u16,
     },
+    /// A shape that is chosen by the value of another attribute of the same block.
+    Chosen {
+        /// The kind of that attribute. The first one of the block counts, even after the chosen one.
+        by: u16,
+        /// The policy with a row for each value: its name is the value without a NUL, and its shape
+        /// is what the value chooses. Any other value chooses `Bytes`, and so does none at all.
+        policy: u16,
+    },
     /// Any bytes.
     Bytes,
 }
@@ -219,6 +227,7 @@ pub(crate) fn policy_of(shape: Shape) -> Option<u16>
         | Shape::NulStr
         | Shape::Str
         | Shape::MinLen(_)
+        | Shape::Chosen { .. }
         | Shape::Bytes => None,
     }
 }
@@ -272,7 +281,8 @@ fn has_nul_only_last(bytes: &[u8]) -> bool
     true
 }
 
-/// Returns whether a value has a shape. The attributes inside a nest are ignored.
+/// Returns whether a value has a shape. The attributes inside a nest are ignored. No value has a
+/// shape that is still to be chosen.
 #[inline(always)]
 pub(crate) fn has_shape(shape: Shape, value: &[u8]) -> bool
     ensures { result ≡ has_shape shape value.now }
@@ -289,6 +299,7 @@ pub(crate) fn has_shape(shape: Shape, value: &[u8]) -> bool
         Shape::Str => has_nul_only_last(value),
         Shape::MinLen(size) => value.len() >= size as usize,
         Shape::HeaderNested { size, .. } => value.len() >= size as usize,
+        Shape::Chosen { .. } => false,
         Shape::Nested(_) | Shape::Bytes => true,
     }
 }

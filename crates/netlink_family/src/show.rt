@@ -2,13 +2,14 @@
 
 ghost use Rattle.std.specs.Prelude.{◌≡◌, ◌+◌, ◌<◌, ◌++◌, [], ◌∷◌, IfOk, OnOk, decimal, drop, string_bytes, take, true};
 ghost use Rattle.std.specs.Fmt.{signed_decimal};
-ghost use Rattle.netlink_family.specs.Shapes.{fields_in, rows_in, are_sorted};
-ghost use Rattle.netlink_family.specs.Show.{value_line, each_of, field_lines, fixed_size, label_text, nest_line, indent, escaped, lines_in, message_text, name_in, value_lines, value_text};
+ghost use Rattle.netlink_family.specs.Shapes.{fields_in, rows_in, within, are_sorted};
+ghost use Rattle.netlink_family.specs.Show.{value_line, block_lines, each_of, field_lines, fixed_size, label_text, nest_line, indent, escaped, message_text, name_in, value_lines, value_text};
 
+use crate::choice::shape_among;
 use crate::family::{Table, rows_of};
 use crate::header_view::Field;
 use crate::shape::{
-    NEST_LEVELS, Row, Shape, TOP, find_row, has_shape, nest_block, nest_start, policy_of, row_shape,
+    NEST_LEVELS, Row, Shape, TOP, find_row, has_shape, nest_block, nest_start, policy_of,
 };
 use crate::value::{
     be16_in, be32_in, be64_in, bytes_until_nul, i32_in, i64_in, u16_in, u32_in, u64_in,
@@ -106,7 +107,7 @@ fn push_block(
     requires sorted { are_sorted (rows_in rows.now) ≡ true }
     requires room { depth + levels < 256 }
     ensures { OnOk result (string_bytes text.new ≡ string_bytes text.old
-        ++ lines_in (value_lines levels (rows_in rows.now) policy depth) block.now) }
+        ++ block_lines levels (rows_in rows.now) policy depth block.now) }
 {
     for item in NlasIterator::new(block) {
         match item {
@@ -117,6 +118,7 @@ fn push_block(
                     rows,
                     policy,
                     depth,
+                    block,
                     nla.raw_kind(),
                     nla.value(),
                 )?;
@@ -127,7 +129,7 @@ fn push_block(
     Ok(())
 }
 
-/// Appends the lines of an attribute.
+/// Appends the lines of an attribute of the block `around`.
 #[cycle(lines)]
 fn push_attribute(
     text: &mut String,
@@ -135,16 +137,17 @@ fn push_attribute(
     rows: &[Row],
     policy: u16,
     depth: u8,
+    around: &[u8],
     kind: u16,
     value: &[u8],
 ) -> Result<(), AllocError>
     requires sorted { are_sorted (rows_in rows.now) ≡ true }
     requires room { depth + levels < 256 }
     ensures { OnOk result (string_bytes text.new ≡ string_bytes text.old
-        ++ value_lines levels (rows_in rows.now) policy depth kind value.now) }
+        ++ value_lines levels (within (rows_in rows.now) around.now) policy depth kind value.now) }
 {
     push_label(text, rows, policy, depth, kind)?;
-    let shape = row_shape(rows, policy, kind);
+    let shape = shape_among(rows, policy, around, kind);
     match policy_of(shape) {
         None => {
             push_value_line(text, shape, value)?;
@@ -253,6 +256,7 @@ fn push_value(text: &mut String, shape: Shape, value: &[u8]) -> Result<(), Alloc
         | Shape::MinLen(_)
         | Shape::Nested(_)
         | Shape::HeaderNested { .. }
+        | Shape::Chosen { .. }
         | Shape::Bytes => push_hex(text, value),
     }
 }

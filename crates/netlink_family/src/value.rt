@@ -84,6 +84,7 @@ pub(crate) fn value_in<'a>(rows: &'static [Row], shape: Shape, bytes: &'a [u8]) 
         Shape::MinLen(size) => Value::MinLen(size, bytes),
         Shape::Nested(policy) => nest_in(rows, policy, bytes),
         Shape::HeaderNested { size, policy } => header_nest_in(rows, size, policy, bytes),
+        Shape::Chosen { .. } => unreachable!(),
         Shape::Bytes => Value::Bytes(bytes),
     }
 }

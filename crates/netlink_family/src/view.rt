@@ -59,7 +59,7 @@ impl<'a, F: Table> MessageView<'a, F> {
         ensures error { IfErr result (λ e. family_error F.types F.header_len F.rows message_type payload.now ≡ Some e) }
     {
         let mut all = CheckedAttributes::<F>::new(message_type, payload)?;
-        if !has_shapes(all.rows, all.walk) {
+        if !has_shapes(all.rows, all.block, all.walk) {
             return Err(FamilyError::InvalidAttribute(all.stop()));
         }
         Ok(MessageView {

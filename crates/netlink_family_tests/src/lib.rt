@@ -1,6 +1,7 @@
 //! Example families: neighbours, neighbour tables and rules, and one protocol that joins them.
 #![tactic(auto)]
 
+pub mod choices;
 pub mod getters;
 pub mod neighbours;
 pub mod route;

@@ -1,5 +1,6 @@
 //! Tests.
 
+mod choices;
 mod errors;
 mod getters;
 mod messages;

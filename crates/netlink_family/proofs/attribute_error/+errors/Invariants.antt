@@ -1,6 +1,6 @@
 use Rattle.std.proofs.Common.{◌+◌, ◌*◌}
 use Rattle.netlink_packet_core.specs.Steps.{unread}
-use Rattle.netlink_family.specs.Shapes.{rows_in}
+use Rattle.netlink_family.specs.Shapes.{rows_in, within}
 use Rattle.netlink_family.proofs.FirstErrors.{AreFine}
 use Rattle.netlink_family.proofs.attribute_error.+errors.Given as goal
 
@@ -12,4 +12,4 @@ decreases-error_in l = 2 * l.levels + 1
 
 abbrev pub invariant-error_in-loop-item : goal.invariant-error_in-loop-item
 invariant-error_in-loop-item l =
-    AreFine l.levels (rows_in l.rows) l.policy l.end l.block l.left (unread l.item-iterator)
+    AreFine l.levels (within (rows_in l.rows) l.block) l.policy l.end l.block l.left (unread l.item-iterator)

@@ -2,7 +2,7 @@ use Rattle.std.proofs.Common.{◌≡◌, true, None, Option, List, ℕ, ◌++◌
 use Rattle.netlink_packet_core.specs.BlockLaws.{canonical_walk}
 use Rattle.netlink_packet_core.specs.DecodeError.{DecodeError}
 use Rattle.netlink_packet_core.specs.Walk.{Walk}
-use Rattle.netlink_family.specs.Shapes.{is_block_shaped, nest_levels, rows_in}
+use Rattle.netlink_family.specs.Shapes.{is_block_shaped, nest_levels, rows_in, within}
 use Rattle.netlink_family.proofs.Checking.{has_no_error, shaped_normalized}
 use Rattle.netlink_family.proofs.block.append_block.Goals as goal
 
@@ -20,7 +20,7 @@ returns-then-canonical-clause-ok c =
 pub returns-then-canonical-clause-good : goal.returns-then-canonical-clause-good
 returns-then-canonical-clause-good c =
     let shaped : is_block_shaped nest_levels (rows_in c.args.rows.now) 0 c.args.block.now ≡ true = search rules in
-    has_no_error (rows_in c.args.rows.now) c.args.end c.args.block.now shaped
+    has_no_error (within (rows_in c.args.rows.now) c.args.block.now) c.args.end c.args.block.now shaped
 
 pub returns-in_ok-append_attributes-in-Some-clause-ok : goal.returns-in_ok-append_attributes-in-Some-clause-ok
 returns-in_ok-append_attributes-in-Some-clause-ok c =
@@ -36,4 +36,4 @@ returns-in_ok-append_attributes-in-Some-clause-ok c =
 pub returns-in_ok-append_attributes-in-Some-clause-good : goal.returns-in_ok-append_attributes-in-Some-clause-good
 returns-in_ok-append_attributes-in-Some-clause-good c =
     let shaped : is_block_shaped nest_levels (rows_in c.args.rows.now) 0 c.args.block.now ≡ true = search rules in
-    has_no_error (rows_in c.args.rows.now) c.args.end c.args.block.now shaped
+    has_no_error (within (rows_in c.args.rows.now) c.args.block.now) c.args.end c.args.block.now shaped

@@ -48,3 +48,8 @@ pub returns-in-TooSmall-clause-writes : goal.returns-in-TooSmall-clause-writes
 returns-in-TooSmall-clause-writes g c = λ plain ok.
     subst (λ e. HasWritten g.W.Write.write_str_gives c.args.f.now (reason_text e) c.write-in-TooSmall.new.self)
     (sym c.in-TooSmall.is) (c.write-in-TooSmall.ensures.writes plain ok)
+
+pub returns-in-LateChoice-clause-writes : goal.returns-in-LateChoice-clause-writes
+returns-in-LateChoice-clause-writes g c = λ plain ok.
+    subst (λ e. HasWritten g.W.Write.write_str_gives c.args.f.now (reason_text e) c.write-in-LateChoice.new.self)
+    (sym c.in-LateChoice.is) (c.write-in-LateChoice.ensures.writes plain ok)

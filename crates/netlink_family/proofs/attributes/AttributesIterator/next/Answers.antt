@@ -3,7 +3,7 @@ use Rattle.netlink_packet_core.specs.Attribute.{Attribute}
 use Rattle.netlink_packet_core.specs.Steps.{unread}
 use Rattle.netlink_packet_core.specs.Views.{attribute_of, raw_kind}
 use Rattle.netlink_family.specs.NestLaws.{shaped_has, shaped_nests}
-use Rattle.netlink_family.specs.Shapes.{nest_levels, rows_in, shape_in}
+use Rattle.netlink_family.specs.Shapes.{nest_levels, rows_in, shape_among, within}
 use Rattle.netlink_family.specs.IterationLaws.{shaped_good, shaped_rest, shaped_value}
 use Rattle.netlink_family.proofs.attributes.AttributesIterator.next.Goals as goal
 
@@ -13,29 +13,29 @@ invariant_of-self c =
     record {
       sorted = all.sorted;
       shaped =
-          shaped_rest (rows_in all.rows.now) all.policy (unread all.walk) c.next.result (unread c.next.new.self) c.next.ensures.steps all.shaped;
+          shaped_rest (within (rows_in all.rows.now) all.block.now) all.policy (unread all.walk) c.next.result (unread c.next.new.self) c.next.ensures.steps all.shaped;
       kept = all.kept;
     }
 
 pub invariant_of-self-in-Ok-clause-shaped : goal.invariant_of-self-in-Ok-clause-shaped
 invariant_of-self-in-Ok-clause-shaped c =
     let all = c.args.self.now in
-    shaped_rest (rows_in all.rows.now) all.policy (unread all.walk) c.next.result (unread c.next.new.self) c.next.ensures.steps all.shaped
+    shaped_rest (within (rows_in all.rows.now) all.block.now) all.policy (unread all.walk) c.next.result (unread c.next.new.self) c.next.ensures.steps all.shaped
 
 pub value_in-requires : goal.value_in-requires
 value_in-requires c =
     let all = c.args.self.now in
     let step = rw c.in-Ok.is at c.in_ok-item.ensures.steps in
     let fit =
-    shaped_value (rows_in all.rows.now) all.policy (unread all.walk) (unread c.next.new.self)
-    c.raw_kind-kind.result c.value.result.now c.cached_shape-shape.result step.2
+    shaped_value (within (rows_in all.rows.now) all.block.now) all.policy (unread all.walk) (unread c.next.new.self)
+    c.raw_kind-kind.result c.value.result.now c.cached_shape_among-shape.result step.2
     (c.raw_kind-kind.ensures.number ∙ ap raw_kind step.0)
     (c.value.ensures.bytes ∙ ap (λ (b : List ℕ). (attribute_of b).value) step.0)
-    c.cached_shape-shape.ensures.shape all.shaped in
+    c.cached_shape_among-shape.ensures.shape all.shaped in
     record {
       sorted = all.sorted;
-      shape = shaped_has nest_levels (rows_in all.rows.now) c.cached_shape-shape.result c.value.result.now fit;
-      nest = shaped_nests (rows_in all.rows.now) c.cached_shape-shape.result c.value.result.now fit;
+      shape = shaped_has nest_levels (rows_in all.rows.now) c.cached_shape_among-shape.result c.value.result.now fit;
+      nest = shaped_nests (rows_in all.rows.now) c.cached_shape_among-shape.result c.value.result.now fit;
     }
 
 pub returns-in-Ok-clause-steps : goal.returns-in-Ok-clause-steps
@@ -51,10 +51,11 @@ returns-in-Ok-clause-steps c =
         step.2,
         kind,
         rw value at c.value_in.ensures.value_is,
-        c.value_in.ensures.shape ∙ c.cached_shape-shape.ensures.shape
-            ∙ ap (λ (k : ℕ). shape_in (rows_in all.rows.now) all.policy k) kind,
+        c.value_in.ensures.shape ∙ c.cached_shape_among-shape.ensures.shape
+            ∙ ap (λ (k : ℕ). shape_among (within (rows_in all.rows.now) all.block.now) all.policy k) kind,
         c.value_in.ensures.nest,
       ),
+      refl,
       refl,
       refl,
     )
@@ -63,4 +64,4 @@ pub returns-in-Err-clause-steps : goal.returns-in-Err-clause-steps
 returns-in-Err-clause-steps c =
     let all = c.args.self.now in
     let step = rw c.in-Err.is at c.in_ok-item.ensures.steps in
-    absurd (shaped_good (rows_in all.rows.now) all.policy (unread all.walk) _ step.0 step.1 all.shaped)
+    absurd (shaped_good (within (rows_in all.rows.now) all.block.now) all.policy (unread all.walk) _ step.0 step.1 all.shaped)

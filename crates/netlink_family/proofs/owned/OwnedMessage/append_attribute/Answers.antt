@@ -11,5 +11,5 @@ invariant_of-self-clause-canonical g c =
     (is_canonical_payload (g.F.Table.header_len c.args.self.now.message_type) (g.F.Table.rows c.args.self.now.message_type) c.append_nla.new.block.items ≡ true)
     c.append_nla.ensures.ok c.append_nla.ensures.err
     (λ writes. push_canonical (g.F.Table.header_len c.args.self.now.message_type) (g.F.Table.rows c.args.self.now.message_type) c.args.self.now.bytes.items c.append_nla.new.block.items
-    c.args.kind c.args.value.now c.args.self.now.canonical c.ranges.kind.fits c.requires.shape has writes)
+    c.args.kind c.args.value.now c.args.self.now.canonical c.ranges.kind.fits c.requires.shape c.requires.late has writes)
     (λ e q. ap (is_canonical_payload (g.F.Table.header_len c.args.self.now.message_type) (g.F.Table.rows c.args.self.now.message_type)) q.1 ∙ c.args.self.now.canonical)

@@ -1,0 +1,79 @@
+//! Shapes that are chosen by the value of another attribute.
+
+ghost use Rattle.std.specs.Prelude.{◌≡◌, ◌==◌, ◌&&◌, bytes_eq, true};
+ghost use Rattle.netlink_family.specs.Listing.{first_of, listed};
+ghost use Rattle.netlink_family.specs.Shapes.{CachesOther, choice_at, choice_by, resolved, rows_in, shape_among, within, are_sorted};
+
+use crate::find::first_value;
+use crate::shape::{Row, Shape, cached_shape, row_shape};
+use crate::value::bytes_until_nul;
+
+/// Returns the shape of a kind in a policy, among the attributes of a block.
+#[inline(always)]
+pub(crate) fn shape_among(rows: &[Row], policy: u16, block: &[u8], kind: u16) -> Shape
+    requires sorted { are_sorted (rows_in rows.now) ≡ true }
+    ensures { result ≡ shape_among (within (rows_in rows.now) block.now) policy kind }
+{
+    resolved(rows, block, row_shape(rows, policy, kind))
+}
+
+/// Like `shape_among`, with the shape of the kinds without a row kept in `other`.
+#[inline(always)]
+pub(crate) fn cached_shape_among(
+    rows: &[Row],
+    policy: u16,
+    block: &[u8],
+    kind: u16,
+    other: &mut Option<Shape>,
+) -> Shape
+    requires sorted { are_sorted (rows_in rows.now) ≡ true }
+    requires other { CachesOther (rows_in rows.now) policy other.old }
+    ensures shape { result ≡ shape_among (within (rows_in rows.now) block.now) policy kind }
+    ensures other { CachesOther (rows_in rows.now) policy other.new }
+{
+    resolved(rows, block, cached_shape(rows, policy, kind, other))
+}
+
+/// Returns the chosen shape, or the shape itself if it is not chosen by a value.
+#[inline(always)]
+fn resolved(rows: &[Row], block: &[u8], shape: Shape) -> Shape
+    ensures { result ≡ resolved (within (rows_in rows.now) block.now) shape }
+{
+    match shape {
+        Shape::Chosen { by, policy } => chosen_shape(rows, policy, block, by),
+        _ => shape,
+    }
+}
+
+/// Returns the shape that the first attribute of a kind chooses.
+#[inline(never)]
+fn chosen_shape(rows: &[Row], policy: u16, block: &[u8], by: u16) -> Shape
+    ensures { result ≡ choice_by (rows_in rows.now) policy (first_of by (listed block.now)) }
+{
+    match first_value(block, by) {
+        Some(value) => choice_at(rows, policy, bytes_until_nul(value)),
+        None => Shape::Bytes,
+    }
+}
+
+/// Returns the shape in the first row of a policy with a name; `Bytes` if there is none.
+fn choice_at(rows: &[Row], policy: u16, name: &[u8]) -> Shape
+    ensures { result ≡ choice_at (rows_in rows.now) policy name.now }
+{
+    let mut rest = rows;
+    while let [row, more @ ..] = rest {
+        if is_choice(row.0, row.2, policy, name) {
+            return row.3;
+        }
+        rest = more;
+    }
+    Shape::Bytes
+}
+
+/// Returns whether a row is in a policy and has a name.
+#[inline(always)]
+fn is_choice(row_policy: u16, row_name: &str, policy: u16, name: &[u8]) -> bool
+    ensures { result ≡ (row_policy == policy && bytes_eq row_name.now name.now) }
+{
+    row_policy == policy && row_name.as_bytes() == name
+}

@@ -1,0 +1,119 @@
+//! Whether an attribute that is appended changes the shapes of those before it.
+
+ghost use Rattle.std.specs.Prelude.{◌≡◌, ◌&&◌, IfNone, None, true};
+ghost use Rattle.std.specs.List.{list_all};
+ghost use Rattle.netlink_family.specs.Listing.{listed};
+ghost use Rattle.netlink_family.specs.Pushing.{added_error, chooses, is_chosen_by, is_late, keeps_shape, late_error};
+ghost use Rattle.netlink_family.specs.Shapes.{fits_kind, rows_in, within, are_sorted};
+
+use crate::attribute_error::{AttributeError, Reason, value_error};
+use crate::find::first_value;
+use crate::shape::{NEST_LEVELS, Row, Shape, TOP, row_shape};
+use netlink_packet_core::{NLA_TYPE_MASK, NlasIterator};
+
+/// Returns the error of appending an attribute to a block, with the offset counted from the start of
+/// the attribute: that of its value, or else that it would change a shape.
+pub(crate) fn added_error(
+    rows: &[Row],
+    block: &[u8],
+    kind: u16,
+    value: &[u8],
+) -> Option<AttributeError>
+    requires sorted { are_sorted (rows_in rows.now) ≡ true }
+    ensures error { result ≡ added_error (within (rows_in rows.now) block.now) kind value.now }
+    ensures fits { IfNone result (fits_kind (within (rows_in rows.now) block.now) kind value.now ≡ true) }
+    ensures late { IfNone result (late_error (within (rows_in rows.now) block.now) kind ≡ None) }
+{
+    match value_error(NEST_LEVELS, rows, TOP, block, 0, kind, value) {
+        Some(error) => Some(error),
+        None => late_error(rows, block, kind),
+    }
+}
+
+/// Returns the error of appending an attribute of a kind, if it would change its own shape or that
+/// of an attribute before it.
+pub(crate) fn late_error(rows: &[Row], block: &[u8], kind: u16) -> Option<AttributeError>
+    requires sorted { are_sorted (rows_in rows.now) ≡ true }
+    ensures { result ≡ late_error (within (rows_in rows.now) block.now) kind }
+{
+    if is_late(rows, block, kind) {
+        Some(AttributeError {
+            offset: 0,
+            policy: TOP,
+            reason: Reason::LateChoice { kind },
+        })
+    } else {
+        None
+    }
+}
+
+/// Returns whether there is this error.
+fn is_late(rows: &[Row], block: &[u8], kind: u16) -> bool
+    requires sorted { are_sorted (rows_in rows.now) ≡ true }
+    ensures { result ≡ is_late (within (rows_in rows.now) block.now) kind }
+{
+    chooses(rows, kind) && !keeps_shapes(rows, block, kind)
+}
+
+/// Returns whether one more attribute of a kind keeps its own shape and those of the attributes of a
+/// block.
+#[inline(never)]
+fn keeps_shapes(rows: &[Row], block: &[u8], kind: u16) -> bool
+    requires sorted { are_sorted (rows_in rows.now) ≡ true }
+    ensures { result ≡ (keeps_shape (within (rows_in rows.now) block.now) kind kind
+        && list_all (λ a. keeps_shape (within (rows_in rows.now) block.now) kind a.kind) (listed block.now)) }
+{
+    keeps_shape(rows, block, kind, kind) && keeps_all(rows, block, kind)
+}
+
+/// Returns whether a kind chooses the shape of some kind of a message's own attributes.
+fn chooses(rows: &[Row], kind: u16) -> bool
+    ensures { result ≡ chooses (rows_in rows.now) kind }
+{
+    let mut rest = rows;
+    while let [row, more @ ..] = rest {
+        if row.0 == TOP && is_chosen_by(kind, row.3) {
+            return true;
+        }
+        rest = more;
+    }
+    false
+}
+
+/// Returns whether a shape is chosen by the attributes of a kind.
+#[inline(always)]
+fn is_chosen_by(kind: u16, shape: Shape) -> bool
+    ensures { result ≡ is_chosen_by kind shape }
+{
+    match shape {
+        Shape::Chosen { by, .. } => by == kind & NLA_TYPE_MASK,
+        _ => false,
+    }
+}
+
+/// Returns whether one more attribute of a kind keeps the shapes of the attributes of a block.
+fn keeps_all(rows: &[Row], block: &[u8], kind: u16) -> bool
+    requires sorted { are_sorted (rows_in rows.now) ≡ true }
+    ensures { result ≡ list_all (λ a. keeps_shape (within (rows_in rows.now) block.now) kind a.kind) (listed block.now) }
+{
+    for item in NlasIterator::new(block) {
+        match item {
+            Ok(nla) => {
+                if !keeps_shape(rows, block, kind, nla.raw_kind()) {
+                    return false;
+                }
+            }
+            Err(_) => return true,
+        }
+    }
+    true
+}
+
+/// Returns whether one more attribute of a kind keeps the shape of a kind.
+fn keeps_shape(rows: &[Row], block: &[u8], kind: u16, other: u16) -> bool
+    requires sorted { are_sorted (rows_in rows.now) ≡ true }
+    ensures { result ≡ keeps_shape (within (rows_in rows.now) block.now) kind other }
+{
+    !is_chosen_by(kind, row_shape(rows, TOP, other))
+        || first_value(block, kind & NLA_TYPE_MASK).is_some()
+}
