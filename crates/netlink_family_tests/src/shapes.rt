@@ -4,12 +4,15 @@ ghost use Rattle.std.specs.Prelude.{[], refl};
 ghost use Rattle.netlink_family.specs.Shapes.{named};
 ghost use Rattle.netlink_family_tests.specs.declared.shapes.TheConstants.{ROWS, TYPES};
 
-use netlink_family::{Field, OwnedMessage, Row, Shape, TOP, Table, is_among};
+use netlink_family::{ANY, Field, OwnedMessage, Row, Shape, TOP, Table, is_among};
 
 pub const EVERY: u16 = 100;
 
 /// The header of a peer, kind 16.
 pub const PEER_INDEX: Field = ("index", 0, Shape::U32);
+
+/// The policy of a list of records, kind 17.
+pub const RECORDS: u16 = 1;
 
 const TYPES: &'static [u16] = &[EVERY];
 
@@ -33,6 +36,16 @@ const ROWS: &'static [Row] = &[
         TOP,
         16,
         "peer",
+        Shape::HeaderNested {
+            size: 4,
+            policy: TOP,
+        },
+    ),
+    (TOP, 17, "records", Shape::Nested(RECORDS)),
+    (
+        RECORDS,
+        ANY,
+        "",
         Shape::HeaderNested {
             size: 4,
             policy: TOP,

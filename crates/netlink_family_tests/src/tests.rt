@@ -6,6 +6,7 @@ mod getters;
 mod messages;
 mod nests;
 mod push;
+mod records;
 mod show;
 mod strings;
 mod views;
