@@ -4,8 +4,8 @@ in a dump of all families of generic netlink by its name.
 
 The script passes a frame on standard input to a test of the crate of the frame's protocol, which writes its canonical
 form or the error text. The frames of the types below came in canonical form, from the kernel, from programs and from
-the scripts in examples/captured, so the test must write these unchanged. It must reject any other frame: the crate does
-not have its message type, or the frame has a shorter header.
+the scripts in examples/captured, so the test must write these unchanged, requests with a `struct rtgenmsg` instead of
+the header among them. It must reject any other frame, because the crate does not have its message type.
 
 A second test of netlink_generic gets a name and the dump, and writes the id and the multicast groups of the family with
 this name. This script reads the dump itself to check them.
@@ -27,8 +27,6 @@ CAPTURED = os.path.join(TOP, "examples", "captured")
 DATAGRAMS = 71
 
 OWN_TYPES = range(1, 5)  # NLMSG_NOOP to NLMSG_OVERRUN of linux/netlink.h
-# The sizes of the headers of the types that glibc and dnsmasq request with a `struct rtgenmsg` of 4 bytes instead.
-HEADERS = {18: 16, 22: 8}
 # The crate of each protocol, and its message types: NETLINK_ROUTE, with RTM_NEWLINK to RTM_GETADDR, RTM_NEWROUTE to
 # RTM_GETROUTE, RTM_NEWNEIGH to RTM_GETNEIGH, RTM_NEWRULE to RTM_GETRULE, RTM_NEWNEIGHTBL, RTM_GETNEIGHTBL and
 # RTM_SETNEIGHTBL, and RTM_NEWNSID to RTM_GETNSID; and NETLINK_GENERIC, with GENL_ID_CTRL.
@@ -91,10 +89,7 @@ def families_of(datagram):
 
 def wanted(protocol, frame):
     """Returns what the test must write for the frame."""
-    kind, size = struct.unpack_from("<H", frame, 4)[0], len(frame) - HEADER_SIZE
-    if protocol == "0" and size < HEADERS.get(kind, 0):
-        text = b"Failed to parse message with type %d: the payload has %d bytes, fewer than its header of %d"
-        return text % (kind, size, HEADERS[kind])
+    kind = struct.unpack_from("<H", frame, 4)[0]
     if kind in OWN_TYPES or kind in FAMILIES[protocol]:
         return frame
     return b"Failed to parse message with type %d: message type %d is not known" % (kind, kind)

@@ -141,6 +141,8 @@ ERRORS = [
         (frame(kind, bytes(size)), f"no line for message type {kind}")
         for kind, size in ((28, 12), (24, 12), (34, 12), (66, 4), (90, 4))
     ],
+    (frame(26, b"\2\0\0\0"), "no line for message type 26"),
+    (frame(18, bytes(5)), short(18, 5, 16)),
     (frame(28, bytes(11)), short(28, 11, 12)),
     (frame(16, bytes(15)), short(16, 15, 16)),
     (frame(20, bytes(7)), short(20, 7, 8)),
@@ -159,9 +161,12 @@ ERRORS = [
     ),
 ]
 
-# Messages about links that have a line, and the line of each: padding in the header, strings without a NUL or of bytes
-# that are not printable, a negative index, and a nest with NLA_F_NESTED.
+# Messages about links and addresses that have a line, and the line of each: requests with a `struct rtgenmsg` instead of
+# the header, padding in the header, strings without a NUL or of bytes that are not printable, a negative index, and a
+# nest with NLA_F_NESTED.
 LINES = [
+    (frame(18, b"\x11\0\0\0"), b"Get 0: if0: <> link/[0]\n"),
+    (frame(22, b"\2"), b"Get 0: inet scope global\n"),
     (frame(16, b"\0\1" + bytes(14)), b"0: if0: <> link/[0]\n"),
     (link(attribute(3, b"")), b"7: : <> link/[0]\n"),
     (link(attribute(3, b"a")), LINE),

@@ -19,7 +19,7 @@ use Rattle.netlink_family.specs.Blocks.{value_fits}
 use Rattle.netlink_family.specs.BlocksLaws.{AreNormalized}
 use Rattle.netlink_family.specs.PayloadReading.{IsWrittenBy, payload_again, payload_written}
 use Rattle.netlink_family.specs.Message.{is_canonical_payload, is_encoding}
-use Rattle.netlink_family.specs.CanonicalPayloadLaws.{canonical_reads, shaped_itself}
+use Rattle.netlink_family.specs.CanonicalPayloadLaws.{canonical_reads, shaped_itself, canonical_long}
 use Rattle.netlink_family.specs.Listing.{listed, listed_all}
 use Rattle.netlink_family.specs.Pushing.{has_room, late_error}
 use Rattle.netlink_family.specs.Shapes.{Row, fits_kind, keeps_by, reading_by, within}
@@ -39,13 +39,6 @@ canonical_by size rows bytes by =
 parts_join : (size : ℕ) (rows : List Row) (bytes : List ℕ) (by : IsWrittenBy size (reading_by rows) 0 (0, bytes))
     → bytes ≡ by.head ++ canonical_block by.all
 parts_join size rows bytes by = ap (λ (p : ℕ × List ℕ). p.1) by.whole
-
--- a canonical payload contains its header
-pub canonical_long : (size : ℕ) (rows : List Row) (bytes : List ℕ) → is_canonical_payload size rows bytes ≡ true → size ≤ length bytes
-canonical_long size rows bytes is =
-    let by = parts_of size rows bytes is in
-    let text = ap length (parts_join size rows bytes by) ∙ length-append by.head (canonical_block by.all) in
-    omega (arith, by.sized, text)
 
 none_normalized : (rows : List Row) → AreNormalized (reading_by rows) []
 none_normalized rows = record { again = nothing_normalized (reading_by rows []); fits = All-nil FitsAttribute; whole = refl }

@@ -33,7 +33,7 @@ shaped_malformed : (scope : Scope) (bytes : List ℕ) (e : DecodeError) → byte
     → are_shaped nest_levels scope 0 bytes ≡ false
 shaped_malformed scope bytes e some is = ap (all_shaped (fits scope)) (attributes_in-fault bytes [] e (some, is))
 
-shaped_nothing : (scope : Scope) (bytes : List ℕ) → bytes ≡ [] → are_shaped nest_levels scope 0 bytes ≡ true
+pub shaped_nothing : (scope : Scope) (bytes : List ℕ) → bytes ≡ [] → are_shaped nest_levels scope 0 bytes ≡ true
 shaped_nothing scope bytes none = ap (all_shaped (fits scope)) (attributes_in-walk bytes [] none)
 
 -- if the attributes of a block have their shapes, the walk has no error and reading them changes

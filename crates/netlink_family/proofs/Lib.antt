@@ -1,6 +1,7 @@
 pub mod Checking
 pub mod FirstErrors
 pub mod Appending
+pub mod Headers
 pub mod Lines
 pub mod CanonicalPayloads
 pub mod ZeroPadding

@@ -3,7 +3,7 @@ use Rattle.std.proofs.Common.{◌≡◌, ◌≢◌, ℕ, ◌%◌, ◌+◌, ◌-�
 use Rattle.std.specs.Option.{option_map}
 use Rattle.std.specs.Prelude.{is_none, is_some, nat_le, nat_lt, not, if◌then◌else◌}
 use Rattle.std.proofs.lemmas.Bool.{le-leb, leb-true, lt-leb, ltb-false, ltb-true}
-use Rattle.std.proofs.lemmas.List.{length-take-le}
+use Rattle.std.proofs.lemmas.List.{drop_all, length-take-le}
 use Rattle.netlink_packet_core.specs.Attribute.{Attribute}
 use Rattle.netlink_packet_core.specs.AttributeSizes.{length-canonical_block}
 use Rattle.netlink_packet_core.specs.Block.{IsCanonicalBlock, canonical_block}
@@ -17,17 +17,19 @@ use Rattle.netlink_packet_core.specs.StartLaws.{starts-length}
 use Rattle.netlink_packet_core.specs.Views.{attribute_of}
 use Rattle.netlink_packet_core.specs.Walk.{IsFault, Starts, Walk}
 use Rattle.netlink_family.specs.Blocks.{all_normalized, block_fits}
-use Rattle.netlink_family.specs.PayloadReading.{payload_reading}
-use Rattle.netlink_family.specs.ErrorLaws.{block_shaped, payload_complete, error_malformed, error_nothing, error_step, none_of, value_shaped}
-use Rattle.netlink_family.specs.Errors.{block_error, payload_error, message_error, rest_error, too_long_error, value_error}
+use Rattle.netlink_family.specs.PayloadReading.{payload_reading, short_reading}
+use Rattle.netlink_family.specs.ErrorLaws.{block_shaped, payload_complete, error_malformed, error_nothing, error_step, none_of, value_shaped, short_complete}
+use Rattle.netlink_family.specs.Errors.{block_error, payload_error, message_error, rest_error, too_long_error, value_error, short_error}
 use Rattle.netlink_family.specs.Message.{is_canonical_payload}
-use Rattle.netlink_family.specs.CanonicalPayloadLaws.{fits_by_size, canonical_reads, payload_read}
+use Rattle.netlink_family.specs.CanonicalPayloadLaws.{fits_by_size, canonical_reads, payload_read, canonical_sent}
 use Rattle.netlink_family.specs.Shapes.{Row, Scope, all_shaped, are_shaped, fits_kind, is_block_shaped, nest_levels, or_first, reading_by, within}
+use Rattle.netlink_family.specs.Short.{is_cut, is_short, sent}
+use Rattle.netlink_family.specs.ShortLaws.{other_error, short_parts}
 use Rattle.netlink_family.specs.Iteration.{AreShaped, fits, fits_at}
 use Rattle.netlink_family.specs.declared.error.FamilyError.{FamilyError}
 use Rattle.netlink_family.specs.declared.error.FamilyError.TheVariants.{InvalidAttribute, HeaderShort, TooLong}
 use Rattle.netlink_family.specs.declared.attribute_error.AttributeError.{AttributeError}
-use Rattle.netlink_family.proofs.Checking.{none_is, shaped_normalized}
+use Rattle.netlink_family.proofs.Checking.{none_is, shaped_normalized, shaped_nothing}
 
 -- ---- the length of a block in canonical form
 
@@ -105,45 +107,60 @@ long_none rows end block none long =
     (sym (block_shaped rows end block) ∙ ap (λ (o : Option AttributeError). is_none o) none) long
 
 -- facts about a payload without an error
-pub good_own : (is : Bool) (size : ℕ) (rows : List Row) (t : ℕ) (payload : List ℕ)
-    → message_error is size rows t payload ≡ None → is ≡ true
-good_own true size rows t payload good = refl
-good_own false size rows t payload good = absurd (cc)
+pub good_own : (is allows : Bool) (size : ℕ) (rows : List Row) (t : ℕ) (payload : List ℕ)
+    → message_error is allows size rows t payload ≡ None → is ≡ true
+good_own true allows size rows t payload good = refl
+good_own false allows size rows t payload good = absurd (cc)
 
 by_reach : (reaches : Bool) (found short : Option FamilyError) → is_none short ≡ false
     → (if reaches then found else short) ≡ None → (reaches ≡ true) × (found ≡ None)
 by_reach true found short some good = (refl, good)
 by_reach false found short some good = absurd (cc)
 
-good_parts : (is : Bool) (size : ℕ) (rows : List Row) (t : ℕ) (payload : List ℕ) → message_error is size rows t payload ≡ None
+-- which is not short
+good_parts : (is allows : Bool) (size : ℕ) (rows : List Row) (t : ℕ) (payload : List ℕ)
+    → message_error is allows size rows t payload ≡ None → is_short allows size payload ≡ false
     → (nat_le size (length payload) ≡ true)
     × (or_first (option_map InvalidAttribute (block_error rows (length payload) (drop size payload)))
     (too_long_error (attributes_in (drop size payload))) ≡ None)
-good_parts true size rows t payload good =
-    by_reach (nat_le size (length payload)) _ (Some (HeaderShort size (length payload))) refl good
-good_parts false size rows t payload good = absurd (cc)
+good_parts true allows size rows t payload good whole =
+    by_reach (nat_le size (length payload)) _ (Some (HeaderShort size (length payload))) refl
+    (sym (other_error allows size rows payload whole) ∙ good)
+good_parts false allows size rows t payload good whole = absurd (cc)
 
-pub good_long : (is : Bool) (size : ℕ) (rows : List Row) (t : ℕ) (payload : List ℕ)
-    → message_error is size rows t payload ≡ None → size ≤ length payload
-good_long is size rows t payload good = leb-true size (length payload) (good_parts is size rows t payload good).0
+pub good_long : (is allows : Bool) (size : ℕ) (rows : List Row) (t : ℕ) (payload : List ℕ)
+    → message_error is allows size rows t payload ≡ None → is_short allows size payload ≡ false → size ≤ length payload
+good_long is allows size rows t payload good whole =
+    leb-true size (length payload) (good_parts is allows size rows t payload good whole).0
 
 by_first : (found : Option AttributeError) (later : Option FamilyError) → or_first (option_map InvalidAttribute found) later ≡ None → found ≡ None
 by_first None later none = refl
 by_first (Some f) later none = absurd (cc)
 
-good_block : (is : Bool) (size : ℕ) (rows : List Row) (t : ℕ) (payload : List ℕ) → message_error is size rows t payload ≡ None
+good_block : (is allows : Bool) (size : ℕ) (rows : List Row) (t : ℕ) (payload : List ℕ)
+    → message_error is allows size rows t payload ≡ None → is_short allows size payload ≡ false
     → block_error rows (length payload) (drop size payload) ≡ None
-good_block is size rows t payload good =
-    by_first (block_error rows (length payload) (drop size payload)) _ (good_parts is size rows t payload good).1
+good_block is allows size rows t payload good whole =
+    by_first (block_error rows (length payload) (drop size payload)) _
+    (good_parts is allows size rows t payload good whole).1
 
--- its attributes
-pub good_shaped : (is : Bool) (size : ℕ) (rows names : List Row) (t : ℕ) (payload block : List ℕ)
-    → block ≡ drop size payload → names ≡ rows → message_error is size rows t payload ≡ None
+by_short : (short is allows : Bool) (size : ℕ) (rows : List Row) (t : ℕ) (payload : List ℕ)
+    → message_error is allows size rows t payload ≡ None → is_short allows size payload ≡ short
+    → is_block_shaped nest_levels rows 0 (drop size payload) ≡ true
+by_short true is allows size rows t payload good short =
+    let less = (short_parts allows size payload short).less in
+    shaped_nothing (within rows (drop size payload)) (drop size payload) (drop_all size payload (omega (arith, less)))
+by_short false is allows size rows t payload good short =
+    sym (block_shaped rows (length payload) (drop size payload))
+    ∙ ap (λ (o : Option AttributeError). is_none o) (good_block is allows size rows t payload good short)
+
+-- its attributes; a short payload has none
+pub good_shaped : (is allows : Bool) (size : ℕ) (rows names : List Row) (t : ℕ) (payload block : List ℕ)
+    → block ≡ drop size payload → names ≡ rows → message_error is allows size rows t payload ≡ None
     → is_block_shaped nest_levels names 0 block ≡ true
-good_shaped is size rows names t payload block after same good =
+good_shaped is allows size rows names t payload block after same good =
     ap (λ (r : List Row). is_block_shaped nest_levels r 0 block) same ∙ ap (is_block_shaped nest_levels rows 0) after
-    ∙ sym (block_shaped rows (length payload) (drop size payload))
-    ∙ ap (λ (o : Option AttributeError). is_none o) (good_block is size rows t payload good)
+    ∙ by_short (is_short allows size payload) is allows size rows t payload good refl
 
 -- ---- a payload without an error is read as its attributes in canonical form
 
@@ -173,17 +190,18 @@ are_read rows block all malformed found walk shaped none =
       fits = by_over all found (ap (λ (o : Option (List Attribute)). or_first found (too_long_error o)) (sym (attributes_in-walk block all whole)) ∙ none);
     }
 
-pub good_read : (is : Bool) (size : ℕ) (rows : List Row) (t : ℕ) (payload block head start out : List ℕ) (all : List Attribute)
-    (malformed : Option DecodeError) → message_error is size rows t payload ≡ None → block ≡ drop size payload
+pub good_read : (is allows : Bool) (size : ℕ) (rows : List Row) (t : ℕ) (payload block head start out : List ℕ)
+    (all : List Attribute) (malformed : Option DecodeError) → message_error is allows size rows t payload ≡ None
+    → is_short allows size payload ≡ false → block ≡ drop size payload
     → head ≡ take size payload → start ≡ head → Walk block all malformed → out ≡ start ++ canonical_block all
     → (u : ℕ) → payload_reading size (reading_by rows) u payload ≡ Some (u, out)
-good_read is size rows t payload block head start out all malformed good after front begun walk writes u =
-    let long = good_long is size rows t payload good in
-    let parts = (good_parts is size rows t payload good).1 in
+good_read is allows size rows t payload block head start out all malformed good other after front begun walk writes u =
+    let long = good_long is allows size rows t payload good other in
+    let parts = (good_parts is allows size rows t payload good other).1 in
     let here : Walk (drop size payload) all malformed = subst (λ (b : List ℕ). Walk b all malformed) after walk in
     let shaped : is_block_shaped nest_levels rows 0 (drop size payload) ≡ true =
     sym (block_shaped rows (length payload) (drop size payload))
-    ∙ ap (λ (o : Option AttributeError). is_none o) (good_block is size rows t payload good) in
+    ∙ ap (λ (o : Option AttributeError). is_none o) (good_block is allows size rows t payload good other) in
     let read = are_read rows (drop size payload) all malformed _ here shaped parts in
     let whole : Walk (drop size payload) all None = subst (λ (d : Option DecodeError). Walk (drop size payload) all d) read.whole here in
     let room = leb-true _ _ (sym (fits_by_size (drop size payload) all whole) ∙ read.fits) in
@@ -199,6 +217,16 @@ copied_whole block old new canonical writes =
     let walk = canonical_walk block canonical in
     (walk.0, None, walk.1, writes ∙ ap (λ (x : List ℕ). old ++ x) (sym walk.2))
 
+-- a short payload has no error, and no attributes
+pub short_good : (is allows : Bool) (size : ℕ) (rows : List Row) (t : ℕ) (payload block rest : List ℕ) → is ≡ true
+    → is_short allows size payload ≡ true → rest ≡ []
+    → message_error is allows size rows t payload ≡ option_map InvalidAttribute (rest_error (within rows block) (length payload) rest)
+short_good true allows size rows t payload block rest own short none =
+    ap (λ (b : Bool). if b then None else payload_error size rows payload) short
+    ∙ ap (option_map InvalidAttribute)
+    (sym (error_nothing (value_error nest_levels (within rows block) 0) 0 (length payload) rest none))
+short_good false allows size rows t payload block rest own short none = absurd (cc)
+
 -- ---- a canonical payload has no error
 
 some_none : {A E : Type 0} (error : Option E) (found : Option A) (x : A) → is_none error ≡ is_some found → found ≡ Some x → error ≡ None
@@ -206,12 +234,13 @@ some_none None found x same is = refl
 some_none (Some e) None x same is = absurd (cc)
 some_none (Some e) (Some y) x same is = absurd (cc)
 
-pub canonical_good : (is : Bool) (size : ℕ) (rows : List Row) (t : ℕ) (bytes : List ℕ) → is ≡ true → is_canonical_payload size rows bytes ≡ true
-    → message_error is size rows t bytes ≡ None
-canonical_good true size rows t bytes own canonical =
-    some_none (payload_error size rows bytes) (payload_reading size (reading_by rows) t bytes) (t, bytes)
-    (payload_complete size rows t bytes) (canonical_reads size rows bytes canonical t)
-canonical_good false size rows t bytes own canonical = absurd (cc)
+pub canonical_good : (is allows : Bool) (size : ℕ) (rows : List Row) (t n : ℕ) (bytes : List ℕ) → is ≡ true
+    → is_canonical_payload size rows bytes ≡ true → is_cut allows size n bytes ≡ true
+    → message_error is allows size rows t (sent n bytes) ≡ None
+canonical_good true allows size rows t n bytes own canonical cut =
+    some_none (short_error allows size rows (sent n bytes)) (short_reading allows size (reading_by rows) t (sent n bytes))
+    (t, sent n bytes) (short_complete allows size rows t (sent n bytes)) (canonical_sent allows size rows n bytes canonical cut t)
+canonical_good false allows size rows t n bytes own canonical cut = absurd (cc)
 
 -- ---- the next attribute, whose kind and value were read
 

@@ -16,13 +16,15 @@ use Rattle.netlink_packet_core.specs.ReadingLaws.{attributes_in-fit, attributes_
 use Rattle.netlink_packet_core.specs.Walk.{Walk}
 use Rattle.netlink_packet_core.specs.declared.header.NetlinkHeader.{NetlinkHeader}
 use Rattle.netlink_family.specs.Blocks.{ValueReading, all_normalized, block_fits, block_reading, keep_fit, normalize, value_fits}
-use Rattle.netlink_family.specs.PayloadReading.{after_header, payload_again, payload_reading, payload_written}
+use Rattle.netlink_family.specs.PayloadReading.{after_header, payload_again, payload_reading, payload_written, short_reading}
 use Rattle.netlink_family.specs.Errors.{block_error, payload_error, too_long_error}
 use Rattle.netlink_family.specs.declared.error.FamilyError.TheVariants.{InvalidAttribute, HeaderShort, TooLong}
 use Rattle.netlink_family.specs.declared.attribute_error.AttributeError.{AttributeError}
 use Rattle.netlink_family.specs.Message.{message_decoding, is_canonical_payload, is_encoding}
 use Rattle.netlink_family.specs.MessageLaws.{HasOwnTypes, reading_lawful}
 use Rattle.netlink_family.specs.Shapes.{Row, Scope, fits_kind, keep, keeps_by, or_first, reading_by, reading_in}
+use Rattle.netlink_family.specs.Short.{is_cut, sent}
+use Rattle.netlink_family.specs.ShortLaws.{read_long, same_sent, sent_reads}
 
 by_found : (long : Bool) (head : List ℕ) (found : Option (List Attribute)) (bytes : List ℕ)
     → is_encoding bytes (if long then after_header 0 head found else None) ≡ true
@@ -49,26 +51,55 @@ reading_canonical size rows payload bytes gives =
 abbrev header_of : ℕ → NetlinkHeader
 header_of t = record { length = 0; message_type = t; flags = 0; sequence_number = 0; port_number = 0 }
 
--- the type and the bytes of a message are lawful
-pub canonical_lawful : {I : Type 0} (stands_for : I → ℕ × List ℕ) (has : ℕ → Bool) (size : ℕ → ℕ)
-    (rows : ℕ → List Row) → HasOwnTypes has → (t : ℕ) (bytes : List ℕ)
-    → has t ≡ true → is_canonical_payload (size t) (rows t) bytes ≡ true
-    → IsLawful (message_decoding stands_for has size (λ t. reading_by (rows t))) (t, bytes)
-canonical_lawful stands_for has size rows own t bytes is canonical =
-    reading_lawful stands_for has size (λ t. reading_by (rows t)) own
-    (λ t. keeps_by (rows t)) (header_of t) bytes (t, bytes)
-    (ap (λ (b : Bool). if b then payload_reading (size t) (reading_by (rows t)) t bytes else None) is
-    ∙ canonical_reads (size t) (rows t) bytes canonical t)
+-- the payload of a message is read as itself
+pub canonical_sent : (allows : Bool) (size : ℕ) (rows : List Row) (n : ℕ) (bytes : List ℕ)
+    → is_canonical_payload size rows bytes ≡ true → is_cut allows size n bytes ≡ true
+    → (t : ℕ) → short_reading allows size (reading_by rows) t (sent n bytes) ≡ Some (t, sent n bytes)
+canonical_sent allows size rows n bytes canonical cut t =
+    sent_reads allows size (reading_by rows) n bytes (canonical_reads size rows bytes canonical) cut t
 
--- two messages are equal if and only if their types and bytes are
-pub equal_messages : (a b : ℕ) (x y : List ℕ)
-    → ((nat_eq a b && (bytes_eq x y && true)) ≡ true) ↔ (◌≡◌ {A = ℕ × List ℕ} (a, x) (b, y))
-equal_messages a b x y = (
-  λ e. (let p = and_parts (nat_eq a b) (bytes_eq x y && true) e in
-      ap (λ (t : ℕ). (t, x)) (eqb-true a b p.0)
-      ∙ ap (λ (z : List ℕ). (b, z)) ((bytes_decides x y).0 (and_parts (bytes_eq x y) true p.1).0)),
-  λ same. and_from (nat_eq a b) (bytes_eq x y && true) (eq-eqb a b (ap (λ (p : ℕ × List ℕ). p.0) same))
-      (and_from (bytes_eq x y) true ((bytes_decides x y).1 (ap (λ (p : ℕ × List ℕ). p.1) same)) refl),
+-- the type and the payload of a message are lawful
+pub canonical_lawful : {I : Type 0} (stands_for : I → ℕ × List ℕ) (has short : ℕ → Bool) (size : ℕ → ℕ)
+    (rows : ℕ → List Row) → HasOwnTypes has → (t n : ℕ) (bytes : List ℕ)
+    → has t ≡ true → is_canonical_payload (size t) (rows t) bytes ≡ true → is_cut (short t) (size t) n bytes ≡ true
+    → IsLawful (message_decoding stands_for has short size (λ t. reading_by (rows t))) (t, sent n bytes)
+canonical_lawful stands_for has short size rows own t n bytes is canonical cut =
+    reading_lawful stands_for has short size (λ t. reading_by (rows t)) own
+    (λ t. keeps_by (rows t)) (header_of t) (sent n bytes) (t, sent n bytes)
+    (ap (λ (b : Bool). if b then short_reading (short t) (size t) (reading_by (rows t)) t (sent n bytes) else None) is
+    ∙ canonical_sent (short t) (size t) (rows t) n bytes canonical cut t)
+
+-- a canonical payload contains its header
+pub canonical_long : (size : ℕ) (rows : List Row) (bytes : List ℕ) → is_canonical_payload size rows bytes ≡ true
+    → size ≤ length bytes
+canonical_long size rows bytes canonical =
+    read_long size (reading_by rows) 0 bytes (0, bytes) (canonical_reads size rows bytes canonical 0)
+
+-- what the type invariant states about the payload of a message
+pub record IsMessage (allows : Bool) (size : ℕ) (rows : List Row) (n : ℕ) (bytes : List ℕ) : Type 0 where
+  pub canonical : is_canonical_payload size rows bytes ≡ true
+  pub cut : is_cut allows size n bytes ≡ true
+
+-- two messages are equal if and only if their types and payloads are
+pub equal_messages : (short : ℕ → Bool) (size : ℕ → ℕ) (rows : ℕ → List Row) (a b n m : ℕ) (x y : List ℕ)
+    → IsMessage (short a) (size a) (rows a) n x → IsMessage (short b) (size b) (rows b) m y
+    → ((nat_eq a b && (bytes_eq x y && (nat_eq n m && true))) ≡ true)
+    ↔ (◌≡◌ {A = ℕ × List ℕ} (a, sent n x) (b, sent m y))
+equal_messages short size rows a b n m x y first second = (
+  λ e. (let p = and_parts (nat_eq a b) (bytes_eq x y && (nat_eq n m && true)) e in
+      let q = and_parts (bytes_eq x y) (nat_eq n m && true) p.1 in
+      let r = and_parts (nat_eq n m) true q.1 in
+      ap (λ (t : ℕ). (t, sent n x)) (eqb-true a b p.0)
+      ∙ ap (λ (z : List ℕ). (b, sent n z)) ((bytes_decides x y).0 q.0)
+      ∙ ap (λ (k : ℕ). (b, sent k y)) (eqb-true n m r.0)),
+  λ same. (let types : a ≡ b = ap (λ (p : ℕ × List ℕ). p.0) same in
+      let other : IsMessage (short a) (size a) (rows a) m y =
+      subst (λ (t : ℕ). IsMessage (short t) (size t) (rows t) m y) (sym types) second in
+      let parts = same_sent (short a) (size a) n m x y (canonical_long (size a) (rows a) x first.canonical) first.cut
+      (canonical_long (size a) (rows a) y other.canonical) other.cut (ap (λ (p : ℕ × List ℕ). p.1) same) in
+      and_from (nat_eq a b) (bytes_eq x y && (nat_eq n m && true)) (eq-eqb a b types)
+      (and_from (bytes_eq x y) (nat_eq n m && true) ((bytes_decides x y).1 parts.0)
+      (and_from (nat_eq n m) true (eq-eqb n m parts.1) refl))),
 )
 
 values_fit : (all : List Attribute) → All FitsAttribute all → list_all value_fits all ≡ true

@@ -12,10 +12,11 @@ use Rattle.netlink_packet_core.specs.StartLaws.{nothing_starts, starts-attribute
 use Rattle.netlink_packet_core.specs.Views.{attribute_of, length_field, raw_kind}
 use Rattle.netlink_packet_core.specs.Walk.{IsFault, Starts}
 use Rattle.netlink_family.specs.Blocks.{all_normalized, block_fits, block_reading, keep_fit, normalize, normalized, with_first}
-use Rattle.netlink_family.specs.PayloadReading.{after_header, payload_reading}
-use Rattle.netlink_family.specs.Errors.{ValueError, block_error, reason_of, decode_reason, walk_reason, payload_error, error_at, nest_error, rest_error, first_error, flat_error, left_after, message_error, too_long_error, value_error}
+use Rattle.netlink_family.specs.PayloadReading.{after_header, payload_reading, short_reading}
+use Rattle.netlink_family.specs.Errors.{ValueError, block_error, reason_of, decode_reason, walk_reason, payload_error, error_at, nest_error, rest_error, first_error, flat_error, left_after, message_error, too_long_error, value_error, short_error}
 use Rattle.netlink_family.specs.Listing.{listed_all}
 use Rattle.netlink_family.specs.Shapes.{Row, Scope, all_shaped, by_nest, fits_kind, has_shape, is_block_shaped, is_shaped, nest_block, nest_levels, nest_of, or_first, reading_by, reading_in, shape_among, within}
+use Rattle.netlink_family.specs.Short.{is_short}
 use Rattle.netlink_family.specs.declared.error.FamilyError.{FamilyError}
 use Rattle.netlink_family.specs.declared.error.FamilyError.TheVariants.{InvalidAttribute, TooLong}
 use Rattle.netlink_family.specs.declared.attribute_error.Reason.{Reason}
@@ -362,11 +363,22 @@ pub payload_complete : (size : ℕ) (rows : List Row) (t : ℕ) (payload : List 
 payload_complete size rows t payload =
     by_long (nat_le size (length payload)) size rows t payload _
 
-pub message_complete : (is : Bool) (size : ℕ) (rows : List Row) (t : ℕ) (payload : List ℕ)
-    → is_none (message_error is size rows t payload)
-    ≡ is_some (if is then payload_reading size (reading_by rows) t payload else None)
-message_complete true size rows t payload = payload_complete size rows t payload
-message_complete false size rows t payload = refl
+by_short : (short : Bool) (size : ℕ) (rows : List Row) (t : ℕ) (payload : List ℕ)
+    → is_none (if short then None else payload_error size rows payload)
+    ≡ is_some (if short then Some (t, payload) else payload_reading size (reading_by rows) t payload)
+by_short true size rows t payload = refl
+by_short false size rows t payload = payload_complete size rows t payload
+
+-- the same for a message type that may allow a short payload
+pub short_complete : (allows : Bool) (size : ℕ) (rows : List Row) (t : ℕ) (payload : List ℕ)
+    → is_none (short_error allows size rows payload) ≡ is_some (short_reading allows size (reading_by rows) t payload)
+short_complete allows size rows t payload = by_short (is_short allows size payload) size rows t payload
+
+pub message_complete : (is allows : Bool) (size : ℕ) (rows : List Row) (t : ℕ) (payload : List ℕ)
+    → is_none (message_error is allows size rows t payload)
+    ≡ is_some (if is then short_reading allows size (reading_by rows) t payload else None)
+message_complete true allows size rows t payload = short_complete allows size rows t payload
+message_complete false allows size rows t payload = refl
 
 none_read : {A E : Type 0} (error : Option E) (found : Option A) (e : E)
     → is_none error ≡ is_some found → error ≡ Some e → found ≡ None
@@ -374,7 +386,7 @@ none_read error None e same is = refl
 none_read error (Some a) e same is = absurd (cc)
 
 -- so a payload with an error is not read
-pub payload_rejected : (size : ℕ) (rows : List Row) (t : ℕ) (payload : List ℕ) (e : FamilyError)
-    → payload_error size rows payload ≡ Some e → payload_reading size (reading_by rows) t payload ≡ None
-payload_rejected size rows t payload e is =
-    none_read _ _ e (payload_complete size rows t payload) is
+pub payload_rejected : (allows : Bool) (size : ℕ) (rows : List Row) (t : ℕ) (payload : List ℕ) (e : FamilyError)
+    → short_error allows size rows payload ≡ Some e → short_reading allows size (reading_by rows) t payload ≡ None
+payload_rejected allows size rows t payload e is =
+    none_read _ _ e (short_complete allows size rows t payload) is

@@ -8,8 +8,9 @@ use Rattle.netlink_packet_core.specs.FieldLaws.{length-value}
 use Rattle.netlink_packet_core.specs.Reading.{attributes_in, starts_whole}
 use Rattle.netlink_packet_core.specs.Views.{attribute_of, length_field, raw_kind}
 use Rattle.netlink_family.specs.Blocks.{block_fits}
-use Rattle.netlink_family.specs.Errors.{ValueError, block_error, first_error, message_error, too_long_error, value_error}
+use Rattle.netlink_family.specs.Errors.{ValueError, block_error, first_error, message_error, too_long_error, value_error, payload_error}
 use Rattle.netlink_family.specs.Shapes.{Row, Scope, by_nest, has_shape, nest_block, nest_levels, nest_of, nest_start, or_first, shape_among, within}
+use Rattle.netlink_family.specs.Short.{is_short}
 use Rattle.netlink_family.specs.declared.error.FamilyError.{FamilyError}
 use Rattle.netlink_family.specs.declared.error.FamilyError.TheVariants.{InvalidAttribute, HeaderShort, TooLong}
 use Rattle.netlink_family.specs.declared.attribute_error.AttributeError.{AttributeError}
@@ -126,9 +127,16 @@ inside_long true size rows payload f has is =
     (by_first (block_error rows (length payload) (drop size payload)) (attributes_in (drop size payload)) f is)
 inside_long false size rows payload f has is = absurd (cc)
 
-pub message_inside : (is : Bool) (size : ℕ) (rows : List Row) (t : ℕ) (payload : List ℕ) (f : AttributeError)
-    → message_error is size rows t payload ≡ Some (InvalidAttribute f)
+inside_short : (short : Bool) (size : ℕ) (rows : List Row) (payload : List ℕ) (f : AttributeError)
+    → (if short then None else payload_error size rows payload) ≡ Some (InvalidAttribute f)
     → (size ≤ f.offset) × (f.offset < length payload)
-message_inside true size rows t payload f has =
-    inside_long (nat_le size (length payload)) size rows payload f refl has
-message_inside false size rows t payload f has = absurd (cc)
+inside_short true size rows payload f is = absurd (cc)
+inside_short false size rows payload f is =
+    inside_long (nat_le size (length payload)) size rows payload f refl is
+
+pub message_inside : (is allows : Bool) (size : ℕ) (rows : List Row) (t : ℕ) (payload : List ℕ) (f : AttributeError)
+    → message_error is allows size rows t payload ≡ Some (InvalidAttribute f)
+    → (size ≤ f.offset) × (f.offset < length payload)
+message_inside true allows size rows t payload f has =
+    inside_short (is_short allows size payload) size rows payload f has
+message_inside false allows size rows t payload f has = absurd (cc)

@@ -9,6 +9,7 @@ use Rattle.netlink_packet_core.specs.Reading.{attributes_in, starts_whole}
 use Rattle.netlink_packet_core.specs.Views.{attribute_of, length_field, raw_kind}
 use Rattle.netlink_family.specs.Blocks.{block_fits}
 use Rattle.netlink_family.specs.Shapes.{Row, Scope, by_nest, has_shape, has_type, nest_block, nest_levels, nest_of, or_first, shape_among, within}
+use Rattle.netlink_family.specs.Short.{is_short}
 use Rattle.netlink_family.specs.declared.error.FamilyError.{FamilyError}
 use Rattle.netlink_family.specs.declared.error.FamilyError.TheVariants.{HeaderShort, InvalidAttribute, TooLong, UnknownType}
 use Rattle.netlink_family.specs.declared.attribute_error.Reason.{Reason}
@@ -121,11 +122,18 @@ payload_error size rows payload =
     then or_first (option_map InvalidAttribute (block_error rows (length payload) (drop size payload)))
     (too_long_error (attributes_in (drop size payload))) else Some (HeaderShort size (length payload))
 
--- the error of a payload; `is` states whether the message type is known
-abbrev pub message_error : Bool → ℕ → List Row → ℕ → List ℕ → Option FamilyError
-message_error is size rows t payload =
-    if is then payload_error size rows payload else Some (UnknownType t)
+-- the same for a message type that may allow a short payload, which has no error
+abbrev pub short_error : Bool → ℕ → List Row → List ℕ → Option FamilyError
+short_error allows size rows payload =
+    if is_short allows size payload then None else payload_error size rows payload
 
--- the error of a payload in a family with these message types, sizes of headers, and rows
-abbrev pub family_error : List ℕ → (ℕ → ℕ) → (ℕ → List Row) → ℕ → List ℕ → Option FamilyError
-family_error types size rows t payload = message_error (has_type types t) (size t) (rows t) t payload
+-- the error of a payload; `is` states whether the message type is known
+abbrev pub message_error : Bool → Bool → ℕ → List Row → ℕ → List ℕ → Option FamilyError
+message_error is allows size rows t payload =
+    if is then short_error allows size rows payload else Some (UnknownType t)
+
+-- the error of a payload in a family with these message types, those of them that allow a short
+-- payload, sizes of headers, and rows
+abbrev pub family_error : List ℕ → (ℕ → Bool) → (ℕ → ℕ) → (ℕ → List Row) → ℕ → List ℕ → Option FamilyError
+family_error types short size rows t payload =
+    message_error (has_type types t) (short t) (size t) (rows t) t payload

@@ -17,6 +17,8 @@ pub mod PayloadReading
 pub mod Pushing
 pub mod PushingLaws
 pub mod Shapes
+pub mod Short
+pub mod ShortLaws
 pub mod Show
 pub mod ShowLaws
 pub mod SortedLaws

@@ -4,22 +4,24 @@ use Rattle.std.proofs.Common.{arith, ap, sym, ◌∙◌, inl, inr}
 use Rattle.std.proofs.lemmas.Bool.{and_parts, eqb-true, leb-true, ltb-true, or_cases}
 use Rattle.netlink_packet_core.specs.Protocol.{IsLawful, IsOwnType}
 use Rattle.netlink_packet_core.specs.declared.header.NetlinkHeader.{NetlinkHeader}
-use Rattle.netlink_family.specs.PayloadReading.{IsWrittenBy, payload_again, payload_reading, payload_written}
+use Rattle.netlink_family.specs.PayloadReading.{short_reading}
+use Rattle.netlink_family.specs.ShortLaws.{short_again}
 use Rattle.netlink_family.specs.Message.{message_decoding, message_reading}
 use Rattle.netlink_family.specs.Shapes.{are_own, has_type}
 use Rattle.netlink_family.specs.Blocks.{KeepsValues, ValueReading}
 
 -- ---- a canonical payload is read as itself
 
-abbrev by_family : (ℕ → ℕ) → (ℕ → ValueReading) → Bool → ℕ → List ℕ → Option (ℕ × List ℕ)
-by_family size values is t payload = if is then payload_reading (size t) (values t) t payload else None
+abbrev by_family : (ℕ → Bool) → (ℕ → ℕ) → (ℕ → ValueReading) → Bool → ℕ → List ℕ → Option (ℕ × List ℕ)
+by_family short size values is t payload =
+    if is then short_reading (short t) (size t) (values t) t payload else None
 
-pub message_reads : (is_type : ℕ → Bool) (size : ℕ → ℕ) (values : ℕ → ValueReading) (t : ℕ) → is_type t ≡ true
+pub message_reads : (is_type short : ℕ → Bool) (size : ℕ → ℕ) (values : ℕ → ValueReading) (t : ℕ) → is_type t ≡ true
     → (h : NetlinkHeader) (payload : List ℕ) → h.message_type ≡ t
-    → message_reading is_type size values h payload ≡ payload_reading (size t) (values t) t payload
-message_reads is_type size values t is h payload here =
-    ap (λ (n : ℕ). by_family size values (is_type n) n payload) here
-    ∙ ap (λ (b : Bool). by_family size values b t payload) is
+    → message_reading is_type short size values h payload ≡ short_reading (short t) (size t) (values t) t payload
+message_reads is_type short size values t is h payload here =
+    ap (λ (n : ℕ). by_family short size values (is_type n) n payload) here
+    ∙ ap (λ (b : Bool). by_family short size values b t payload) is
 
 -- every type is at least 5 and has 16 bits
 abbrev pub HasOwnTypes : (ℕ → Bool) → Type 0
@@ -33,36 +35,37 @@ own_type t own same five = (
   λ e. omega (arith, e, same, five),
 )
 
-message_lawful : {I : Type 0} (stands_for : I → ℕ × List ℕ) (is_type : ℕ → Bool) (size : ℕ → ℕ)
+message_lawful : {I : Type 0} (stands_for : I → ℕ × List ℕ) (is_type short : ℕ → Bool) (size : ℕ → ℕ)
     (values : ℕ → ValueReading) (t : ℕ) (pair : ℕ × List ℕ) → HasOwnTypes is_type → is_type t ≡ true
-    → IsWrittenBy (size t) (values t) t pair → IsLawful (message_decoding stands_for is_type size values) pair
-message_lawful stands_for is_type size values t pair own is by =
+    → pair.0 ≡ t → short_reading (short t) (size t) (values t) t pair.1 ≡ Some pair
+    → IsLawful (message_decoding stands_for is_type short size values) pair
+message_lawful stands_for is_type short size values t pair own is kind again =
     let range = own t is in
-    let kind : pair.0 ≡ t = ap (λ (p : ℕ × List ℕ). p.0) by.whole in
     record {
       own_type = own_type pair.0 t kind range.0;
       width = omega (arith, kind, range);
       again = λ h same sized.
-          message_reads is_type size values t is h pair.1 (same ∙ kind) ∙ payload_again (size t) (values t) t pair by;
+          message_reads is_type short size values t is h pair.1 (same ∙ kind) ∙ again;
     }
 
-by_type : {I : Type 0} (stands_for : I → ℕ × List ℕ) (is_type : ℕ → Bool) (size : ℕ → ℕ)
+by_type : {I : Type 0} (stands_for : I → ℕ × List ℕ) (is_type short : ℕ → Bool) (size : ℕ → ℕ)
     (values : ℕ → ValueReading) → HasOwnTypes is_type → ((t : ℕ) → KeepsValues (values t))
     → (is : Bool) (t : ℕ) (payload : List ℕ) (pair : ℕ × List ℕ) → is_type t ≡ is
-    → by_family size values is t payload ≡ Some pair → IsLawful (message_decoding stands_for is_type size values) pair
-by_type stands_for is_type size values own keeps true t payload pair is gives =
-    message_lawful stands_for is_type size values t pair own is
-    (payload_written (size t) (values t) t payload pair (keeps t) gives)
-by_type stands_for is_type size values own keeps false t payload pair not gives = absurd (cc)
+    → by_family short size values is t payload ≡ Some pair
+    → IsLawful (message_decoding stands_for is_type short size values) pair
+by_type stands_for is_type short size values own keeps true t payload pair is gives =
+    let again = short_again (short t) (size t) (values t) t payload pair (keeps t) gives in
+    message_lawful stands_for is_type short size values t pair own is again.0 again.1
+by_type stands_for is_type short size values own keeps false t payload pair not gives = absurd (cc)
 
 -- what is read is lawful
-pub reading_lawful : {I : Type 0} (stands_for : I → ℕ × List ℕ) (is_type : ℕ → Bool) (size : ℕ → ℕ)
+pub reading_lawful : {I : Type 0} (stands_for : I → ℕ × List ℕ) (is_type short : ℕ → Bool) (size : ℕ → ℕ)
     (values : ℕ → ValueReading) → HasOwnTypes is_type → ((t : ℕ) → KeepsValues (values t))
     → (h : NetlinkHeader) (payload : List ℕ) (pair : ℕ × List ℕ)
-    → message_reading is_type size values h payload ≡ Some pair
-    → IsLawful (message_decoding stands_for is_type size values) pair
-reading_lawful stands_for is_type size values own keeps h payload pair gives =
-    by_type stands_for is_type size values own keeps (is_type h.message_type) h.message_type
+    → message_reading is_type short size values h payload ≡ Some pair
+    → IsLawful (message_decoding stands_for is_type short size values) pair
+reading_lawful stands_for is_type short size values own keeps h payload pair gives =
+    by_type stands_for is_type short size values own keeps (is_type h.message_type) h.message_type
     payload pair refl gives
 
 own_in : (types : List ℕ) (t : ℕ) → are_own types ≡ true → has_type types t ≡ true → (5 ≤ t) × (t < 2 ^ 16)

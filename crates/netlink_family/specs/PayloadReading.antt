@@ -7,6 +7,7 @@ use Rattle.netlink_packet_core.specs.Attribute.{Attribute}
 use Rattle.netlink_packet_core.specs.Block.{canonical_block}
 use Rattle.netlink_family.specs.Blocks.{KeepsValues, ValueReading, block_reading}
 use Rattle.netlink_family.specs.BlocksLaws.{AreNormalized, block_again, reading_normalized}
+use Rattle.netlink_family.specs.Short.{is_short}
 
 abbrev pub after_header : ℕ → List ℕ → Option (List Attribute) → Option (ℕ × List ℕ)
 after_header t head None = None
@@ -17,6 +18,11 @@ abbrev pub payload_reading : ℕ → ValueReading → ℕ → List ℕ → Optio
 payload_reading size values t payload =
     if nat_le size (length payload) then after_header t (take size payload) (block_reading values (drop size payload))
     else None
+
+-- the same for a message type that may allow a short payload, which is canonical as it is
+abbrev pub short_reading : Bool → ℕ → ValueReading → ℕ → List ℕ → Option (ℕ × List ℕ)
+short_reading allows size values t payload =
+    if is_short allows size payload then Some (t, payload) else payload_reading size values t payload
 
 -- a message type and bytes that are a header and attributes in canonical form
 pub record IsWrittenBy (size : ℕ) (values : ValueReading) (t : ℕ) (pair : ℕ × List ℕ) : Type 0 where

@@ -24,6 +24,8 @@ impl<F: Table, G: Table> Table for Both<F, G> {
 
     ghost header_len = { λ t. if has_type F.types t then F.header_len t else G.header_len t };
 
+    ghost short = { λ t. if has_type F.types t then F.short t else G.short t };
+
     ghost rows = { λ t. if has_type F.types t then F.rows t else G.rows t };
 
     ghost fields = { λ t. if has_type F.types t then F.fields t else G.fields t };
@@ -38,6 +40,13 @@ impl<F: Table, G: Table> Table for Both<F, G> {
             return F::header_len(message_type);
         }
         G::header_len(message_type)
+    }
+
+    fn allows_short(message_type: u16) -> bool {
+        if F::has(message_type) {
+            return F::allows_short(message_type);
+        }
+        G::allows_short(message_type)
     }
 
     fn rows(message_type: u16) -> &'static [Row] {
@@ -77,6 +86,8 @@ impl<J: Join> Table for Joined<J> {
 
     ghost header_len = { J.All.header_len };
 
+    ghost short = { J.All.short };
+
     ghost rows = { J.All.rows };
 
     ghost fields = { J.All.fields };
@@ -87,6 +98,10 @@ impl<J: Join> Table for Joined<J> {
 
     fn header_len(message_type: u16) -> usize {
         J::All::header_len(message_type)
+    }
+
+    fn allows_short(message_type: u16) -> bool {
+        J::All::allows_short(message_type)
     }
 
     fn rows(message_type: u16) -> &'static [Row] {
@@ -109,10 +124,12 @@ impl<J: Join> OwnedMessage<Joined<J>> {
     pub fn tables(self) -> OwnedMessage<J::All>
         ensures message_type { result.message_type ≡ self.message_type }
         ensures bytes { result.bytes ≡ self.bytes }
+        ensures short { result.short ≡ self.short }
     {
         OwnedMessage {
             message_type: self.message_type,
             bytes: self.bytes,
+            short: self.short,
             family: PhantomData,
         }
     }
@@ -167,20 +184,25 @@ impl<F: Table, G: Table> OwnedMessage<Both<F, G>> {
     pub fn split(self) -> Result<OwnedMessage<F>, OwnedMessage<G>>
         ensures which { IsOk result ↔ (has_type F.types self.message_type ≡ true) }
         ensures first { IfOk result (λ m. (m.message_type ≡ self.message_type) × (m.bytes ≡ self.bytes)) }
+        ensures first_short { IfOk result (λ m. m.short ≡ self.short) }
         ensures second { IfErr result (λ m. (m.message_type ≡ self.message_type) × (m.bytes ≡ self.bytes)) }
+        ensures second_short { IfErr result (λ m. m.short ≡ self.short) }
     {
         let message_type = self.message_type;
         let bytes = self.bytes;
+        let short = self.short;
         if F::has(message_type) {
             return Ok(OwnedMessage {
                 message_type,
                 bytes,
+                short,
                 family: PhantomData,
             });
         }
         Err(OwnedMessage {
             message_type,
             bytes,
+            short,
             family: PhantomData,
         })
     }

@@ -15,7 +15,7 @@ use crate::attribute_error::{AttributeError, error_in};
 use crate::block::{block_error, fits_shape};
 use crate::choice::shape_among;
 use crate::error::{FamilyError, header_short};
-use crate::family::{Table, rows_of};
+use crate::family::{Table, is_short, rows_of};
 use crate::shape::{NEST_LEVELS, Row, TOP};
 use crate::value::{Value, value_in};
 use netlink_packet_core::{NLA_BLOCK_MAX, NlasIterator};
@@ -46,12 +46,12 @@ pub struct CheckedAttributes<'a, F: Table> {
 }
 
 impl<'a, F: Table> CheckedAttributes<'a, F> {
-    /// Starts the iteration over the attributes of a payload. Returns `UnknownType`, `HeaderShort`,
-    /// or, for a block too long for any message, its first error or else `TooLong`. An error in the
-    /// attributes is otherwise found by the iteration.
+    /// Starts the iteration over the attributes of a payload; a short payload has none. Returns
+    /// `UnknownType`, `HeaderShort`, or, for a block too long for any message, its first error or
+    /// else `TooLong`. An error in the attributes is otherwise found by the iteration.
     pub fn new(message_type: u16, payload: &'a [u8]) -> Result<Self, FamilyError>
-        ensures error { IfErr result (λ e. family_error F.types F.header_len F.rows message_type payload.now ≡ Some e) }
-        ensures later { IfOk result (λ all. family_error F.types F.header_len F.rows message_type payload.now
+        ensures error { IfErr result (λ e. family_error F.types F.short F.header_len F.rows message_type payload.now ≡ Some e) }
+        ensures later { IfOk result (λ all. family_error F.types F.short F.header_len F.rows message_type payload.now
             ≡ option_map FamilyError.InvalidAttribute
             (rest_error (within (F.rows message_type) all.block.now) (length payload.now) (unread all.walk))) }
         ensures block { IfOk result (λ all. all.block.now ≡ unread all.walk) }
@@ -63,11 +63,21 @@ impl<'a, F: Table> CheckedAttributes<'a, F> {
             return Err(FamilyError::UnknownType { message_type });
         }
         let size = F::header_len(message_type);
-        if payload.len() < size {
-            return Err(header_short(size, payload));
-        }
         let rows = rows_of::<F>(message_type);
         let end = payload.len();
+        if end < size {
+            if is_short::<F>(message_type, payload) {
+                return Ok(CheckedAttributes {
+                    walk: NlasIterator::new(&[]),
+                    block: &[],
+                    end,
+                    message_type,
+                    rows,
+                    family: PhantomData,
+                });
+            }
+            return Err(header_short(size, payload));
+        }
         let block = &payload[size..];
         if is_too_long(block) {
             return Err(long_block_error(rows, end, block));

@@ -1,20 +1,29 @@
 //! What a family declares.
 
-ghost use Rattle.std.specs.Prelude.{◌≡◌, ℕ, List, true};
+ghost use Rattle.std.specs.Prelude.{◌≡◌, ℕ, Bool, List, true};
 ghost use Rattle.netlink_family.specs.Shapes.{Field, Row, are_own, fields_in, has_type, rows_in, shape_in, are_sorted};
+ghost use Rattle.netlink_family.specs.Short.{is_short};
 
 use crate::header_view::Field;
 use crate::shape::{Row, Shape, row_shape};
 use std::fmt::Debug;
 
-/// The message types of one or more families. For each, the table has the size of its fixed header
-/// and rows for the kinds of attributes. A kind without a row may have any bytes as its value.
+/// The size of the largest short payload.
+const SHORT_MAX: usize = 4;
+
+/// The message types of one or more families. For each, the table has the size of its fixed header,
+/// whether a payload may be short, and rows for the kinds of attributes. A kind without a row may
+/// have any bytes as its value.
 pub trait Table {
     /// The message types.
     ghost types: { List ℕ };
 
     /// The size of the fixed header in bytes, by message type.
     ghost header_len: { ℕ → ℕ };
+
+    /// The message types that also allow a payload of 1 to 4 bytes, fewer than the header, in place
+    /// of header and attributes.
+    ghost short: { ℕ → Bool };
 
     /// The rows, by message type.
     ghost rows: { ℕ → List Row };
@@ -29,6 +38,11 @@ pub trait Table {
     /// Returns the size of the fixed header in bytes.
     fn header_len(message_type: u16) -> usize
         ensures len { result ≡ header_len message_type };
+
+    /// Returns whether a message type also allows a payload of 1 to 4 bytes, fewer than the header,
+    /// in place of header and attributes.
+    fn allows_short(message_type: u16) -> bool
+        ensures short { result ≡ short message_type };
 
     /// Returns the rows.
     fn rows(message_type: u16) -> &'static [Row]
@@ -55,6 +69,20 @@ pub(crate) fn rows_of<F: Table>(message_type: u16) -> &'static [Row]
 pub trait Family: Table + Copy + Debug + Eq {
     /// The message types are distinct, and none is below 5.
     ghost own: { are_own Self.types ≡ true };
+}
+
+/// Returns whether a payload of this message type is short: it has 1 to 4 bytes, fewer than the
+/// header, and the table allows that. Such is the `struct rtgenmsg` of linux/rtnetlink.h, one byte
+/// and its padding, with which programs request a dump.
+#[tactic(auto, using(crate::specs::ShortLaws::whole_not, crate::specs::ShortLaws::short_from))]
+pub fn is_short<F: Table>(message_type: u16, payload: &[u8]) -> bool
+    ensures { result ≡ is_short (F.short message_type) (F.header_len message_type) payload.now }
+{
+    let size = payload.len();
+    if size >= F::header_len(message_type) || !F::allows_short(message_type) {
+        return false;
+    }
+    size <= SHORT_MAX && size > 0
 }
 
 /// Returns the shape that a table gives a kind in a policy.

@@ -86,6 +86,7 @@ impl<'a> BlockView<'a> {
         match self.shape(kind) {
             Shape::HeaderNested { size, .. } => Some(HeaderView {
                 bytes: &self.first(kind)?[..size as usize],
+                missing: 0,
             }),
             _ => None,
         }

@@ -16,12 +16,12 @@ use crate::family::Table;
 /// invalid attribute is in the payload, after the header.
 pub fn errors<F: Table>()
     ensures complete { (h : NetlinkHeader) (payload : List ℕ)
-        → is_none (family_error F.types F.header_len F.rows h.message_type payload)
-        ≡ is_some (message_reading (has_type F.types) F.header_len (λ t. reading_by (F.rows t)) h payload) }
+        → is_none (family_error F.types F.short F.header_len F.rows h.message_type payload)
+        ≡ is_some (message_reading (has_type F.types) F.short F.header_len (λ t. reading_by (F.rows t)) h payload) }
     ensures unique { (h : NetlinkHeader) (payload : List ℕ) (e f : FamilyError)
-        → family_error F.types F.header_len F.rows h.message_type payload ≡ Some e
-        → family_error F.types F.header_len F.rows h.message_type payload ≡ Some f → e ≡ f }
+        → family_error F.types F.short F.header_len F.rows h.message_type payload ≡ Some e
+        → family_error F.types F.short F.header_len F.rows h.message_type payload ≡ Some f → e ≡ f }
     ensures inside { (h : NetlinkHeader) (payload : List ℕ) (f : AttributeError)
-        → family_error F.types F.header_len F.rows h.message_type payload ≡ Some (InvalidAttribute f)
+        → family_error F.types F.short F.header_len F.rows h.message_type payload ≡ Some (InvalidAttribute f)
         → (F.header_len h.message_type ≤ f.offset) × (f.offset < length payload) }
 {}

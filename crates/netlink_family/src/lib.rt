@@ -30,7 +30,7 @@ pub use crate::block_view::BlockView;
 pub use crate::both::{Both, Join, Joined};
 pub use crate::checked::CheckedAttributes;
 pub use crate::error::FamilyError;
-pub use crate::family::{Family, Table, is_among, shape_of};
+pub use crate::family::{Family, Table, is_among, is_short, shape_of};
 pub use crate::header_view::{Field, HeaderView};
 pub use crate::owned::OwnedMessage;
 pub use crate::shape::{ANY, Row, Shape, TOP};

@@ -22,12 +22,12 @@ use netlink_packet_core::{
 use std::alloc::Global;
 
 impl<F: Table> OwnedMessage<F> {
-    /// Appends an attribute whose kind is known only at run time, or a nest. Returns
-    /// `InvalidAttribute`, with the offset counted from the start of the new attribute, if the value
-    /// does not have the shape of its kind, or if the attribute would choose its own shape or that of
-    /// an attribute before it (`LateChoice`); `TooLong` if the value or the message would be too long;
-    /// `OutOfMemory` if the allocation fails. After an error the message is unchanged.
-    #[tactic(auto, using(crate::specs::PushingLaws::push_by_value))]
+    /// Appends an attribute whose kind is known only at run time, or a nest. A short message becomes
+    /// whole. Returns `InvalidAttribute`, with the offset counted from the start of the new attribute,
+    /// if the value does not have the shape of its kind, or if the attribute would choose its own shape
+    /// or that of an attribute before it (`LateChoice`); `TooLong` if the value or the message would be
+    /// too long; `OutOfMemory` if the allocation fails. After an error the message is unchanged.
+    #[tactic(auto, using(crate::specs::PushingLaws::push_by_value, crate::specs::PushingLaws::no_error_fits))]
     pub fn try_push(&mut self, alloc: Global, kind: u16, value: &[u8]) -> Result<(), FamilyError>
         ensures ok { OnOk result
             (self.new.bytes.items ≡ self.old.bytes.items ++ padded (attribute_with kind value.now)) }
@@ -41,6 +41,8 @@ impl<F: Table> OwnedMessage<F> {
             (drop (F.header_len self.old.message_type) self.old.bytes.items)) kind value.now ≡ Some f
             → result ≡ Err (FamilyError.InvalidAttribute f) }
         ensures unchanged { IfErr result (λ _. self.new.bytes.items ≡ self.old.bytes.items) }
+        ensures whole { OnOk result (self.new.short ≡ 0) }
+        ensures unchanged_short { IfErr result (λ _. self.new.short ≡ self.old.short) }
         ensures message_type { self.new.message_type ≡ self.old.message_type }
     {
         let rows = rows_of::<F>(self.message_type);
@@ -50,11 +52,11 @@ impl<F: Table> OwnedMessage<F> {
         }
     }
 
-    /// Appends an attribute. Requires that the table gives the kind the shape of the value, and that
-    /// the value satisfies its shape. Nests are appended by `try_push`. Returns `InvalidAttribute` with
-    /// `LateChoice` if the attribute would choose the shape of one before it, `TooLong` if the value or
-    /// the message would be too long, and `OutOfMemory` if an allocation fails; the message is then
-    /// unchanged.
+    /// Appends an attribute. A short message becomes whole. Requires that the table gives the kind
+    /// the shape of the value, and that the value satisfies its shape. Nests are appended by
+    /// `try_push`. Returns `InvalidAttribute` with `LateChoice` if the attribute would choose the shape
+    /// of one before it, `TooLong` if the value or the message would be too long, and `OutOfMemory` if
+    /// an allocation fails; the message is then unchanged.
     pub fn push(&mut self, alloc: Global, kind: u16, value: Value<'_>) -> Result<(), FamilyError>
         requires shape { shape_in (F.rows self.old.message_type) 0 kind ≡ value_shape value }
         requires satisfied { is_satisfied value ≡ true }
@@ -66,6 +68,8 @@ impl<F: Table> OwnedMessage<F> {
             → satisfied_error (F.header_len self.old.message_type) (F.rows self.old.message_type)
             self.old.bytes.items kind (value_bytes value.entry) ≡ Some e) }
         ensures unchanged { IfErr result (λ _. self.new.bytes.items ≡ self.old.bytes.items) }
+        ensures whole { OnOk result (self.new.short ≡ 0) }
+        ensures unchanged_short { IfErr result (λ _. self.new.short ≡ self.old.short) }
         ensures message_type { self.new.message_type ≡ self.old.message_type }
     {
         value_fits(self, kind, value);
@@ -120,13 +124,18 @@ impl<F: Table> OwnedMessage<F> {
         ensures error { IfErr result (λ e. wants_memory e ≡ false
             → room_error (F.header_len self.old.message_type) self.old.bytes.items value.now ≡ Some e) }
         ensures unchanged { IfErr result (λ _. self.new.bytes.items ≡ self.old.bytes.items) }
+        ensures whole { OnOk result (self.new.short ≡ 0) }
+        ensures unchanged_short { IfErr result (λ _. self.new.short ≡ self.old.short) }
         ensures message_type { self.new.message_type ≡ self.old.message_type }
     {
         if !self.has_room(value) {
             return Err(FamilyError::TooLong);
         }
         match append_nla(alloc, &mut self.bytes, kind, value) {
-            Ok(()) => Ok(()),
+            Ok(()) => {
+                self.short = 0;
+                Ok(())
+            }
             Err(_) => Err(FamilyError::OutOfMemory),
         }
     }

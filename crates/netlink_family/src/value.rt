@@ -117,6 +117,7 @@ fn header_nest_in<'a>(rows: &'static [Row], size: u16, policy: u16, bytes: &'a [
 {
     let header = HeaderView {
         bytes: &bytes[..size as usize],
+        missing: 0,
     };
     let inner = BlockView {
         rows,

@@ -1,20 +1,21 @@
 //! A message read in place, without a copy.
 
-ghost use Rattle.std.specs.Prelude.{◌≡◌, ◌+◌, ◌≤◌, ◌++◌, ℕ, List, Option, None, OnOk, Some, IfErr, IfOk, drop, length, take, ⊤};
+ghost use Rattle.std.specs.Prelude.{◌≡◌, ◌+◌, ◌≤◌, ◌++◌, ℕ, List, Option, None, OnOk, Some, IfErr, IfOk, drop, false, length, take, true, ⊤};
 ghost use Rattle.netlink_packet_core.specs.Attribute.{Attribute};
 ghost use Rattle.netlink_packet_core.specs.Block.{canonical_block};
 ghost use Rattle.netlink_packet_core.specs.DecodeError.{DecodeError};
 ghost use Rattle.netlink_packet_core.specs.Frame.{Begins, Frame};
 ghost use Rattle.netlink_packet_core.specs.Walk.{Walk};
-ghost use Rattle.netlink_family.specs.PayloadReading.{payload_reading};
+ghost use Rattle.netlink_family.specs.PayloadReading.{short_reading};
 ghost use Rattle.netlink_family.specs.Errors.{family_error};
-ghost use Rattle.netlink_family.specs.Shapes.{reading_by, rows_in};
+ghost use Rattle.netlink_family.specs.Shapes.{has_type, reading_by, rows_in};
+ghost use Rattle.netlink_family.specs.Short.{is_short, sent};
 
 use crate::block::{append_attributes, has_shapes};
 use crate::block_view::BlockView;
 use crate::checked::CheckedAttributes;
 use crate::error::FamilyError;
-use crate::family::{Family, Table, rows_of};
+use crate::family::{Family, Table, is_short, rows_of};
 use crate::header_view::HeaderView;
 use crate::owned::OwnedMessage;
 use crate::shape::TOP;
@@ -30,11 +31,11 @@ use std::marker::PhantomData;
 pub struct MessageView<'a, F: Table> {
     /// The message type, which is one of the family's.
     pub message_type: u16,
-    /// The fixed header and the attributes, as received.
+    /// The fixed header and the attributes, or a short payload, as received.
     pub payload: &'a [u8],
     /// The family of the message.
     pub family: PhantomData<F>,
-    pub ghost good: { family_error F.types F.header_len F.rows message_type payload.now ≡ None },
+    pub ghost good: { family_error F.types F.short F.header_len F.rows message_type payload.now ≡ None },
 }
 
 impl<'a, F: Table> Clone for MessageView<'a, F> {
@@ -55,8 +56,8 @@ impl<'a, F: Table> MessageView<'a, F> {
     pub fn new(message_type: u16, payload: &'a [u8]) -> Result<Self, FamilyError>
         ensures message_type { IfOk result (λ v. v.message_type ≡ message_type) }
         ensures payload { IfOk result (λ v. v.payload.now ≡ payload.now) }
-        ensures good { IfOk result (λ _. family_error F.types F.header_len F.rows message_type payload.now ≡ None) }
-        ensures error { IfErr result (λ e. family_error F.types F.header_len F.rows message_type payload.now ≡ Some e) }
+        ensures good { IfOk result (λ _. family_error F.types F.short F.header_len F.rows message_type payload.now ≡ None) }
+        ensures error { IfErr result (λ e. family_error F.types F.short F.header_len F.rows message_type payload.now ≡ Some e) }
     {
         let mut all = CheckedAttributes::<F>::new(message_type, payload)?;
         if !has_shapes(all.rows, all.block, all.walk) {
@@ -69,14 +70,31 @@ impl<'a, F: Table> MessageView<'a, F> {
         })
     }
 
-    /// Returns the fixed header, with getters by field.
+    /// Returns whether the payload is short: 1 to 4 bytes in place of header and attributes.
+    pub fn is_short(&self) -> bool
+        ensures { result ≡ is_short (F.short self.now.message_type) (F.header_len self.now.message_type) self.now.payload.now }
+    {
+        is_short::<F>(self.message_type, self.payload)
+    }
+
+    /// Returns the fixed header, with getters by field. The bytes that a short payload lacks are
+    /// read as 0.
     pub fn header(&self) -> HeaderView<'a>
         ensures bytes { result.bytes.now ≡ take (F.header_len self.now.message_type) self.now.payload.now }
-        ensures size { length result.bytes.now ≡ F.header_len self.now.message_type }
+        ensures size { length result.bytes.now + result.missing ≡ F.header_len self.now.message_type }
+        ensures whole { is_short (F.short self.now.message_type) (F.header_len self.now.message_type) self.now.payload.now ≡ false
+            → length result.bytes.now ≡ F.header_len self.now.message_type }
     {
-        header_fits(self);
+        let size = F::header_len(self.message_type);
+        if self.payload.len() < size {
+            return HeaderView {
+                bytes: self.payload,
+                missing: size - self.payload.len(),
+            };
+        }
         HeaderView {
-            bytes: &self.payload[..F::header_len(self.message_type)],
+            bytes: &self.payload[..size],
+            missing: 0,
         }
     }
 
@@ -84,8 +102,11 @@ impl<'a, F: Table> MessageView<'a, F> {
     pub fn block(&self) -> &'a [u8]
         ensures { result.now ≡ drop (F.header_len self.now.message_type) self.now.payload.now }
     {
-        header_fits(self);
-        &self.payload[F::header_len(self.message_type)..]
+        let size = F::header_len(self.message_type);
+        if self.payload.len() < size {
+            return &[];
+        }
+        &self.payload[size..]
     }
 
     /// Returns a view of the attributes, with getters by kind and an iterator.
@@ -103,17 +124,24 @@ impl<'a, F: Table> MessageView<'a, F> {
 
     /// Copies the message, in the form that `deserialize` returns, without checking it again.
     /// Returns an error if an allocation fails.
+    #[tactic(auto, using(crate::specs::ShortLaws::short_read))]
     pub fn to_owned(&self, alloc: Global) -> Result<OwnedMessage<F>, AllocError>
         ensures message_type { IfOk result (λ m. m.message_type ≡ self.now.message_type) }
-        ensures reads { IfOk result (λ m. (t : ℕ) → payload_reading (F.header_len self.now.message_type)
-            (reading_by (F.rows self.now.message_type)) t self.now.payload.now ≡ Some (t, m.bytes.items)) }
+        ensures reads { IfOk result (λ m. (t : ℕ) → short_reading (F.short self.now.message_type)
+            (F.header_len self.now.message_type) (reading_by (F.rows self.now.message_type)) t self.now.payload.now
+            ≡ Some (t, sent m.short m.bytes.items)) }
     {
+        if self.is_short() {
+            own_type(self);
+            return OwnedMessage::new_short(alloc, self.message_type, self.payload);
+        }
         let mut bytes = Vec::with_capacity(alloc, self.payload.len())?;
         bytes.extend_from_slice(self.header().bytes)?;
         copy_block(alloc, &mut bytes, self.block())?;
         Ok(OwnedMessage {
             message_type: self.message_type,
             bytes,
+            short: 0,
             family: PhantomData,
         })
     }
@@ -151,25 +179,26 @@ fn copy_block(alloc: Global, bytes: &mut Vec<u8>, block: &[u8]) -> Result<(), Al
     append_attributes(alloc, bytes, block)
 }
 
-/// A law: a payload contains its header. Does nothing at run time.
-fn header_fits<F: Table>(view: &MessageView<'_, F>)
-    ensures { F.header_len view.now.message_type ≤ length view.now.payload.now }
+/// A law: the message type is one of the family's. Does nothing at run time.
+fn own_type<F: Table>(view: &MessageView<'_, F>)
+    ensures { has_type F.types view.now.message_type ≡ true }
 {}
 
 impl<F: Table> OwnedMessage<F> {
     /// Returns a view of the message.
     pub fn message_view(&self) -> MessageView<'_, F>
         ensures message_type { result.message_type ≡ self.now.message_type }
-        ensures payload { result.payload.now ≡ self.now.bytes.items }
+        ensures payload { result.payload.now ≡ sent self.now.short self.now.bytes.items }
     {
         MessageView {
             message_type: self.message_type,
-            payload: self.bytes.as_slice(),
+            payload: self.payload(),
             family: PhantomData,
         }
     }
 
     /// Returns a view of the attributes, with getters by kind and an iterator.
+    #[tactic(auto, using(crate::specs::ShortLaws::sent_block))]
     pub fn view(&self) -> BlockView<'_>
         ensures rows { rows_in result.rows.now ≡ F.rows self.now.message_type }
         ensures policy { result.policy ≡ 0 }

@@ -1,6 +1,6 @@
 //! A table in which the value of an attribute chooses the shape of another.
 
-ghost use Rattle.std.specs.Prelude.{[], refl};
+ghost use Rattle.std.specs.Prelude.{[], false, refl};
 ghost use Rattle.netlink_family.specs.Shapes.{named};
 ghost use Rattle.netlink_family_tests.specs.declared.choices.TheConstants.{ROWS, TYPES};
 
@@ -73,6 +73,8 @@ impl Table for Choosing {
 
     ghost header_len = { λ _. 0 };
 
+    ghost short = { λ _. false };
+
     ghost rows = { λ _. named ROWS.now (λ name. name.now) };
 
     ghost fields = { λ _. [] };
@@ -83,6 +85,10 @@ impl Table for Choosing {
 
     fn header_len(_message_type: u16) -> usize {
         0
+    }
+
+    fn allows_short(_message_type: u16) -> bool {
+        false
     }
 
     fn rows(_message_type: u16) -> &'static [Row] {

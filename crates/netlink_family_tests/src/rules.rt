@@ -1,6 +1,6 @@
 //! Routing rules (linux/fib_rules.h).
 
-ghost use Rattle.std.specs.Prelude.{refl};
+ghost use Rattle.std.specs.Prelude.{false, refl};
 ghost use Rattle.netlink_family.specs.Shapes.{named, named_fields};
 ghost use Rattle.netlink_family_tests.specs.declared.rules.TheConstants.{FIELDS, ROWS, TYPES};
 
@@ -74,6 +74,8 @@ impl Table for Rules {
 
     ghost header_len = { λ _. 12 };
 
+    ghost short = { λ _. false };
+
     ghost rows = { λ _. named ROWS.now (λ name. name.now) };
 
     ghost fields = { λ _. named_fields FIELDS.now (λ name. name.now) };
@@ -84,6 +86,10 @@ impl Table for Rules {
 
     fn header_len(_message_type: u16) -> usize {
         12
+    }
+
+    fn allows_short(_message_type: u16) -> bool {
+        false
     }
 
     fn rows(_message_type: u16) -> &'static [Row] {

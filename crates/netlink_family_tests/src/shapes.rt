@@ -1,6 +1,6 @@
 //! A table with one kind of each shape that `push` appends.
 
-ghost use Rattle.std.specs.Prelude.{[], refl};
+ghost use Rattle.std.specs.Prelude.{[], false, refl};
 ghost use Rattle.netlink_family.specs.Shapes.{named};
 ghost use Rattle.netlink_family_tests.specs.declared.shapes.TheConstants.{ROWS, TYPES};
 
@@ -62,6 +62,8 @@ impl Table for Every {
 
     ghost header_len = { λ _. 0 };
 
+    ghost short = { λ _. false };
+
     ghost rows = { λ _. named ROWS.now (λ name. name.now) };
 
     ghost fields = { λ _. [] };
@@ -72,6 +74,10 @@ impl Table for Every {
 
     fn header_len(_message_type: u16) -> usize {
         0
+    }
+
+    fn allows_short(_message_type: u16) -> bool {
+        false
     }
 
     fn rows(_message_type: u16) -> &'static [Row] {

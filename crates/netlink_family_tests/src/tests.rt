@@ -7,6 +7,7 @@ mod messages;
 mod nests;
 mod push;
 mod records;
+mod short;
 mod show;
 mod strings;
 mod views;

@@ -1,13 +1,13 @@
 //! Callers of the getters of a view.
 
-ghost use Rattle.std.specs.Prelude.{◌≡◌, IfErr, IfNone, IfOk, IfSome, None, Some};
+ghost use Rattle.std.specs.Prelude.{◌≡◌, ◌==◌, IfErr, IfNone, IfOk, IfSome, None, Some};
 ghost use Rattle.std.specs.Option.{option_map};
 ghost use Rattle.netlink_packet_core.specs.Numbers.{number_le};
 ghost use Rattle.netlink_family.specs.Errors.{message_error};
 ghost use Rattle.netlink_family.specs.Finding.{first_at, found_within};
 ghost use Rattle.netlink_family.specs.Shapes.{has_type, named};
 ghost use Rattle.netlink_family.specs.Strings.{until_nul};
-ghost use Rattle.netlink_family_tests.specs.declared.neighbours.TheConstants.{NDA_PROBES, ROWS, TYPES};
+ghost use Rattle.netlink_family_tests.specs.declared.neighbours.TheConstants.{NDA_PROBES, ROWS, RTM_GETNEIGH, TYPES};
 ghost use Rattle.netlink_family_tests.specs.declared.tables.TheConstants.{NDTA_NAME, NDTA_PARMS, NDTPA_IFINDEX};
 ghost use Rattle.netlink_family_tests.specs.declared.rules.TheConstants.{FRA_MARKS, MARK_REST, MARK_VALUE};
 
@@ -74,9 +74,9 @@ pub fn link_address<'a>(message: &MessageView<'a, Neighbours>) -> Option<&'a [u8
 /// Counts the attributes of a payload that are a `u32`, in one pass. Returns the payload's error if
 /// it has one.
 pub fn numbers(message_type: u16, payload: &[u8]) -> Result<u32, FamilyError>
-    ensures good { IfOk result (λ _. message_error (has_type TYPES.now message_type) 12
+    ensures good { IfOk result (λ _. message_error (has_type TYPES.now message_type) (message_type == RTM_GETNEIGH) 12
         (named ROWS.now (λ name. name.now)) message_type payload.now ≡ None) }
-    ensures error { IfErr result (λ e. message_error (has_type TYPES.now message_type) 12
+    ensures error { IfErr result (λ e. message_error (has_type TYPES.now message_type) (message_type == RTM_GETNEIGH) 12
         (named ROWS.now (λ name. name.now)) message_type payload.now ≡ Some e) }
 {
     let mut count = 0u32;

@@ -17,7 +17,7 @@ controller_rows = named ROWS.now (λ name. name.now)
 -- the error of a payload of this message type
 abbrev pub controller_error : ℕ → List ℕ → Option FamilyError
 controller_error t payload =
-    family_error TYPES.now (λ _. GENL_HDRLEN) (λ _. controller_rows) t payload
+    family_error TYPES.now (λ _. false) (λ _. GENL_HDRLEN) (λ _. controller_rows) t payload
 
 -- the id of the family that a payload is about
 abbrev pub id_in : List ℕ → Option ℕ

@@ -1,6 +1,6 @@
 //! The controller's table (linux/genetlink.h; linux/netlink.h for the attributes of policies).
 
-ghost use Rattle.std.specs.Prelude.{refl};
+ghost use Rattle.std.specs.Prelude.{false, refl};
 ghost use Rattle.netlink_family.specs.Shapes.{named, named_fields};
 ghost use Rattle.netlink_generic.specs.declared.controller.TheConstants.{FIELDS, GENL_HDRLEN, ROWS, TYPES};
 
@@ -279,6 +279,8 @@ impl Table for ControllerFamily {
 
     ghost header_len = { λ _. GENL_HDRLEN };
 
+    ghost short = { λ _. false };
+
     ghost rows = { λ _. named ROWS.now (λ name. name.now) };
 
     ghost fields = { λ _. named_fields FIELDS.now (λ name. name.now) };
@@ -289,6 +291,10 @@ impl Table for ControllerFamily {
 
     fn header_len(_message_type: u16) -> usize {
         GENL_HDRLEN
+    }
+
+    fn allows_short(_message_type: u16) -> bool {
+        false
     }
 
     fn rows(_message_type: u16) -> &'static [Row] {

@@ -31,6 +31,7 @@ pub fn request_by_name(alloc: Global, name: &str) -> Result<ControllerMessage, F
     ensures message_type { IfOk result (λ m. m.message_type ≡ GENL_ID_CTRL) }
     ensures payload { IfOk result (λ m. m.bytes.items ≡ (CTRL_CMD_GETFAMILY ∷ VERSION ∷ 0 ∷ 0 ∷ [])
         ++ padded (attribute_with CTRL_ATTR_FAMILY_NAME (name.now ++ (0 ∷ [])))) }
+    ensures whole { IfOk result (λ m. m.short ≡ 0) }
     ensures memory { IfErr result (λ e. e ≡ FamilyError.OutOfMemory) }
 {
     let mut text = Vec::from_slice(alloc, name.as_bytes())?;

@@ -1,8 +1,8 @@
 //! Addresses (linux/rtnetlink.h, linux/if_addr.h).
 
-ghost use Rattle.std.specs.Prelude.{refl};
+ghost use Rattle.std.specs.Prelude.{◌==◌, refl};
 ghost use Rattle.netlink_family.specs.Shapes.{named, named_fields};
-ghost use Rattle.netlink_route.specs.declared.addresses.TheConstants.{FIELDS, ROWS, TYPES};
+ghost use Rattle.netlink_route.specs.declared.addresses.TheConstants.{FIELDS, ROWS, RTM_GETADDR, TYPES};
 
 use netlink_family::{Family, Field, OwnedMessage, Row, Shape, TOP, Table, is_among};
 
@@ -79,6 +79,8 @@ impl Table for Addresses {
 
     ghost header_len = { λ _. 8 };
 
+    ghost short = { λ t. t == RTM_GETADDR };
+
     ghost rows = { λ _. named ROWS.now (λ name. name.now) };
 
     ghost fields = { λ _. named_fields FIELDS.now (λ name. name.now) };
@@ -89,6 +91,10 @@ impl Table for Addresses {
 
     fn header_len(_message_type: u16) -> usize {
         8
+    }
+
+    fn allows_short(message_type: u16) -> bool {
+        message_type == RTM_GETADDR
     }
 
     fn rows(_message_type: u16) -> &'static [Row] {

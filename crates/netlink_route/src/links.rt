@@ -1,8 +1,8 @@
 //! Links (linux/rtnetlink.h, linux/if_link.h).
 
-ghost use Rattle.std.specs.Prelude.{refl};
+ghost use Rattle.std.specs.Prelude.{◌==◌, refl};
 ghost use Rattle.netlink_family.specs.Shapes.{named, named_fields};
-ghost use Rattle.netlink_route.specs.declared.links.TheConstants.{FIELDS, ROWS, TYPES};
+ghost use Rattle.netlink_route.specs.declared.links.TheConstants.{FIELDS, ROWS, RTM_GETLINK, TYPES};
 
 use netlink_family::{Family, Field, OwnedMessage, Row, Shape, TOP, Table, is_among};
 
@@ -337,6 +337,8 @@ impl Table for Links {
 
     ghost header_len = { λ _. 16 };
 
+    ghost short = { λ t. t == RTM_GETLINK };
+
     ghost rows = { λ _. named ROWS.now (λ name. name.now) };
 
     ghost fields = { λ _. named_fields FIELDS.now (λ name. name.now) };
@@ -347,6 +349,10 @@ impl Table for Links {
 
     fn header_len(_message_type: u16) -> usize {
         16
+    }
+
+    fn allows_short(message_type: u16) -> bool {
+        message_type == RTM_GETLINK
     }
 
     fn rows(_message_type: u16) -> &'static [Row] {

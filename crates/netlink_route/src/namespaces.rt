@@ -1,6 +1,6 @@
 //! Ids of network namespaces (linux/rtnetlink.h, linux/net_namespace.h).
 
-ghost use Rattle.std.specs.Prelude.{refl};
+ghost use Rattle.std.specs.Prelude.{false, refl};
 ghost use Rattle.netlink_family.specs.Shapes.{named, named_fields};
 ghost use Rattle.netlink_route.specs.declared.namespaces.TheConstants.{FIELDS, ROWS, TYPES};
 
@@ -47,6 +47,8 @@ impl Table for Namespaces {
 
     ghost header_len = { λ _. 4 };
 
+    ghost short = { λ _. false };
+
     ghost rows = { λ _. named ROWS.now (λ name. name.now) };
 
     ghost fields = { λ _. named_fields FIELDS.now (λ name. name.now) };
@@ -57,6 +59,10 @@ impl Table for Namespaces {
 
     fn header_len(_message_type: u16) -> usize {
         4
+    }
+
+    fn allows_short(_message_type: u16) -> bool {
+        false
     }
 
     fn rows(_message_type: u16) -> &'static [Row] {

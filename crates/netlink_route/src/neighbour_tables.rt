@@ -1,8 +1,8 @@
 //! Neighbour tables (linux/rtnetlink.h, linux/neighbour.h).
 
-ghost use Rattle.std.specs.Prelude.{refl};
+ghost use Rattle.std.specs.Prelude.{◌==◌, refl};
 ghost use Rattle.netlink_family.specs.Shapes.{named, named_fields};
-ghost use Rattle.netlink_route.specs.declared.neighbour_tables.TheConstants.{FIELDS, ROWS, TYPES};
+ghost use Rattle.netlink_route.specs.declared.neighbour_tables.TheConstants.{FIELDS, ROWS, RTM_GETNEIGHTBL, TYPES};
 
 use netlink_family::{Family, Field, OwnedMessage, Row, Shape, TOP, Table, is_among};
 
@@ -151,6 +151,8 @@ impl Table for NeighbourTables {
 
     ghost header_len = { λ _. 4 };
 
+    ghost short = { λ t. t == RTM_GETNEIGHTBL };
+
     ghost rows = { λ _. named ROWS.now (λ name. name.now) };
 
     ghost fields = { λ _. named_fields FIELDS.now (λ name. name.now) };
@@ -161,6 +163,10 @@ impl Table for NeighbourTables {
 
     fn header_len(_message_type: u16) -> usize {
         4
+    }
+
+    fn allows_short(message_type: u16) -> bool {
+        message_type == RTM_GETNEIGHTBL
     }
 
     fn rows(_message_type: u16) -> &'static [Row] {

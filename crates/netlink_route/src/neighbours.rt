@@ -1,8 +1,8 @@
 //! Neighbours (linux/rtnetlink.h, linux/neighbour.h).
 
-ghost use Rattle.std.specs.Prelude.{refl};
+ghost use Rattle.std.specs.Prelude.{◌==◌, refl};
 ghost use Rattle.netlink_family.specs.Shapes.{named, named_fields};
-ghost use Rattle.netlink_route.specs.declared.neighbours.TheConstants.{FIELDS, ROWS, TYPES};
+ghost use Rattle.netlink_route.specs.declared.neighbours.TheConstants.{FIELDS, ROWS, RTM_GETNEIGH, TYPES};
 
 use netlink_family::{Family, Field, OwnedMessage, Row, Shape, TOP, Table, is_among};
 
@@ -91,6 +91,8 @@ impl Table for Neighbours {
 
     ghost header_len = { λ _. 12 };
 
+    ghost short = { λ t. t == RTM_GETNEIGH };
+
     ghost rows = { λ _. named ROWS.now (λ name. name.now) };
 
     ghost fields = { λ _. named_fields FIELDS.now (λ name. name.now) };
@@ -101,6 +103,10 @@ impl Table for Neighbours {
 
     fn header_len(_message_type: u16) -> usize {
         12
+    }
+
+    fn allows_short(message_type: u16) -> bool {
+        message_type == RTM_GETNEIGH
     }
 
     fn rows(_message_type: u16) -> &'static [Row] {

@@ -1,8 +1,8 @@
 //! Routes (linux/rtnetlink.h).
 
-ghost use Rattle.std.specs.Prelude.{refl};
+ghost use Rattle.std.specs.Prelude.{◌==◌, refl};
 ghost use Rattle.netlink_family.specs.Shapes.{named, named_fields};
-ghost use Rattle.netlink_route.specs.declared.routes.TheConstants.{FIELDS, ROWS, TYPES};
+ghost use Rattle.netlink_route.specs.declared.routes.TheConstants.{FIELDS, ROWS, RTM_GETROUTE, TYPES};
 
 use netlink_family::{Family, Field, OwnedMessage, Row, Shape, TOP, Table, is_among};
 
@@ -201,6 +201,8 @@ impl Table for Routes {
 
     ghost header_len = { λ _. 12 };
 
+    ghost short = { λ t. t == RTM_GETROUTE };
+
     ghost rows = { λ _. named ROWS.now (λ name. name.now) };
 
     ghost fields = { λ _. named_fields FIELDS.now (λ name. name.now) };
@@ -211,6 +213,10 @@ impl Table for Routes {
 
     fn header_len(_message_type: u16) -> usize {
         12
+    }
+
+    fn allows_short(message_type: u16) -> bool {
+        message_type == RTM_GETROUTE
     }
 
     fn rows(_message_type: u16) -> &'static [Row] {

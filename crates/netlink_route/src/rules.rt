@@ -1,8 +1,8 @@
 //! Routing rules (linux/fib_rules.h).
 
-ghost use Rattle.std.specs.Prelude.{refl};
+ghost use Rattle.std.specs.Prelude.{◌==◌, refl};
 ghost use Rattle.netlink_family.specs.Shapes.{named, named_fields};
-ghost use Rattle.netlink_route.specs.declared.rules.TheConstants.{FIELDS, ROWS, TYPES};
+ghost use Rattle.netlink_route.specs.declared.rules.TheConstants.{FIELDS, ROWS, RTM_GETRULE, TYPES};
 
 use netlink_family::{Family, Field, OwnedMessage, Row, Shape, TOP, Table, is_among};
 
@@ -125,6 +125,8 @@ impl Table for Rules {
 
     ghost header_len = { λ _. 12 };
 
+    ghost short = { λ t. t == RTM_GETRULE };
+
     ghost rows = { λ _. named ROWS.now (λ name. name.now) };
 
     ghost fields = { λ _. named_fields FIELDS.now (λ name. name.now) };
@@ -135,6 +137,10 @@ impl Table for Rules {
 
     fn header_len(_message_type: u16) -> usize {
         12
+    }
+
+    fn allows_short(message_type: u16) -> bool {
+        message_type == RTM_GETRULE
     }
 
     fn rows(_message_type: u16) -> &'static [Row] {

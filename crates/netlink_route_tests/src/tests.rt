@@ -11,6 +11,7 @@ mod memory_refused;
 mod messages;
 mod names;
 mod neighbours;
+mod requests;
 mod routes;
 mod samples;
 mod show;

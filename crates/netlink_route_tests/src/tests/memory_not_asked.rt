@@ -9,7 +9,7 @@ use netlink_family::{FamilyError, MessageView, Reason};
 use netlink_packet_core::NetlinkSerializable;
 use netlink_route::addresses::IFA_CACHEINFO;
 use netlink_route::links::{
-    IFI_INDEX, IFLA_IFNAME, IFLA_INFO_KIND, IFLA_LINKINFO, IFLA_MTU, RTM_NEWLINK,
+    IFI_INDEX, IFLA_IFNAME, IFLA_INFO_KIND, IFLA_LINKINFO, IFLA_MTU, RTM_GETLINK, RTM_NEWLINK,
 };
 use netlink_route::{Addresses, LinkMessage, Links};
 use std::test::Fail;
@@ -60,9 +60,12 @@ fn bytes_in_hand(rt: HostRuntime) -> Result<(), Fail> {
 #[test]
 fn fields_in_hand(rt: HostRuntime) -> Result<(), Fail> {
     let mut link = LinkMessage::new(rt.alloc(), RTM_NEWLINK)?;
+    let mut request = LinkMessage::new_short(rt.alloc(), RTM_GETLINK, &[17])?;
     refuse_from_here(rt.alloc());
     link.set_i32(IFI_INDEX, -2);
     assert!(rt; link.header().i32(IFI_INDEX) == -2);
+    request.set_i32(IFI_INDEX, 3);
+    assert!(rt; request.payload().len() == 16);
     Ok(())
 }
 

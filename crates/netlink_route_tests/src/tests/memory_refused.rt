@@ -6,7 +6,7 @@
 use crate::tests::samples::{ADDRESS, LO, NEIGHBOUR, decoded, invalid};
 use netlink_family::{FamilyError, MessageView, Reason, Value};
 use netlink_packet_core::NetlinkHeader;
-use netlink_route::links::{IFLA_MTU, RTM_NEWLINK};
+use netlink_route::links::{IFLA_MTU, RTM_GETLINK, RTM_NEWLINK};
 use netlink_route::{LinkMessage, Links};
 use std::test::Fail;
 
@@ -48,6 +48,15 @@ fn views_are_copied(rt: HostRuntime) -> Result<(), Fail> {
         port_number: 0,
     };
     assert!(rt; link.to_message(alloc, header)?.header.length == 80);
+    Ok(())
+}
+
+#[test]
+fn short_payloads_are_copied(rt: HostRuntime) -> Result<(), Fail> {
+    let alloc = rt.alloc();
+    assert!(rt; decoded(alloc, RTM_GETLINK, &[17, 0, 0, 0])?.is_short());
+    let request = LinkMessage::new_short(alloc, RTM_GETLINK, &[17])?;
+    assert!(rt; request.message_view().to_owned(alloc)? == request);
     Ok(())
 }
 

@@ -1,4 +1,4 @@
-use Rattle.netlink_family.proofs.CanonicalPayloads.{canonical_long}
+use Rattle.netlink_family.specs.CanonicalPayloadLaws.{canonical_long}
 use Rattle.netlink_family.proofs.owned.header_fits.Goals as goal
 
 pub returns : goal.returns

@@ -9,8 +9,8 @@ invariant_of-result g c =
     let m = c.args.self.now in
     record {
       good =
-          ap (λ (b : List ℕ). message_error (has_type g.F.Table.types m.message_type) (g.F.Table.header_len m.message_type)
-          (g.F.Table.rows m.message_type) m.message_type b) c.as_slice.ensures.value
-          ∙ canonical_good (has_type g.F.Table.types m.message_type) (g.F.Table.header_len m.message_type) (g.F.Table.rows m.message_type)
-          m.message_type m.bytes.items m.own m.canonical;
+          ap (λ (b : List ℕ). message_error (has_type g.F.Table.types m.message_type) (g.F.Table.short m.message_type)
+          (g.F.Table.header_len m.message_type) (g.F.Table.rows m.message_type) m.message_type b) c.payload.ensures
+          ∙ canonical_good (has_type g.F.Table.types m.message_type) (g.F.Table.short m.message_type) (g.F.Table.header_len m.message_type)
+          (g.F.Table.rows m.message_type) m.message_type m.short m.bytes.items m.own m.canonical m.cut;
     }

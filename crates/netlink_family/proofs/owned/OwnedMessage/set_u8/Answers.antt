@@ -1,6 +1,7 @@
 use Rattle.std.proofs.Common.{ap, arith, ◌∷◌, ◌∙◌, []}
 use Rattle.netlink_family.specs.Message.{is_canonical_payload}
-use Rattle.netlink_family.proofs.CanonicalPayloads.{byte_set, canonical_long, text_canonical}
+use Rattle.netlink_family.specs.CanonicalPayloadLaws.{canonical_long}
+use Rattle.netlink_family.proofs.CanonicalPayloads.{byte_set, text_canonical}
 use Rattle.netlink_family.proofs.owned.OwnedMessage.set_u8.Goals as goal
 
 pub invariant_of-self-clause-canonical : goal.invariant_of-self-clause-canonical

@@ -5,5 +5,5 @@ use Rattle.netlink_family.proofs.view.MessageView.view.Goals as goal
 pub invariant_of-result-clause-shaped : goal.invariant_of-result-clause-shaped
 invariant_of-result-clause-shaped g c =
     let view = c.args.self.now in
-    good_shaped (has_type g.F.Table.types view.message_type) (g.F.Table.header_len view.message_type) (g.F.Table.rows view.message_type)
+    good_shaped (has_type g.F.Table.types view.message_type) (g.F.Table.short view.message_type) (g.F.Table.header_len view.message_type) (g.F.Table.rows view.message_type)
     (rows_in c.rows_of.result.now) view.message_type view.payload.now c.block.result.now c.block.ensures c.rows_of.ensures.rows view.good
