@@ -4,11 +4,14 @@
 #![tactic(auto)]
 
 pub mod addresses;
+pub mod link_kinds;
+mod link_rows;
 pub mod links;
 pub mod names;
 pub mod namespaces;
 pub mod neighbour_tables;
 pub mod neighbours;
+mod next_hops;
 mod route;
 pub mod routes;
 pub mod rules;
@@ -19,6 +22,7 @@ pub use crate::names::{NeighbourState, OperState, RouteProtocol, RouteType, Scop
 pub use crate::namespaces::{NamespaceMessage, Namespaces};
 pub use crate::neighbour_tables::{NeighbourTableMessage, NeighbourTables};
 pub use crate::neighbours::{NeighbourMessage, Neighbours};
+pub use crate::next_hops::{NextHop, NextHops};
 pub use crate::route::{RouteMessage, RouteTables};
 pub use crate::routes::{RouteEntryMessage, Routes};
 pub use crate::rules::{RuleMessage, Rules};

@@ -2,9 +2,11 @@
 
 ghost use Rattle.std.specs.Prelude.{◌==◌, refl};
 ghost use Rattle.netlink_family.specs.Shapes.{named, named_fields};
-ghost use Rattle.netlink_route.specs.declared.links.TheConstants.{FIELDS, ROWS, RTM_GETLINK, TYPES};
+ghost use Rattle.netlink_route.specs.declared.link_rows.TheConstants.{ROWS};
+ghost use Rattle.netlink_route.specs.declared.links.TheConstants.{FIELDS, RTM_GETLINK, TYPES};
 
-use netlink_family::{Family, Field, OwnedMessage, Row, Shape, TOP, Table, is_among};
+use crate::link_rows::ROWS;
+use netlink_family::{Family, Field, OwnedMessage, Row, Shape, Table, is_among};
 
 pub const RTM_NEWLINK: u16 = 16;
 
@@ -179,154 +181,13 @@ pub const IFLA_INFO_SLAVE_DATA: u16 = 5;
 /// The policy of `IFLA_PROP_LIST`. Its kind is `IFLA_ALT_IFNAME`.
 pub const PROPERTIES: u16 = 2;
 
+/// The policy of `IFLA_AF_SPEC`, whose attributes are bytes. Their kinds are address families, except
+/// in a message with the family `AF_BRIDGE`, which has the attributes of a bridge there.
+pub const SPECIFICS: u16 = 3;
+
 const TYPES: &'static [u16] = &[RTM_NEWLINK, RTM_DELLINK, RTM_GETLINK, RTM_SETLINK];
 
 const FIELDS: &'static [Field] = &[IFI_FAMILY, IFI_TYPE, IFI_INDEX, IFI_FLAGS, IFI_CHANGE];
-
-// The kernel's `ifla_policy`, `ifla_info_policy` and `rtnl_fill_ifinfo`. The structs of counters
-// had 23 of them at first.
-const ROWS: &'static [Row] = &[
-    (TOP, IFLA_ADDRESS, "IFLA_ADDRESS", Shape::Bytes),
-    (TOP, IFLA_BROADCAST, "IFLA_BROADCAST", Shape::Bytes),
-    (TOP, IFLA_IFNAME, "IFLA_IFNAME", Shape::Str),
-    (TOP, IFLA_MTU, "IFLA_MTU", Shape::U32),
-    (TOP, IFLA_LINK, "IFLA_LINK", Shape::U32),
-    (TOP, IFLA_QDISC, "IFLA_QDISC", Shape::Str),
-    (TOP, IFLA_STATS, "IFLA_STATS", Shape::MinLen(92)),
-    (TOP, IFLA_COST, "IFLA_COST", Shape::Bytes),
-    (TOP, IFLA_PRIORITY, "IFLA_PRIORITY", Shape::Bytes),
-    (TOP, IFLA_MASTER, "IFLA_MASTER", Shape::U32),
-    (TOP, IFLA_WIRELESS, "IFLA_WIRELESS", Shape::Bytes),
-    (TOP, IFLA_PROTINFO, "IFLA_PROTINFO", Shape::Bytes),
-    (TOP, IFLA_TXQLEN, "IFLA_TXQLEN", Shape::U32),
-    (TOP, IFLA_MAP, "IFLA_MAP", Shape::Bytes),
-    (TOP, IFLA_WEIGHT, "IFLA_WEIGHT", Shape::U32),
-    (TOP, IFLA_OPERSTATE, "IFLA_OPERSTATE", Shape::U8),
-    (TOP, IFLA_LINKMODE, "IFLA_LINKMODE", Shape::U8),
-    (TOP, IFLA_LINKINFO, "IFLA_LINKINFO", Shape::Nested(INFO)),
-    (TOP, IFLA_NET_NS_PID, "IFLA_NET_NS_PID", Shape::U32),
-    (TOP, IFLA_IFALIAS, "IFLA_IFALIAS", Shape::Str),
-    (TOP, IFLA_NUM_VF, "IFLA_NUM_VF", Shape::U32),
-    (TOP, IFLA_VFINFO_LIST, "IFLA_VFINFO_LIST", Shape::Bytes),
-    (TOP, IFLA_STATS64, "IFLA_STATS64", Shape::MinLen(184)),
-    (TOP, IFLA_VF_PORTS, "IFLA_VF_PORTS", Shape::Bytes),
-    (TOP, IFLA_PORT_SELF, "IFLA_PORT_SELF", Shape::Bytes),
-    (TOP, IFLA_AF_SPEC, "IFLA_AF_SPEC", Shape::Bytes),
-    (TOP, IFLA_GROUP, "IFLA_GROUP", Shape::U32),
-    (TOP, IFLA_NET_NS_FD, "IFLA_NET_NS_FD", Shape::U32),
-    (TOP, IFLA_EXT_MASK, "IFLA_EXT_MASK", Shape::U32),
-    (TOP, IFLA_PROMISCUITY, "IFLA_PROMISCUITY", Shape::U32),
-    (TOP, IFLA_NUM_TX_QUEUES, "IFLA_NUM_TX_QUEUES", Shape::U32),
-    (TOP, IFLA_NUM_RX_QUEUES, "IFLA_NUM_RX_QUEUES", Shape::U32),
-    (TOP, IFLA_CARRIER, "IFLA_CARRIER", Shape::U8),
-    (TOP, IFLA_PHYS_PORT_ID, "IFLA_PHYS_PORT_ID", Shape::Bytes),
-    (
-        TOP,
-        IFLA_CARRIER_CHANGES,
-        "IFLA_CARRIER_CHANGES",
-        Shape::U32,
-    ),
-    (
-        TOP,
-        IFLA_PHYS_SWITCH_ID,
-        "IFLA_PHYS_SWITCH_ID",
-        Shape::Bytes,
-    ),
-    (TOP, IFLA_LINK_NETNSID, "IFLA_LINK_NETNSID", Shape::I32),
-    (TOP, IFLA_PHYS_PORT_NAME, "IFLA_PHYS_PORT_NAME", Shape::Str),
-    (TOP, IFLA_PROTO_DOWN, "IFLA_PROTO_DOWN", Shape::U8),
-    (TOP, IFLA_GSO_MAX_SEGS, "IFLA_GSO_MAX_SEGS", Shape::U32),
-    (TOP, IFLA_GSO_MAX_SIZE, "IFLA_GSO_MAX_SIZE", Shape::U32),
-    (TOP, IFLA_PAD, "IFLA_PAD", Shape::Bytes),
-    (TOP, IFLA_XDP, "IFLA_XDP", Shape::Bytes),
-    (TOP, IFLA_EVENT, "IFLA_EVENT", Shape::U32),
-    (TOP, IFLA_NEW_NETNSID, "IFLA_NEW_NETNSID", Shape::I32),
-    (TOP, IFLA_TARGET_NETNSID, "IFLA_TARGET_NETNSID", Shape::I32),
-    (
-        TOP,
-        IFLA_CARRIER_UP_COUNT,
-        "IFLA_CARRIER_UP_COUNT",
-        Shape::U32,
-    ),
-    (
-        TOP,
-        IFLA_CARRIER_DOWN_COUNT,
-        "IFLA_CARRIER_DOWN_COUNT",
-        Shape::U32,
-    ),
-    (TOP, IFLA_NEW_IFINDEX, "IFLA_NEW_IFINDEX", Shape::I32),
-    (TOP, IFLA_MIN_MTU, "IFLA_MIN_MTU", Shape::U32),
-    (TOP, IFLA_MAX_MTU, "IFLA_MAX_MTU", Shape::U32),
-    (
-        TOP,
-        IFLA_PROP_LIST,
-        "IFLA_PROP_LIST",
-        Shape::Nested(PROPERTIES),
-    ),
-    (TOP, IFLA_ALT_IFNAME, "IFLA_ALT_IFNAME", Shape::Str),
-    (TOP, IFLA_PERM_ADDRESS, "IFLA_PERM_ADDRESS", Shape::Bytes),
-    (
-        TOP,
-        IFLA_PROTO_DOWN_REASON,
-        "IFLA_PROTO_DOWN_REASON",
-        Shape::Bytes,
-    ),
-    (
-        TOP,
-        IFLA_PARENT_DEV_NAME,
-        "IFLA_PARENT_DEV_NAME",
-        Shape::Str,
-    ),
-    (
-        TOP,
-        IFLA_PARENT_DEV_BUS_NAME,
-        "IFLA_PARENT_DEV_BUS_NAME",
-        Shape::Str,
-    ),
-    (TOP, IFLA_GRO_MAX_SIZE, "IFLA_GRO_MAX_SIZE", Shape::U32),
-    (TOP, IFLA_TSO_MAX_SIZE, "IFLA_TSO_MAX_SIZE", Shape::U32),
-    (TOP, IFLA_TSO_MAX_SEGS, "IFLA_TSO_MAX_SEGS", Shape::U32),
-    (TOP, IFLA_ALLMULTI, "IFLA_ALLMULTI", Shape::U32),
-    (TOP, IFLA_DEVLINK_PORT, "IFLA_DEVLINK_PORT", Shape::Bytes),
-    (
-        TOP,
-        IFLA_GSO_IPV4_MAX_SIZE,
-        "IFLA_GSO_IPV4_MAX_SIZE",
-        Shape::U32,
-    ),
-    (
-        TOP,
-        IFLA_GRO_IPV4_MAX_SIZE,
-        "IFLA_GRO_IPV4_MAX_SIZE",
-        Shape::U32,
-    ),
-    (TOP, IFLA_DPLL_PIN, "IFLA_DPLL_PIN", Shape::Bytes),
-    (
-        TOP,
-        IFLA_MAX_PACING_OFFLOAD_HORIZON,
-        "IFLA_MAX_PACING_OFFLOAD_HORIZON",
-        Shape::MinLen(4),
-    ),
-    (TOP, IFLA_NETNS_IMMUTABLE, "IFLA_NETNS_IMMUTABLE", Shape::U8),
-    (TOP, IFLA_HEADROOM, "IFLA_HEADROOM", Shape::U16),
-    (TOP, IFLA_TAILROOM, "IFLA_TAILROOM", Shape::U16),
-    (INFO, IFLA_INFO_KIND, "IFLA_INFO_KIND", Shape::Str),
-    (INFO, IFLA_INFO_DATA, "IFLA_INFO_DATA", Shape::Bytes),
-    (INFO, IFLA_INFO_XSTATS, "IFLA_INFO_XSTATS", Shape::Bytes),
-    (
-        INFO,
-        IFLA_INFO_SLAVE_KIND,
-        "IFLA_INFO_SLAVE_KIND",
-        Shape::Str,
-    ),
-    (
-        INFO,
-        IFLA_INFO_SLAVE_DATA,
-        "IFLA_INFO_SLAVE_DATA",
-        Shape::Bytes,
-    ),
-    (PROPERTIES, IFLA_ALT_IFNAME, "IFLA_ALT_IFNAME", Shape::Str),
-];
 
 /// The family of links.
 #[derive(Clone, Copy, Debug, PartialEq, Eq)]

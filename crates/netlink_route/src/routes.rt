@@ -4,7 +4,7 @@ ghost use Rattle.std.specs.Prelude.{◌==◌, refl};
 ghost use Rattle.netlink_family.specs.Shapes.{named, named_fields};
 ghost use Rattle.netlink_route.specs.declared.routes.TheConstants.{FIELDS, ROWS, RTM_GETROUTE, TYPES};
 
-use netlink_family::{Family, Field, OwnedMessage, Row, Shape, TOP, Table, is_among};
+use netlink_family::{ANY, Family, Field, OwnedMessage, Row, Shape, TOP, Table, is_among};
 
 pub const RTM_NEWROUTE: u16 = 24;
 
@@ -120,6 +120,15 @@ pub const RTAX_CC_ALGO: u16 = 16;
 
 pub const RTAX_FASTOPEN_NO_COOKIE: u16 = 17;
 
+/// The policy of `RTA_MULTIPATH`, a list of `struct rtnexthop`. Like an attribute, each begins with its
+/// length and starts at a multiple of 4. So each is read as an attribute, whose kind is
+/// `rtnh_flags + 256 * rtnh_hops`, and whose value is `rtnh_ifindex` and attributes of a route. `NextHops`
+/// yields them.
+pub const NEXT_HOPS: u16 = 2;
+
+/// The field of a next hop's value before its attributes.
+pub const RTNH_IFINDEX: Field = ("rtnh_ifindex", 0, Shape::I32);
+
 const TYPES: &'static [u16] = &[RTM_NEWROUTE, RTM_DELROUTE, RTM_GETROUTE];
 
 const FIELDS: &'static [Field] = &[
@@ -146,7 +155,12 @@ const ROWS: &'static [Row] = &[
     (TOP, RTA_PRIORITY, "RTA_PRIORITY", Shape::U32),
     (TOP, RTA_PREFSRC, "RTA_PREFSRC", Shape::Ip),
     (TOP, RTA_METRICS, "RTA_METRICS", Shape::Nested(METRICS)),
-    (TOP, RTA_MULTIPATH, "RTA_MULTIPATH", Shape::Bytes),
+    (
+        TOP,
+        RTA_MULTIPATH,
+        "RTA_MULTIPATH",
+        Shape::Nested(NEXT_HOPS),
+    ),
     (TOP, 10, "RTA_PROTOINFO", Shape::Bytes),
     (TOP, RTA_FLOW, "RTA_FLOW", Shape::U32),
     (TOP, RTA_CACHEINFO, "RTA_CACHEINFO", Shape::MinLen(32)),
@@ -189,6 +203,15 @@ const ROWS: &'static [Row] = &[
         RTAX_FASTOPEN_NO_COOKIE,
         "RTAX_FASTOPEN_NO_COOKIE",
         Shape::U32,
+    ),
+    (
+        NEXT_HOPS,
+        ANY,
+        "",
+        Shape::HeaderNested {
+            size: 4,
+            policy: TOP,
+        },
     ),
 ];
 

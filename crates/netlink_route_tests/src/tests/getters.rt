@@ -5,6 +5,7 @@ use netlink_family::Value;
 use netlink_packet_core::normalize;
 use netlink_route::RouteMessage;
 use netlink_route::addresses::{IFA_ADDRESS, IFA_CACHEINFO, IFA_FLAGS, IFA_LABEL, IFA_PROTO};
+use netlink_route::link_kinds::{IFLA_BR_STP_STATE, VETH_INFO_PEER};
 use netlink_route::links::{
     IFLA_IFNAME, IFLA_INFO_DATA, IFLA_INFO_KIND, IFLA_LINKINFO, IFLA_MTU, INFO,
 };
@@ -32,7 +33,10 @@ fn a_nest_with_its_flag_bit_is_found(rt: HostRuntime) -> Result<(), Fail> {
         Some(info) => {
             assert!(rt; info.policy == INFO);
             assert!(rt; info.str(IFLA_INFO_KIND) == Some("bridge"));
-            assert!(rt; info.bytes(IFLA_INFO_DATA) == Some(&BRIDGE[68..]));
+            match info.nest(IFLA_INFO_DATA) {
+                Some(bridge) => assert!(rt; bridge.u32(IFLA_BR_STP_STATE) == Some(1)),
+                None => assert!(rt; false),
+            }
         }
         None => assert!(rt; false),
     }
@@ -40,6 +44,36 @@ fn a_nest_with_its_flag_bit_is_found(rt: HostRuntime) -> Result<(), Fail> {
         normalize::<RouteMessage>(alloc, &BRIDGE)?.as_slice(),
         BRIDGE.as_slice()
     );
+    Ok(())
+}
+
+/// `ip link add veth-a type veth peer name veth-b`: the peer is a link in the link.
+const PEER: [u8; 72] = [
+    0, 0, 0, 0, 0, 0, 0, 0, 0, 0, 0, 0, 0, 0, 0, 0, // header of zeros
+    56, 0, 18, 0, // IFLA_LINKINFO
+    8, 0, 1, 0, b'v', b'e', b't', b'h', // IFLA_INFO_KIND
+    44, 0, 2, 0, // IFLA_INFO_DATA
+    40, 0, 1, 0, // VETH_INFO_PEER
+    0, 0, 1, 0, 9, 0, 0, 0, 0, 0, 0, 0, 0, 0, 0, 0, // ARPHRD_ETHER, index 9
+    11, 0, 3, 0, b'v', b'e', b't', b'h', b'-', b'b', 0, 0, // IFLA_IFNAME
+    5, 0, 16, 0, 6, 0, 0, 0, // IFLA_OPERSTATE
+];
+
+#[test]
+fn the_peer_of_a_pair_is_found(rt: HostRuntime) -> Result<(), Fail> {
+    let message = decoded(rt.alloc(), 16, &PEER)?;
+    let info = message.view().nest(IFLA_LINKINFO);
+    let data = info.and_then(|info| info.nest(IFLA_INFO_DATA));
+    match data {
+        Some(pair) => match (pair.nest_header(VETH_INFO_PEER), pair.nest(VETH_INFO_PEER)) {
+            (Some(header), Some(peer)) => {
+                assert!(rt; header.bytes == &PEER[36..52]);
+                assert!(rt; peer.str(IFLA_IFNAME) == Some("veth-b"));
+            }
+            _ => assert!(rt; false),
+        },
+        None => assert!(rt; false),
+    }
     Ok(())
 }
 

@@ -4,14 +4,14 @@
 //! passes and allocates nothing after the marker.
 
 use crate::tests::mark::refuse_from_here;
-use crate::tests::samples::{ADDRESS, LO, decoded, invalid, wrong_size};
+use crate::tests::samples::{ADDRESS, HOPS, LO, decoded, invalid, wrong_size};
 use netlink_family::{FamilyError, MessageView, Reason};
 use netlink_packet_core::NetlinkSerializable;
 use netlink_route::addresses::IFA_CACHEINFO;
 use netlink_route::links::{
     IFI_INDEX, IFLA_IFNAME, IFLA_INFO_KIND, IFLA_LINKINFO, IFLA_MTU, RTM_GETLINK, RTM_NEWLINK,
 };
-use netlink_route::{Addresses, LinkMessage, Links};
+use netlink_route::{Addresses, LinkMessage, Links, NextHops, Routes};
 use std::test::Fail;
 
 /// Messages that were decoded are compared and encoded.
@@ -53,6 +53,11 @@ fn bytes_in_hand(rt: HostRuntime) -> Result<(), Fail> {
     assert!(rt; kind_of(&link) == Some(b"veth".as_slice()));
     let view = link.view();
     assert!(rt; view.str(IFLA_IFNAME) == Some("lo") && view.u32(IFLA_MTU) == Some(65536));
+    let route = MessageView::<Routes>::new(24, &HOPS)?;
+    match NextHops::new(&route.view()) {
+        Some(mut hops) => assert!(rt; hops.next().is_some()),
+        None => assert!(rt; false),
+    }
     Ok(())
 }
 

@@ -1,12 +1,13 @@
-//! A route that is made.
+//! A route that is made, and one with two next hops.
 
-use netlink_family::{OwnedMessage, Value};
+use crate::tests::samples::HOPS;
+use netlink_family::{MessageView, OwnedMessage, Value};
 use netlink_packet_core::NetlinkMessage;
-use netlink_route::RouteEntryMessage;
 use netlink_route::routes::{
     RTA_DST, RTA_GATEWAY, RTA_METRICS, RTA_OIF, RTA_TABLE, RTM_DST_LEN, RTM_FAMILY, RTM_NEWROUTE,
     RTM_PROTOCOL, RTM_TABLE, RTM_TYPE,
 };
+use netlink_route::{NextHops, RouteEntryMessage, Routes};
 use std::test::Fail;
 
 /// The route to 198.51.100.0/24 by 192.0.2.254 on link 3, with an MTU of 1400.
@@ -36,5 +37,33 @@ fn a_route_is_made(rt: HostRuntime) -> Result<(), Fail> {
     route.try_push(alloc, RTA_METRICS, &[8, 0, 2, 0, 0x78, 5, 0, 0])?;
     let frame = NetlinkMessage::from_inner(route).into_frame(alloc)?;
     assert_eq!(rt; frame.as_slice(), ROUTE.as_slice());
+    Ok(())
+}
+
+#[test]
+fn next_hops_are_read(rt: HostRuntime) -> Result<(), Fail> {
+    let route = MessageView::<Routes>::new(RTM_NEWROUTE, &HOPS)?;
+    match NextHops::new(&route.view()) {
+        Some(mut hops) => {
+            match hops.next() {
+                Some(hop) => {
+                    assert!(rt; hop.flags == 4 && hop.hops == 9 && hop.ifindex == 3);
+                    assert!(rt; hop.attributes.ip(RTA_GATEWAY) == Some(&HOPS[36..40]));
+                }
+                None => assert!(rt; false),
+            }
+            match hops.next() {
+                Some(hop) => {
+                    assert!(rt; hop.flags == 0 && hop.hops == 0 && hop.ifindex == -2);
+                    assert!(rt; hop.attributes.ip(RTA_GATEWAY) == None);
+                }
+                None => assert!(rt; false),
+            }
+            assert!(rt; hops.next() == None);
+        }
+        None => assert!(rt; false),
+    }
+    let none = MessageView::<Routes>::new(RTM_NEWROUTE, &HOPS[..20])?;
+    assert!(rt; NextHops::new(&none.view()).is_none());
     Ok(())
 }

@@ -41,6 +41,17 @@ pub const NEIGHBOUR: [u8; 104] = [
     6, 0, 6, 0, 0x12, 0xb5, 0, 0, // NDA_PORT, the port of VXLAN: 4789, big-endian
 ];
 
+/// The payload of the route to 198.51.100.0/24 with two next hops: by 192.0.2.1 on link 3, with the
+/// flag `RTNH_F_ONLINK` and the weight 10, and on link -2.
+pub const HOPS: [u8; 48] = [
+    2, 24, 0, 0, 254, 3, 0, 1, 0, 0, 0, 0, // AF_INET, 24 bits, table 254, RTPROT_BOOT, RTN_UNICAST
+    8, 0, 1, 0, 198, 51, 100, 0, // RTA_DST
+    28, 0, 9, 0, // RTA_MULTIPATH
+    16, 0, 4, 9, 3, 0, 0, 0, // struct rtnexthop
+    8, 0, 5, 0, 192, 0, 2, 1, // RTA_GATEWAY
+    8, 0, 0, 0, 0xfe, 0xff, 0xff, 0xff, // struct rtnexthop
+];
+
 /// Returns a header with this message type and zeros.
 pub(crate) fn of_type(message_type: u16) -> NetlinkHeader {
     NetlinkHeader {
