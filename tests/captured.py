@@ -5,7 +5,8 @@ in a dump of all families of generic netlink by its name.
 The script passes a frame on standard input to a test of the crate of the frame's protocol, which writes its canonical
 form or the error text. The frames of the types below came in canonical form, from the kernel, from programs and from
 the scripts in examples/captured, so the test must write these unchanged, requests with a `struct rtgenmsg` instead of
-the header among them. It must reject any other frame, because the crate does not have its message type.
+the header among them. It must reject any other frame: the crate does not have its message type, or the kernel rejected
+it too.
 
 A second test of netlink_generic gets a name and the dump, and writes the id and the multicast groups of the family with
 this name. This script reads the dump itself to check them.
@@ -27,6 +28,10 @@ CAPTURED = os.path.join(TOP, "examples", "captured")
 DATAGRAMS = 71
 
 OWN_TYPES = range(1, 5)  # NLMSG_NOOP to NLMSG_OVERRUN of linux/netlink.h
+# Requests with a value of the wrong size, IFLA_BR_STP_STATE of one byte. The kernel's answers name the same attribute:
+# NLMSGERR_ATTR_OFFS is 68, counted from the header of the frame, which has 16 bytes.
+SHORT = ("replies/option-short-request, frame 0", "replies/option-short-capped-request, frame 0")
+SHORT_ERROR = b"at byte 52, in policy 6: attribute 5 has a value of 1 bytes instead of 4"
 # The crate of each protocol, and its message types: NETLINK_ROUTE, with RTM_NEWLINK to RTM_GETADDR, RTM_NEWROUTE to
 # RTM_GETROUTE, RTM_NEWNEIGH to RTM_GETNEIGH, RTM_NEWRULE to RTM_GETRULE, RTM_NEWNEIGHTBL, RTM_GETNEIGHTBL and
 # RTM_SETNEIGHTBL, and RTM_NEWNSID to RTM_GETNSID; and NETLINK_GENERIC, with GENL_ID_CTRL.
@@ -87,9 +92,11 @@ def families_of(datagram):
             yield values[FAMILY_NAME].removesuffix(b"\0"), text
 
 
-def wanted(protocol, frame):
+def wanted(name, protocol, frame):
     """Returns what the test must write for the frame."""
     kind = struct.unpack_from("<H", frame, 4)[0]
+    if name in SHORT:
+        return b"Failed to parse message with type %d: %s" % (kind, SHORT_ERROR)
     if kind in OWN_TYPES or kind in FAMILIES[protocol]:
         return frame
     return b"Failed to parse message with type %d: message type %d is not known" % (kind, kind)
@@ -106,7 +113,7 @@ def main():
         for at, frame in enumerate(frames_of(read(name)))
     ]
     captured += [(name, "0", frame) for name, frame in distinct_frames("programs.tsv")]
-    rows = [(name, [programs[it], NORMALIZES], frame, wanted(it, frame)) for name, it, frame in captured]
+    rows = [(name, [programs[it], NORMALIZES], frame, wanted(name, it, frame)) for name, it, frame in captured]
     own = sum(frame == text for _, _, frame, text in rows)
     frames, dump = len(rows), read("families-0")
     for family, text in [*families_of(dump), (b"no-such-family", b"none\n"), (b"nlctr", b"none\n")]:
