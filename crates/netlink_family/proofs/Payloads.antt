@@ -18,10 +18,10 @@ use Rattle.netlink_packet_core.specs.Views.{attribute_of}
 use Rattle.netlink_packet_core.specs.Walk.{IsFault, Starts, Walk}
 use Rattle.netlink_family.specs.Blocks.{all_normalized, block_fits}
 use Rattle.netlink_family.specs.PayloadReading.{payload_reading, short_reading}
-use Rattle.netlink_family.specs.ErrorLaws.{block_shaped, payload_complete, error_malformed, error_nothing, error_step, none_of, value_shaped, short_complete}
+use Rattle.netlink_family.specs.ErrorLaws.{block_shaped, error_malformed, error_nothing, error_step, none_of, value_shaped, short_complete}
 use Rattle.netlink_family.specs.Errors.{block_error, payload_error, message_error, rest_error, too_long_error, value_error, short_error}
 use Rattle.netlink_family.specs.Message.{is_canonical_payload}
-use Rattle.netlink_family.specs.CanonicalPayloadLaws.{fits_by_size, canonical_reads, payload_read, canonical_sent}
+use Rattle.netlink_family.specs.CanonicalPayloadLaws.{fits_by_size, payload_read, canonical_sent}
 use Rattle.netlink_family.specs.Shapes.{Row, Scope, all_shaped, are_shaped, fits_kind, is_block_shaped, nest_levels, or_first, reading_by, within}
 use Rattle.netlink_family.specs.Short.{is_cut, is_short, sent}
 use Rattle.netlink_family.specs.ShortLaws.{other_error, short_parts}
