@@ -25,7 +25,7 @@
  *  - The number of an error (5 to 16, except 8): a function with a fault writes the fault, with the numbers
  *    that the enum below lists for this error.
  *  - NLP_NO_ROOM, NLP_TOO_LONG, NLP_NO_PLACE, NLP_WRONG_SIZE and NLP_WRONG_SHAPE leave the fault unchanged;
- *    of NLP_NO_ROOM no contract states that.
+ *    of NLP_NO_ROOM only the contract of nlp_describe states that.
  *
  * Proved of each function: unless it returns NLP_OK, it changes nothing but the fault, the cursor of a walk,
  * the state of an answer, `*size` at NLP_NO_ROOM, the offset of nlp_attrs_validate, and the outputs of
@@ -50,6 +50,7 @@
  *   mnl_attr_put_u32_check, ..           nlp_attr_put_u32, ..: check each result
  *   mnl_attr_nest_start, _end, _cancel   nlp_writer_nest, nlp_writer_nest_end, nlp_writer_nest_cancel
  *   mnl_cb_run                           nlp_replies_next, which also says when the answer is complete
+ *   mnl_nlmsg_fprintf                    nlp_describe, which writes into a buffer
  *
  * c/examples has rtnl-link-dump and genl-family-get of libmnl over this header.
  */
@@ -533,6 +534,25 @@ uint32_t nlp_frame_normalize(const uint8_t *bytes, size_t len, uint8_t *buffer, 
 uint32_t nlp_fault_text(const struct nlp_fault *fault, uint8_t *buffer, size_t capacity, size_t *size)
     NLP_CHECKED(1, 4);
 
+/* Writes the frame that the bytes begin with as text, without a zero at its end, for a log or a debugger. These
+ * are the six lines of a frame with the payload 00 01 02 03:
+ *
+ *     length 20
+ *     type 18
+ *     flags 0
+ *     sequence 0
+ *     port 0
+ *     payload 00010203
+ *
+ * The integers are in decimal. The payload is two hexadecimal digits per byte, in lower case, or `-` if it has
+ * no bytes. Each line ends with a line feed. The text has at most 2 * len + 55 bytes. Returns NLP_OK, and the
+ * text is the first `*size` bytes of the buffer; NLP_NO_ROOM, and `*size` is the size needed, so that a call
+ * without a buffer yields it; or NLP_FRAME_SHORT, _CUT or _LENGTH. Does not allocate.
+ * Proved: if there is a complete frame, its text, each byte of it, and the fault unchanged; else the error. Only
+ * NLP_OK changes the buffer. */
+uint32_t nlp_describe(const uint8_t *bytes, size_t len, uint8_t *buffer, size_t capacity, size_t *size,
+                      struct nlp_fault *fault) NLP_CHECKED(5, 6);
+
 /* ---- plain C, not proved ----------------------------------------------------------------------- */
 
 /* The functions from here to the end are compiled into your program, and nothing is proved of them. They call
@@ -667,6 +687,13 @@ static inline NLP_RESULT uint32_t nlp_frame_normalize_opt(const uint8_t *bytes, 
 {
     struct nlp_fault own;
     return nlp_frame_normalize(bytes, len, buffer, capacity, size, fault == NULL ? &own : fault);
+}
+
+static inline NLP_RESULT uint32_t nlp_describe_opt(const uint8_t *bytes, size_t len, uint8_t *buffer,
+                                                   size_t capacity, size_t *size, struct nlp_fault *fault)
+{
+    struct nlp_fault own;
+    return nlp_describe(bytes, len, buffer, capacity, size, fault == NULL ? &own : fault);
 }
 
 /* ---- messages of an answer */

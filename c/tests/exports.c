@@ -207,6 +207,55 @@ static void texts(void)
         && nlp_fault_text(&long_length, NULL, 0, &size) == NLP_NO_PLACE);
 }
 
+/* Whether the bytes have this text: with enough room, with exactly enough, with one byte less, and without a buffer. */
+static bool is_described(const uint8_t *bytes, size_t len, const char *text)
+{
+    struct nlp_fault fault = { 1, 2, 3, 4 };
+    uint8_t buffer[200], untouched[200];
+    const size_t wanted = strlen(text);
+    size_t size = 0;
+    memset(buffer, 0xee, sizeof buffer);
+    memset(untouched, 0xee, sizeof untouched);
+    bool holds = nlp_describe(bytes, len, NULL, 0, &size, &fault) == NLP_NO_ROOM && size == wanted;
+    size = 0;
+    holds = holds && nlp_describe(bytes, len, buffer, wanted - 1, &size, &fault) == NLP_NO_ROOM && size == wanted
+        && memcmp(buffer, untouched, sizeof buffer) == 0;
+    size = 0;
+    holds = holds && nlp_describe(bytes, len, buffer, wanted, &size, &fault) == NLP_OK && size == wanted
+        && memcmp(buffer, text, wanted) == 0 && memcmp(buffer + wanted, untouched, sizeof buffer - wanted) == 0;
+    memset(buffer, 0xee, sizeof buffer);
+    return holds && nlp_describe(bytes, len, buffer, sizeof buffer, &size, &fault) == NLP_OK && size == wanted
+        && memcmp(buffer, text, wanted) == 0 && memcmp(buffer + wanted, untouched, sizeof buffer - wanted) == 0
+        && is_fault(&fault, 1, 2, 3, 4);
+}
+
+static void descriptions(void)
+{
+    static const uint8_t largest[17] = { 17, 0, 0, 0, 0xff, 0xff, 0xff, 0xff, 0xff, 0xff, 0xff, 0xff, 0xff, 0xff, 0xff, 0xff, 0xff };
+    static const uint8_t empty[16] = { 16, 0, 0, 0, 10, 0, 0, 0, 0, 202, 154, 59 };
+    uint8_t bytes[20], buffer[100], untouched[100];
+    expect("the text of a frame", is_described(frame, sizeof frame, "length 24\ntype 18\nflags 769\nsequence 7\nport 9\npayload 05000100aa000000\n"));
+    expect("the text of the largest numbers", is_described(largest, 17, "length 17\ntype 65535\nflags 65535\nsequence 4294967295\nport 4294967295\npayload ff\n"));
+    expect("the text of a header", is_described(empty, 16, "length 16\ntype 10\nflags 0\nsequence 1000000000\nport 0\npayload -\n"));
+    memset(buffer, 0xee, sizeof buffer);
+    memset(untouched, 0xee, sizeof untouched);
+    memcpy(bytes, frame, sizeof bytes);
+    for (size_t len = 0; len <= 20; len++) {
+        for (uint8_t said = 14; said <= 21; said++) {
+            struct nlp_fault fault = { 1, 2, 3, 4 };
+            size_t size = 99;
+            bytes[0] = said;
+            const uint32_t result = nlp_describe(len == 0 ? NULL : bytes, len, buffer, sizeof buffer, &size, &fault);
+            const bool holds = len < 16 ? result == NLP_FRAME_SHORT && is_fault(&fault, 9, 0, len, 0)
+                : said > len ? result == NLP_FRAME_CUT && is_fault(&fault, 10, 0, len, said)
+                : said < 16 ? result == NLP_FRAME_LENGTH && is_fault(&fault, 11, 0, 0, said)
+                : result == NLP_OK && is_fault(&fault, 1, 2, 3, 4);
+            expect("the text of bad bytes", holds && (result == NLP_OK || (size == 99 && memcmp(buffer, untouched, sizeof buffer) == 0)));
+            memset(buffer, 0xee, sizeof buffer);
+        }
+    }
+}
+
 int main(void)
 {
     reads();
@@ -216,6 +265,7 @@ int main(void)
     puts_frames();
     normal_forms();
     texts();
+    descriptions();
     printf("%d passed, %d failed\n", passed, failed);
     return failed != 0;
 }

@@ -29,7 +29,7 @@ static const struct call {
     { walk_frames, DATAGRAM, 12 },
     { find_attrs, DATAGRAM, 6 },
     { read_frame, DATAGRAM, 8 },
-    { read_replies, DATAGRAM, 28 },
+    { read_replies, DATAGRAM, 20 },
     { normalize_frame, DATAGRAM, 14 },
     { read_error, ERROR_BODY, 8 },
     { read_done, ERROR_BODY, 2 },
@@ -40,6 +40,7 @@ static const struct call {
     { put_long, ANY_BYTES, 1 },
     { write_all, ANY_BYTES, 14 },
     { text_of_fault, ANY_BYTES, 6 },
+    { text_of_frame, DATAGRAM, 8 },
 };
 
 static unsigned long inputs_tried;

@@ -6,7 +6,7 @@
 
 /* What is written out, which may be longer than the input. */
 struct made {
-    uint8_t bytes[2 * MAX_LEN];
+    uint8_t bytes[2 * MAX_LEN + 64];
     size_t size;
 };
 
@@ -173,6 +173,32 @@ static void text_of_fault(const struct input *in)
     const uint32_t result = is_text ? NLP_OK : NLP_NO_PLACE;
     WRITES_OUT(nlp_fault_text(numbers, buffer, capacity, size), &made, result, in->args[0]);
     CHECK(same_fault(numbers, &before));
+}
+
+static void text_of_frame(const struct input *in)
+{
+    static struct made made;
+    struct nlp_message message;
+    struct nlp_fault wanted = begin_fault();
+    size_t at = 0;
+    uint32_t result = message_step(in->bytes, in->len, &at, &message, &wanted);
+    made.size = 0;
+    if (result == NLP_END) {
+        wanted = (struct nlp_fault){ NLP_FRAME_SHORT, 0, 0, 0 };
+        result = NLP_FRAME_SHORT;
+    }
+    if (result == NLP_OK) {
+        append_text(&made, "length %s\ntype %w\n", message.header.length, message.header.message_type);
+        append_text(&made, "flags %s\nsequence %w\n", message.header.flags, message.header.sequence_number);
+        append_text(&made, "port %s\npayload ", message.header.port_number, 0);
+        for (size_t i = 16; i < message.header.length; i++) {
+            made.bytes[made.size++] = (uint8_t)"0123456789abcdef"[in->bytes[i] >> 4];
+            made.bytes[made.size++] = (uint8_t)"0123456789abcdef"[in->bytes[i] & 15];
+        }
+        append_text(&made, message.header.length == 16 ? "-\n" : "\n", 0, 0);
+    }
+    WRITES_OUT(OPT(nlp_describe, in->bytes, in->len, buffer, capacity, size), &made, result, in->args[0]);
+    check_fault(&wanted);
 }
 
 #endif

@@ -117,6 +117,9 @@ static void canonical(void)
         expect("a canonical frame", nlp_frame_normalize_opt(bytes, sizeof bytes, to_bytes, sizeof to_bytes, &size, to) == NLP_OK && size == 24 && memcmp(to_bytes, bytes, 24) == 0);
         expect("no frame", nlp_frame_normalize_opt(bytes, 15, to_bytes, sizeof to_bytes, &size, to) == NLP_FRAME_SHORT && is_fault(&fault, with ? 9 : 0, with ? 15 : 0, 0));
         fault = (struct nlp_fault){ 0, 0, 0, 0 };
+        expect("the size of a text", nlp_describe_opt(bytes, sizeof bytes, to_bytes, sizeof to_bytes, &size, to) == NLP_NO_ROOM && size == 71);
+        expect("no text", nlp_describe_opt(bytes, 15, to_bytes, sizeof to_bytes, &size, to) == NLP_FRAME_SHORT && is_fault(&fault, with ? 9 : 0, with ? 15 : 0, 0));
+        fault = (struct nlp_fault){ 0, 0, 0, 0 };
     }
 }
 

@@ -1,3 +1,4 @@
+mod DescribeLemmas
 mod EndLemmas
 mod ItemLemmas
 mod MessageLemmas

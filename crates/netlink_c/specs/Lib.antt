@@ -1,6 +1,7 @@
 pub mod ErrorBody
 pub mod Any
 pub mod Bodies
+pub mod Describe
 pub mod Ends
 pub mod Fault
 pub mod Out
