@@ -234,6 +234,7 @@ static void descriptions(void)
     static const uint8_t largest[17] = { 17, 0, 0, 0, 0xff, 0xff, 0xff, 0xff, 0xff, 0xff, 0xff, 0xff, 0xff, 0xff, 0xff, 0xff, 0xff };
     static const uint8_t empty[16] = { 16, 0, 0, 0, 10, 0, 0, 0, 0, 202, 154, 59 };
     uint8_t bytes[20], buffer[100], untouched[100];
+    bool holds = true;
     expect("the text of a frame", is_described(frame, sizeof frame, "length 24\ntype 18\nflags 769\nsequence 7\nport 9\npayload 05000100aa000000\n"));
     expect("the text of the largest numbers", is_described(largest, 17, "length 17\ntype 65535\nflags 65535\nsequence 4294967295\nport 4294967295\npayload ff\n"));
     expect("the text of a header", is_described(empty, 16, "length 16\ntype 10\nflags 0\nsequence 1000000000\nport 0\npayload -\n"));
@@ -246,14 +247,15 @@ static void descriptions(void)
             size_t size = 99;
             bytes[0] = said;
             const uint32_t result = nlp_describe(len == 0 ? NULL : bytes, len, buffer, sizeof buffer, &size, &fault);
-            const bool holds = len < 16 ? result == NLP_FRAME_SHORT && is_fault(&fault, 9, 0, len, 0)
+            holds = holds && (len < 16 ? result == NLP_FRAME_SHORT && is_fault(&fault, 9, 0, len, 0)
                 : said > len ? result == NLP_FRAME_CUT && is_fault(&fault, 10, 0, len, said)
                 : said < 16 ? result == NLP_FRAME_LENGTH && is_fault(&fault, 11, 0, 0, said)
-                : result == NLP_OK && is_fault(&fault, 1, 2, 3, 4);
-            expect("the text of bad bytes", holds && (result == NLP_OK || (size == 99 && memcmp(buffer, untouched, sizeof buffer) == 0)));
+                : result == NLP_OK && is_fault(&fault, 1, 2, 3, 4));
+            holds = holds && (result == NLP_OK || (size == 99 && memcmp(buffer, untouched, sizeof buffer) == 0));
             memset(buffer, 0xee, sizeof buffer);
         }
     }
+    expect("the text of bad bytes", holds);
 }
 
 int main(void)
