@@ -1,16 +1,16 @@
 -- Where the attributes of a block and the frames of a datagram are.
-use denote.Ref.{Bor}
-use Rattle.std.proofs.Common.{◌≡◌, ℕ, ◌+◌, ◌-◌, ◌<◌, ◌≤◌, List, ◌++◌, length, take, drop, refl, ap, sym, subst, ◌∙◌, arith, Some, Ok, length-drop}
+use Rattle.std.proofs.Common.{◌≡◌, ℕ, ◌+◌, ◌-◌, ◌<◌, ◌≤◌, List, ◌++◌, length, take, drop, slice_index, refl, ap, sym, subst, ◌∙◌, arith, length-drop}
 use Rattle.std.proofs.lemmas.List.{take_at, drop-drop, length-take-le}
 use Rattle.std.specs.Prelude.{slice_range}
 use Rattle.netlink_packet_core.specs.Attribute.{Attribute, padding}
-use Rattle.netlink_packet_core.specs.FrameStartLaws.{starts_frame-length, starts_frame-rest}
+use Rattle.netlink_packet_core.specs.FrameStartLaws.{length-frame_of, starts_frame-length, starts_frame-rest, starts_frame_held}
+use Rattle.netlink_packet_core.specs.FrameWalk.{frame_of}
+use Rattle.netlink_packet_core.specs.Header.{HoldsFrame, field}
 use Rattle.netlink_packet_core.specs.Nla.{attribute_with}
-use Rattle.netlink_packet_core.specs.StartLaws.{starts-rest}
-use Rattle.netlink_packet_core.specs.Views.{length_field, raw_kind, attribute_of, shown, HoldsAttribute}
-use Rattle.netlink_packet_core.specs.Walk.{Gives, Item, Starts}
-use Rattle.netlink_attributes.specs.declared.buffer.NlaBuffer.{NlaBuffer}
-use Rattle.netlink_tree.specs.FrameSteps.{FrameItem, GivesFrame}
+use Rattle.netlink_packet_core.specs.NumberLaws.{IsBytes-drop}
+use Rattle.netlink_packet_core.specs.StartLaws.{starts-rest, starts_held}
+use Rattle.netlink_packet_core.specs.Views.{length_field, raw_kind, attribute_of, HoldsAttribute}
+use Rattle.netlink_packet_core.specs.Walk.{Starts}
 use Rattle.netlink_tree.specs.FrameWalk.{StartsFrame}
 use Rattle.netlink_c.specs.Parts.{part_from}
 use Rattle.netlink_c.specs.Steps.{StartsAttributeAt, StartsFrameAt}
@@ -48,18 +48,36 @@ attribute_at bytes at kind size next rest inside holds starts kinds sizes behind
       forward = forward;
     }
 
--- the same, from a step of the walk
-pub attribute_step : (bytes before after : List ℕ) (view : NlaBuffer (Bor (List ℕ))) (at kind size next : ℕ) → at < length bytes → before
-    ≡ drop at bytes → Gives before (Some (Ok view)) after
-    → kind ≡ raw_kind (shown view) → size + 4 ≡ length_field (shown view) → drop next bytes
-    ≡ drop (size + 4 + padding (size + 4)) (drop at bytes) → (at < next) × (next ≤ length bytes)
-    → StartsAttributeAt bytes at (record { kind = kind; offset = at + 4; size = size }) next
-attribute_step bytes before after view at kind size next inside same step kinds sizes behind forward =
-    let shows : shown view ≡ drop at bytes = step.0 ∙ same in
-    attribute_at bytes at kind size next after (omega arith)
-    (subst HoldsAttribute shows step.1)
-    (subst (λ (b : List ℕ). Starts b (attribute_of b) after) same step.2)
-    (kinds ∙ ap raw_kind shows) (sizes ∙ ap length_field shows) behind forward
+-- an attribute that the bytes hold at an offset is inside them
+pub attribute_fits : (bytes : List ℕ) (at size : ℕ) → at < length bytes → HoldsAttribute (drop at bytes)
+    → size ≡ length_field (drop at bytes) → (at + size ≤ length bytes) × (4 ≤ size)
+attribute_fits bytes at size inside holds said =
+    let left = length-drop at bytes in
+    let least = holds.least in
+    let most = holds.most in
+    (omega arith, omega arith)
+
+-- and it starts there
+attribute_held : (bytes : List ℕ) (at kind size next : ℕ) → ((i : ℕ) → slice_index bytes i < 256) → at < length bytes
+    → HoldsAttribute (drop at bytes) → kind ≡ raw_kind (drop at bytes) → size ≡ length_field (drop at bytes) → drop next bytes
+    ≡ drop (size + padding size) (drop at bytes) → (at < next) × (next ≤ length bytes)
+    → StartsAttributeAt bytes at (record { kind = kind; offset = at + 4; size = size - 4 }) next
+attribute_held bytes at kind size next each inside holds kinds said behind forward =
+    let here : List ℕ = drop at bytes in
+    let least = holds.least in
+    let whole : size - 4 + 4 ≡ size = omega arith in
+    let starts = starts_held here (size + padding size) (IsBytes-drop at bytes each) holds (omega arith) (omega arith) (omega arith) in
+    attribute_at bytes at kind (size - 4) next (drop (size + padding size) here) (omega arith) holds starts kinds (whole ∙ said)
+    (behind ∙ ap (λ (k : ℕ). drop (k + padding k) here) (sym whole)) forward
+
+-- the same, of the bytes that are left
+pub attribute_found : (bytes unread : List ℕ) (at kind size next : ℕ) → ((i : ℕ) → slice_index bytes i < 256) → at < length bytes
+    → unread ≡ drop at bytes → HoldsAttribute unread → kind ≡ raw_kind unread → size ≡ length_field unread → drop next bytes
+    ≡ drop (size + padding size) (drop at bytes) → (at < next) × (next ≤ length bytes)
+    → StartsAttributeAt bytes at (record { kind = kind; offset = at + 4; size = size - 4 }) next
+attribute_found bytes unread at kind size next each inside same holds kinds said behind forward =
+    attribute_held bytes at kind size next each inside (subst HoldsAttribute same holds) (kinds ∙ ap raw_kind same)
+    (said ∙ ap length_field same) behind forward
 
 frame_inside : (bytes frame rest : List ℕ) (at : ℕ) → at < length bytes → StartsFrame (drop at bytes) frame rest
     → (at + length frame ≤ length bytes) × (16 ≤ length frame)
@@ -89,37 +107,28 @@ frame_at bytes at next frame rest size inside starts sizes behind forward =
       forward = forward;
     }
 
--- the same, from a step of the walk
-pub frame_fits : (bytes before after : List ℕ) (frame : Bor (List ℕ)) (at : ℕ) → at < length bytes → before ≡ drop at bytes
-    → GivesFrame before (Some (Ok frame)) after
-    → (at + length frame.now ≤ length bytes) × (0 < length frame.now)
-frame_fits bytes before after frame at inside same step =
-    let fits = frame_inside bytes frame.now after at inside (subst (λ (b : List ℕ). StartsFrame b frame.now after) same step.1) in
-    (fits.0, omega (arith, fits.1))
+-- a frame that the bytes hold at an offset is inside them
+pub held_fits : (bytes : List ℕ) (at size : ℕ) → at < length bytes → HoldsFrame (drop at bytes) → size ≡ field 0 4 (drop at bytes)
+    → (at + size ≤ length bytes) × (16 ≤ size)
+held_fits bytes at size inside holds said =
+    let left = length-drop at bytes in
+    let least = holds.least in
+    let most = holds.most in
+    (omega arith, omega arith)
 
-pub frame_step : (bytes before after : List ℕ) (frame : Bor (List ℕ)) (at size next : ℕ) → at < length bytes → before ≡ drop at bytes
-    → GivesFrame before (Some (Ok frame)) after → size ≡ length frame.now
+-- and it starts there
+frame_held : (bytes : List ℕ) (at size next : ℕ) → at < length bytes → HoldsFrame (drop at bytes) → size ≡ field 0 4 (drop at bytes)
     → drop next bytes ≡ drop (size + padding size) (drop at bytes) → (at < next) × (next ≤ length bytes)
     → StartsFrameAt bytes at (record { offset = at; size = size }) next
-frame_step bytes before after frame at size next inside same step sizes behind forward =
-    frame_at bytes at next frame.now after size inside (subst (λ (b : List ℕ). StartsFrame b frame.now after) same step.1) sizes behind
-    forward
+frame_held bytes at size next inside holds said behind forward =
+    let here : List ℕ = drop at bytes in
+    let starts = starts_frame_held here (size + padding size) holds (omega arith) (omega arith) (omega arith) in
+    frame_at bytes at next (frame_of here) (drop (size + padding size) here) size inside starts (said ∙ sym (length-frame_of here holds))
+    behind forward
 
--- the same, if an equation states what the step yields
-pub attribute_given : (bytes before after : List ℕ) (found : Item) (view : NlaBuffer (Bor (List ℕ))) (at kind size next : ℕ)
-    → at < length bytes
-    → before ≡ drop at bytes → Gives before (Some found) after → found ≡ Ok view → kind ≡ raw_kind (shown view)
-    → size + 4 ≡ length_field (shown view) → drop next bytes ≡ drop (size + 4 + padding (size + 4)) (drop at bytes)
-    → (at < next) × (next ≤ length bytes)
-    → StartsAttributeAt bytes at (record { kind = kind; offset = at + 4; size = size }) next
-attribute_given bytes before after found view at kind size next inside same step is kinds sizes behind forward =
-    attribute_step bytes before after view at kind size next inside same
-    (subst (λ (r : Item). Gives before (Some r) after) is step) kinds sizes behind forward
-
-pub frame_given : (bytes before after : List ℕ) (found : FrameItem) (frame : Bor (List ℕ)) (at next : ℕ) → at < length bytes
-    → before ≡ drop at bytes → GivesFrame before (Some found) after → found ≡ Ok frame
-    → drop next bytes ≡ drop (length frame.now + padding (length frame.now)) (drop at bytes) → (at < next) × (next ≤ length bytes)
-    → StartsFrameAt bytes at (record { offset = at; size = length frame.now }) next
-frame_given bytes before after found frame at next inside same step is behind forward =
-    frame_step bytes before after frame at (length frame.now) next inside same
-    (subst (λ (r : FrameItem). GivesFrame before (Some r) after) is step) refl behind forward
+-- the same, of the bytes that are left
+pub frame_found : (bytes unread : List ℕ) (at size next : ℕ) → at < length bytes → unread ≡ drop at bytes → HoldsFrame unread
+    → size ≡ field 0 4 unread → drop next bytes ≡ drop (size + padding size) (drop at bytes) → (at < next) × (next ≤ length bytes)
+    → StartsFrameAt bytes at (record { offset = at; size = size }) next
+frame_found bytes unread at size next inside same holds said behind forward =
+    frame_held bytes at size next inside (subst HoldsFrame same holds) (said ∙ ap (field 0 4) same) behind forward

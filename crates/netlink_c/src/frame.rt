@@ -1,7 +1,7 @@
 //! A frame in place: whether it is complete, its header, its payload, and the bodies of done and
 //! error messages.
 
-ghost use Rattle.std.specs.Prelude.{◌≡◌, ◌≢◌, ◌+◌, ◌≤◌, ◌<◌, length, drop, false};
+ghost use Rattle.std.specs.Prelude.{◌≡◌, ◌≢◌, ◌+◌, ◌≤◌, ◌<◌, IfNone, IfSome, length, drop, false};
 ghost use Rattle.netlink_packet_core.specs.DecodeError.{DecodeError};
 ghost use Rattle.netlink_packet_core.specs.Header.{HoldsFrame, field, header_of, payload_of};
 ghost use Rattle.netlink_packet_core.specs.Numbers.{signed};
@@ -40,6 +40,40 @@ pub extern "C" fn nlp_frame_check(bytes: &[u8], fault: &mut FaultNumbers) -> u32
     }
 }
 
+/// Returns the length field if the bytes begin with a complete frame, and `None` otherwise.
+#[inline(always)]
+pub(crate) fn frame_size(bytes: &[u8]) -> Option<usize>
+    ensures whole { IfSome result (λ size. HoldsFrame bytes.now × (size ≡ field 0 4 bytes.now)) }
+    ensures none { IfNone result (HoldsFrame bytes.now → ⊥) }
+{
+    let left = bytes.len();
+    if left < NETLINK_HEADER_LEN {
+        return None;
+    }
+    let size = NetlinkBuffer::new(bytes).length() as usize;
+    // One comparison for both bounds: if the size is below that of a header, the difference wraps
+    // to a number that exceeds any that can be left.
+    if size.wrapping_sub(NETLINK_HEADER_LEN) > left - NETLINK_HEADER_LEN {
+        return None;
+    }
+    Some(size)
+}
+
+/// Writes the error of bytes that do not begin with a complete frame, and returns its number.
+#[cold]
+#[inline(never)]
+pub(crate) fn frame_fault(bytes: &[u8], fault: &mut FaultNumbers) -> u32
+    requires none { HoldsFrame bytes.now → ⊥ }
+    ensures refuses { Refuses (IsFrameFault false bytes.now) result fault.new }
+    ensures some { 0 < result }
+    ensures below { result ≤ 16 }
+{
+    match NetlinkBuffer::new_checked(bytes) {
+        Ok(_) => unreachable!(),
+        Err(cause) => refused(fault, &cause),
+    }
+}
+
 /// Reads the header that the bytes begin with (`struct nlp_header`, laid out as `struct nlmsghdr`).
 /// Returns 0, or the number of `FrameShort` if there are fewer than 16 bytes. The length field may
 /// hold any value. Does not allocate.
@@ -71,7 +105,7 @@ pub extern "C" fn nlp_frame_header(
 }
 
 /// Finds the payload of the complete frame that the bytes begin with. Returns 0, or the number of
-/// `FrameShort`, `FrameCut` or `FrameLength`. Wraps `NetlinkBuffer::payload`. Does not allocate.
+/// `FrameShort`, `FrameCut` or `FrameLength`. Does not allocate.
 #[unsafe(no_mangle)]
 pub extern "C" fn nlp_frame_payload(
     bytes: &[u8],
@@ -86,16 +120,15 @@ pub extern "C" fn nlp_frame_payload(
     ensures refuses { result ≢ 0 → Refuses (IsFrameFault false bytes.now) result fault.new
         × (payload.new ≡ payload.old) }
 {
-    match NetlinkBuffer::new_checked(bytes) {
-        Ok(view) => {
-            let size = view.payload_length();
+    match frame_size(bytes) {
+        Some(size) => {
             *payload = Part {
                 offset: NETLINK_HEADER_LEN,
-                size,
+                size: size - NETLINK_HEADER_LEN,
             };
             OK
         }
-        Err(cause) => refused(fault, &cause),
+        None => frame_fault(bytes, fault),
     }
 }
 

@@ -96,6 +96,7 @@ fn padded_within(fixed: usize, size: usize) -> usize
 }
 
 /// Returns the message whose frame is this part of the bytes.
+#[inline(always)]
 fn message_of(bytes: &[u8], frame: &Part) -> MessageItem
     requires inside { frame.now.offset + frame.now.size ≤ length bytes.now }
     requires least { 16 ≤ frame.now.size }

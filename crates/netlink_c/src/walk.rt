@@ -1,17 +1,17 @@
 //! Walking the frames of a datagram, and the attributes of a block, with a cursor.
 
-ghost use Rattle.std.specs.Prelude.{◌≡◌, ◌≢◌, ◌↔◌, ◌⊎◌, ◌+◌, ◌≤◌, ◌<◌, length, drop, false};
+ghost use Rattle.std.specs.Prelude.{◌≡◌, ◌≢◌, ◌↔◌, ◌⊎◌, ◌+◌, ◌≤◌, ◌<◌, IfNone, IfSome, length, drop, false};
 ghost use Rattle.netlink_packet_core.specs.Attribute.{padding};
 ghost use Rattle.netlink_packet_core.specs.Refusal.{IsFrameFault};
+ghost use Rattle.netlink_packet_core.specs.Views.{HoldsAttribute, length_field};
 ghost use Rattle.netlink_packet_core.specs.Walk.{IsFault};
 ghost use Rattle.netlink_c.specs.Fault.{Refuses};
 ghost use Rattle.netlink_c.specs.Steps.{StartsAttributeAt, StartsFrameAt};
 
 use crate::fault::{FaultNumbers, refused};
-use crate::frame::Part;
+use crate::frame::{Part, frame_fault, frame_size};
 use crate::results::{END, OK};
-use netlink_packet_core::{NLA_HEADER_SIZE, NlasIterator, nla_align};
-use netlink_tree::Frames;
+use netlink_packet_core::{NLA_HEADER_SIZE, NlaBuffer, nla_align};
 
 /// An attribute of a block (`struct nlp_attr`): its kind, and the location of its value.
 #[derive(Clone, Copy, Debug, PartialEq, Eq)]
@@ -31,8 +31,9 @@ pub struct AttributeItem {
 /// Returns 0 on success. Returns `END`, and leaves the cursor unchanged, if and only if the cursor
 /// is at or past the end of the datagram. Returns `FrameShort`, `FrameCut` or `FrameLength`, and
 /// moves the cursor to the end, if there is no complete frame at the cursor. Changes `item` only if
-/// it returns 0. Wraps `Frames`. Does not allocate.
-#[tactic(auto, using(crate::proofs::WalkLemmas::frame_fits))]
+/// it returns 0. Does not allocate.
+#[tactic(auto, using(crate::proofs::WalkLemmas::held_fits))]
+#[inline(always)]
 #[unsafe(no_mangle)]
 pub extern "C" fn nlp_frames_next(
     bytes: &[u8],
@@ -53,17 +54,16 @@ pub extern "C" fn nlp_frames_next(
     if at >= bytes.len() {
         return END;
     }
-    match Frames::new(&bytes[at..]).next() {
-        None => END,
-        Some(Ok(frame)) => {
-            let size = frame.len();
+    let unread = &bytes[at..];
+    match frame_size(unread) {
+        Some(size) => {
             *item = Part { offset: at, size };
             *cursor = after(bytes, at, size);
             OK
         }
-        Some(Err(cause)) => {
+        None => {
             *cursor = bytes.len();
-            refused(fault, &cause)
+            frame_fault(unread, fault)
         }
     }
 }
@@ -76,7 +76,8 @@ pub extern "C" fn nlp_frames_next(
 /// is at or past the end of the block. Returns `NlaBufferTooSmall`, `NlaLengthMismatch` or
 /// `NlaInvalidLength`, and moves the cursor to the end, if there is no complete attribute at the
 /// cursor. Changes `item` only if it returns 0. To walk the attributes inside a nest, call this
-/// function on its value. Wraps `NlasIterator`. Does not allocate.
+/// function on its value. Does not allocate.
+#[tactic(auto, using(crate::proofs::WalkLemmas::attribute_fits))]
 #[unsafe(no_mangle)]
 pub extern "C" fn nlp_attrs_next(
     bytes: &[u8],
@@ -97,22 +98,55 @@ pub extern "C" fn nlp_attrs_next(
     if at >= bytes.len() {
         return END;
     }
-    match NlasIterator::new(&bytes[at..]).next() {
-        None => END,
-        Some(Ok(nla)) => {
-            let size = nla.value_length();
-            *item = AttributeItem {
-                kind: nla.raw_kind(),
-                offset: at + NLA_HEADER_SIZE,
-                size,
-            };
-            *cursor = after(bytes, at, size + NLA_HEADER_SIZE);
+    let unread = &bytes[at..];
+    match attribute_size(unread) {
+        Some(size) => {
+            let kind = NlaBuffer::new(unread).raw_kind();
+            // Field by field, so that the padding of the struct is not written.
+            item.kind = kind;
+            item.offset = at + NLA_HEADER_SIZE;
+            item.size = size - NLA_HEADER_SIZE;
+            *cursor = after(bytes, at, size);
             OK
         }
-        Some(Err(cause)) => {
+        None => {
             *cursor = bytes.len();
-            refused(fault, &cause)
+            attribute_fault(unread, fault)
         }
+    }
+}
+
+/// Returns the length field if the bytes begin with a complete attribute, and `None` otherwise.
+#[inline(always)]
+fn attribute_size(bytes: &[u8]) -> Option<usize>
+    ensures whole { IfSome result
+        (λ size. HoldsAttribute bytes.now × (size ≡ length_field bytes.now)) }
+    ensures none { IfNone result (HoldsAttribute bytes.now → ⊥) }
+{
+    let left = bytes.len();
+    if left < NLA_HEADER_SIZE {
+        return None;
+    }
+    let size = NlaBuffer::new(bytes).length() as usize;
+    // One comparison for both bounds, as in `frame_size`.
+    if size.wrapping_sub(NLA_HEADER_SIZE) > left - NLA_HEADER_SIZE {
+        return None;
+    }
+    Some(size)
+}
+
+/// Writes the error of bytes that do not begin with a complete attribute, and returns its number.
+#[cold]
+#[inline(never)]
+fn attribute_fault(bytes: &[u8], fault: &mut FaultNumbers) -> u32
+    requires none { HoldsAttribute bytes.now → ⊥ }
+    ensures refuses { Refuses (IsFault bytes.now) result fault.new }
+    ensures some { 0 < result }
+    ensures below { result ≤ 16 }
+{
+    match NlaBuffer::new_checked(bytes) {
+        Ok(_) => unreachable!(),
+        Err(cause) => refused(fault, &cause),
     }
 }
 
