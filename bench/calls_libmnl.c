@@ -1,9 +1,10 @@
-/* Links and addresses read by libmnl: attributes validated into a table of pointers by kind, then each read once. */
+/* Links, addresses and routes read by libmnl: attributes validated into a table of pointers by kind, then each read once. */
 #include <libmnl/libmnl.h>
 #include <linux/if_addr.h>
 #include <linux/if_link.h>
 #include <linux/rtnetlink.h>
 #include <stdint.h>
+#include <stdlib.h>
 #include <string.h>
 
 /* The kinds to check and to read as a type; the others are bytes, of any size. */
@@ -17,6 +18,10 @@ static const uint8_t link_types[IFLA_MAX + 1] = {
 static const uint8_t address_types[IFA_MAX + 1] = {
     [IFA_ADDRESS] = MNL_TYPE_BINARY,   [IFA_LOCAL] = MNL_TYPE_BINARY,     [IFA_LABEL] = MNL_TYPE_NUL_STRING,
     [IFA_BROADCAST] = MNL_TYPE_BINARY, [IFA_CACHEINFO] = MNL_TYPE_BINARY, [IFA_FLAGS] = MNL_TYPE_U32,
+};
+static const uint8_t route_types[RTA_MAX + 1] = {
+    [RTA_DST] = MNL_TYPE_BINARY, [RTA_GATEWAY] = MNL_TYPE_BINARY, [RTA_PREFSRC] = MNL_TYPE_BINARY,
+    [RTA_OIF] = MNL_TYPE_U32,    [RTA_PRIORITY] = MNL_TYPE_U32,   [RTA_TABLE] = MNL_TYPE_U32,
 };
 
 struct table {
@@ -74,6 +79,12 @@ static size_t address_sum(const struct nlmsghdr *message)
     return sum_of(message, sizeof(struct ifaddrmsg), (struct table){ attributes, address_types, IFA_MAX });
 }
 
+static size_t route_sum(const struct nlmsghdr *message)
+{
+    const struct nlattr *attributes[RTA_MAX + 1] = { 0 };
+    return sum_of(message, sizeof(struct rtmsg), (struct table){ attributes, route_types, RTA_MAX });
+}
+
 /* Returns the sum of the attributes: numbers, and the sizes of the others. */
 size_t libmnl_look(const uint8_t *bytes, size_t len)
 {
@@ -85,6 +96,79 @@ size_t libmnl_look(const uint8_t *bytes, size_t len)
             sum += link_sum(message);
         else if (message->nlmsg_type == RTM_NEWADDR)
             sum += address_sum(message);
+        else if (message->nlmsg_type == RTM_NEWROUTE)
+            sum += route_sum(message);
     }
     return sum;
+}
+
+/* Walks a block of attributes. Returns the sum of the sizes of the values. */
+size_t libmnl_walk(const uint8_t *bytes, size_t len)
+{
+    const struct nlattr *attr;
+    size_t sum = 0;
+    mnl_attr_for_each_payload((const void *)bytes, len)
+        sum += mnl_attr_get_payload_len(attr);
+    return sum;
+}
+
+/* Writes the length field, the kind and the value of each attribute of a block. Returns the size of what it writes. */
+size_t libmnl_walk_output(const uint8_t *bytes, size_t len, uint8_t *out, size_t room)
+{
+    const struct nlattr *attr;
+    size_t at = 0;
+    mnl_attr_for_each_payload((const void *)bytes, len) {
+        uint16_t fields[2] = { attr->nla_len, mnl_attr_get_type(attr) };
+        size_t size = mnl_attr_get_payload_len(attr);
+        if (room - at < sizeof fields + size)
+            return 0;
+        memcpy(out + at, fields, sizeof fields);
+        memcpy(out + at + sizeof fields, mnl_attr_get_payload(attr), size);
+        at += sizeof fields + size;
+    }
+    return at;
+}
+
+/* Appends each attribute of a block to a message in a buffer that grows. */
+static struct nlmsghdr *appended(const uint8_t *bytes, size_t len)
+{
+    size_t room = 512;
+    void *buffer = malloc(room);
+    if (!buffer)
+        return NULL;
+    struct nlmsghdr *message = mnl_nlmsg_put_header(buffer);
+    const struct nlattr *attr;
+    mnl_attr_for_each_payload((const void *)bytes, len) {
+        uint16_t kind = attr->nla_type & NLA_TYPE_MASK;
+        size_t size = attr->nla_len - MNL_ATTR_HDRLEN;
+        const void *value = (const char *)attr + MNL_ATTR_HDRLEN;
+        while (!mnl_attr_put_check(message, room, kind, size, value)) {
+            void *larger = realloc(message, room *= 2);
+            if (!larger) {
+                free(message);
+                return NULL;
+            }
+            message = larger;
+        }
+    }
+    return message;
+}
+
+size_t libmnl_append(const uint8_t *bytes, size_t len)
+{
+    struct nlmsghdr *message = appended(bytes, len);
+    size_t size = message ? mnl_nlmsg_get_payload_len(message) : 0;
+    free(message);
+    return size;
+}
+
+size_t libmnl_append_output(const uint8_t *bytes, size_t len, uint8_t *out, size_t room)
+{
+    struct nlmsghdr *message = appended(bytes, len);
+    size_t size = message ? mnl_nlmsg_get_payload_len(message) : 0;
+    if (size > room)
+        return 0;
+    memcpy(out, mnl_nlmsg_get_payload(message), size);
+    free(message);
+    return size;
 }

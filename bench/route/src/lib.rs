@@ -1,12 +1,15 @@
-//! Links and addresses read by the Rust crate netlink-packet-route.
+//! The cases of Rust crates: here links and addresses read by netlink-packet-route, and in `plain` those of any protocol.
+
+mod plain;
 
 use netlink_packet_route::rtnl::{address, link};
+use netlink_packet_route::nlas::Nla as _;
 use netlink_packet_route::{NetlinkBuffer, NetlinkMessage, NetlinkPayload, RtnlMessage};
 
 type Message = NetlinkMessage<RtnlMessage>;
 
 /// Calls `visit` with each message of a datagram, and adds up what it returns.
-fn each(mut rest: &[u8], visit: impl Fn(Message) -> usize) -> usize {
+fn each(mut rest: &[u8], mut visit: impl FnMut(Message) -> usize) -> usize {
     let mut sum = 0usize;
     while !rest.is_empty() {
         let Ok(frame) = NetlinkBuffer::new_checked(rest) else { return 0 };
@@ -82,4 +85,27 @@ fn address_number(attribute: &address::nlas::Nla) -> usize {
         Nla::Flags(number) => *number as usize,
         _ => 1,
     }
+}
+
+/// Decodes each message of a datagram. Writes its header, and the kind of each of its attributes. Returns the size, or 0
+/// if `out` is too small.
+///
+/// # Safety
+/// `bytes` must point to `len` bytes, and `out` to `room` bytes.
+#[no_mangle]
+pub unsafe extern "C" fn netlink_packet_route_output(bytes: *const u8, len: usize, out: *mut u8, room: usize) -> usize {
+    let mut found = Vec::new();
+    each(std::slice::from_raw_parts(bytes, len), |message| {
+        let header = &message.header;
+        found.extend(header.length.to_ne_bytes());
+        found.extend(header.message_type.to_ne_bytes());
+        found.extend(header.flags.to_ne_bytes());
+        found.extend(header.sequence_number.to_ne_bytes());
+        found.extend(header.port_number.to_ne_bytes());
+        if let NetlinkPayload::InnerMessage(RtnlMessage::NewLink(link)) = &message.payload {
+            found.extend(link.nlas.iter().flat_map(|it| it.kind().to_ne_bytes()));
+        }
+        1
+    });
+    plain::hand_out(Some(found), out, room)
 }

@@ -8,5 +8,7 @@
 mod attributes;
 mod look;
 mod messages;
+mod output;
+mod raw;
 mod route;
 mod trees;

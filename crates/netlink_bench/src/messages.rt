@@ -50,11 +50,15 @@ pub extern "C" fn message_is_canonical(alloc: Global, frame: &[u8]) -> usize {
     }
 }
 
-/// Converts the number in the first two bytes to an Ethernet protocol and back.
+/// Converts the number in the first two bytes to an Ethernet protocol. Returns 1 if it has a name,
+/// and otherwise 2.
 #[unsafe(no_mangle)]
-pub extern "C" fn ethernet_value(_alloc: Global, bytes: &[u8]) -> usize {
+pub extern "C" fn ethernet_convert(_alloc: Global, bytes: &[u8]) -> usize {
     if bytes.len() < 2 {
         return 0;
     }
-    EthernetProtocol::from(u16_at(bytes, 0)).value() as usize
+    match EthernetProtocol::from(u16_at(bytes, 0)) {
+        EthernetProtocol::Other(_) => 2,
+        _ => 1,
+    }
 }

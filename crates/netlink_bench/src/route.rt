@@ -1,11 +1,12 @@
 //! Messages of route netlink.
 
 use crate::look::{block_sum, value_number};
+use crate::output::hand_out;
 use netlink_family::{CheckedAttributes, Joined, MessageView};
-use netlink_packet_core::{NetlinkBuffer, NetlinkMessage, NetlinkPayload};
+use netlink_packet_core::{DecodeError, NetlinkBuffer, NetlinkMessage, NetlinkPayload};
 use netlink_route::{RouteMessage, RouteTables};
 use netlink_tree::Frames;
-use std::alloc::Global;
+use std::alloc::{AllocError, Global};
 
 /// Decodes each message of a datagram and drops it. Returns the number of messages.
 #[unsafe(no_mangle)]
@@ -109,4 +110,41 @@ pub extern "C" fn route_pass_look(_alloc: Global, datagram: &[u8]) -> usize {
         }
     }
     sum
+}
+
+/// Decodes each message of a datagram. Writes its header, and the kind of each of its attributes.
+#[unsafe(no_mangle)]
+pub extern "C" fn route_output(alloc: Global, datagram: &[u8], out: &mut [u8]) -> usize {
+    found(alloc, datagram).map_or(0, |bytes| hand_out(bytes, out))
+}
+
+fn found(alloc: Global, datagram: &[u8]) -> Result<Vec<u8>, DecodeError> {
+    let mut found = Vec::new(alloc);
+    for item in Frames::new(datagram) {
+        let message = NetlinkMessage::<RouteMessage>::deserialize(alloc, item?)?;
+        append_found(&mut found, &message)?;
+    }
+    Ok(found)
+}
+
+fn append_found(
+    found: &mut Vec<u8>,
+    message: &NetlinkMessage<RouteMessage>,
+) -> Result<(), AllocError> {
+    let header = &message.header;
+    found.extend_from_slice(&header.length.to_ne_bytes())?;
+    found.extend_from_slice(&header.message_type.to_ne_bytes())?;
+    found.extend_from_slice(&header.flags.to_ne_bytes())?;
+    found.extend_from_slice(&header.sequence_number.to_ne_bytes())?;
+    found.extend_from_slice(&header.port_number.to_ne_bytes())?;
+    let payload = &message.payload;
+    match payload {
+        NetlinkPayload::InnerMessage(inner) => {
+            for (kind, _) in inner.view().attributes() {
+                found.extend_from_slice(&kind.to_ne_bytes())?;
+            }
+        }
+        _ => {}
+    }
+    Ok(())
 }

@@ -1,23 +1,29 @@
 //! Datagrams of several frames, and trees of attributes.
 
+use crate::output::hand_out;
+use netlink_packet_core::DecodeError;
 use netlink_tree::{Frames, append_frame, read_tree, write_tree};
 use std::alloc::Global;
 
 /// Appends each frame of a datagram to a new one. Returns its size.
 #[unsafe(no_mangle)]
 pub extern "C" fn frames_append(alloc: Global, datagram: &[u8]) -> usize {
+    appended(alloc, datagram).map_or(0, |bytes| bytes.len())
+}
+
+/// Writes a datagram to which each frame of another was appended.
+#[unsafe(no_mangle)]
+pub extern "C" fn frames_append_output(alloc: Global, datagram: &[u8], out: &mut [u8]) -> usize {
+    appended(alloc, datagram).map_or(0, |bytes| hand_out(bytes, out))
+}
+
+#[inline(always)]
+fn appended(alloc: Global, datagram: &[u8]) -> Result<Vec<u8>, DecodeError> {
     let mut copy = Vec::new(alloc);
     for item in Frames::new(datagram) {
-        match item {
-            Ok(frame) => {
-                if copy.len() % 4 != 0 || append_frame(alloc, &mut copy, frame).is_err() {
-                    return 0;
-                }
-            }
-            Err(_) => return 0,
-        }
+        append_frame(alloc, &mut copy, item?)?;
     }
-    copy.len()
+    Ok(copy)
 }
 
 /// Reads a block as trees and drops them. Returns the number of outer attributes.
@@ -31,6 +37,15 @@ pub extern "C" fn trees_read(alloc: Global, block: &[u8]) -> usize {
 pub extern "C" fn trees_rewrite(alloc: Global, block: &[u8]) -> usize {
     match read_tree(alloc, block) {
         Ok(trees) => write_tree(alloc, &trees).map_or(0, |bytes| bytes.len()),
+        Err(_) => 0,
+    }
+}
+
+/// Reads a block as trees, and writes them.
+#[unsafe(no_mangle)]
+pub extern "C" fn trees_output(alloc: Global, block: &[u8], out: &mut [u8]) -> usize {
+    match read_tree(alloc, block) {
+        Ok(trees) => write_tree(alloc, &trees).map_or(0, |bytes| hand_out(bytes, out)),
         Err(_) => 0,
     }
 }
