@@ -129,11 +129,12 @@ size_t libmnl_walk_output(const uint8_t *bytes, size_t len, uint8_t *out, size_t
     return at;
 }
 
-/* Appends each attribute of a block to a message in a buffer that grows. */
+/* Appends each attribute of a block to a message in a buffer that grows. libmnl does not write padding, so the buffer
+ * is zeros before. */
 static struct nlmsghdr *appended(const uint8_t *bytes, size_t len)
 {
     size_t room = 512;
-    void *buffer = malloc(room);
+    void *buffer = calloc(room, 1);
     if (!buffer)
         return NULL;
     struct nlmsghdr *message = mnl_nlmsg_put_header(buffer);
@@ -148,6 +149,7 @@ static struct nlmsghdr *appended(const uint8_t *bytes, size_t len)
                 free(message);
                 return NULL;
             }
+            memset((char *)larger + room / 2, 0, room / 2);
             message = larger;
         }
     }

@@ -17,7 +17,8 @@ pub extern "C" fn frames_append_output(alloc: Global, datagram: &[u8], out: &mut
     appended(alloc, datagram).map_or(0, |bytes| hand_out(bytes, out))
 }
 
-#[inline(always)]
+/// Not inlined, so that `append_frame` has one caller here, as in most programs.
+#[inline(never)]
 fn appended(alloc: Global, datagram: &[u8]) -> Result<Vec<u8>, DecodeError> {
     let mut copy = Vec::new(alloc);
     for item in Frames::new(datagram) {
