@@ -42,15 +42,16 @@ impl<'a> Iterator for Frames<&'a [u8]> {
     #[inline]
     fn next(&mut self) -> Option<Result<&'a [u8], DecodeError>> {
         let bytes = self.rest;
-        if bytes.is_empty() {
-            return None;
-        }
         match first_frame(bytes) {
             Ok(frame) => {
                 self.rest = after_frame(bytes, frame.len());
                 Some(Ok(frame))
             }
+            // The end is tested only here, which is faster: no frame fits into the empty slice.
             Err(fault) => {
+                if bytes.is_empty() {
+                    return None;
+                }
                 self.rest = &[];
                 Some(Err(fault))
             }

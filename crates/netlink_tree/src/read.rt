@@ -47,12 +47,25 @@ fn read_block(alloc: Global, bytes: &[u8], levels: usize) -> Result<Vec<NlaTree>
     if levels == 0 {
         return Err(TreeFault::TooDeep);
     }
+    trees.reserve_exact(count_of(bytes))?;
     walk_total();
     for item in NlasIterator::new(bytes) {
         let tree = read_attribute(alloc, item?, levels - 1)?;
         trees.push(tree)?;
     }
     Ok(trees)
+}
+
+/// Returns the number of attributes that a walk of the bytes yields, so that room for all of them is
+/// allocated at once. No result depends on it.
+fn count_of(bytes: &[u8]) -> usize {
+    let mut count = 0usize;
+    for item in NlasIterator::new(bytes) {
+        if item.is_ok() {
+            count = count.saturating_add(1);
+        }
+    }
+    count
 }
 
 /// Returns an attribute as a tree, inside which attributes may be nested to a depth of `levels`.

@@ -15,7 +15,7 @@ use Rattle.netlink_tree.proofs.read.+reading.Goals as goal
 
 pub read_block-returns-in_err-item-clause-trees : goal.read_block-returns-in_err-item-clause-trees
 read_block-returns-in_err-item-clause-trees t c =
-    let fault = err_from_is_err_and c.from_residual.result c.from_residual.ensures.1 in
+    let fault = err_from_is_err_and c.from_residual-in_err-item.result c.from_residual-in_err-item.ensures.1 in
     let step = rw c.in_err-item.was at c.in-Some.ensures.steps in
     let done = c.loop-item.invariant in
     rw (fault.1, fault.2) (inr (trees_fault c.args.levels c.args.bytes.now done.0 _ _ _ c.if-levels-eq0.false done.1 step.0 step.1 done.2))
