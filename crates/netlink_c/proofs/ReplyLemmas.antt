@@ -2,7 +2,7 @@
 use Rattle.std.proofs.Common.{◌≡◌, ℕ, ℤ, ◌+◌, ◌-◌, ◌<◌, ◌≤◌, Bool, true, false, List, [], ◌++◌, length, take, drop, refl, ap, sym, subst, ◌∙◌, inl, inr, arith, length-drop, length-take, Option, Some, None, Ok, Err}
 use Rattle.std.proofs.lemmas.Bool.{cases_lt, le-ltb, lt-ltb}
 use Rattle.std.proofs.lemmas.List.{drop-append-le, drop-drop, drop_min, take-append-le, take_all}
-use Rattle.std.specs.Prelude.{if◌then◌else◌, min, nat_eq, nat_lt, slice_range}
+use Rattle.std.specs.Prelude.{if◌then◌else◌, min, nat_eq, nat_lt}
 use Rattle.netlink_packet_core.specs.Attribute.{padding}
 use Rattle.netlink_packet_core.specs.FrameWalk.{StartsFrame}
 use Rattle.netlink_packet_core.specs.FrameStartLaws.{starts_frame-field, starts_frame-length, starts_frame-rest}
@@ -12,7 +12,7 @@ use Rattle.netlink_replies.specs.Answers.{after, concerns, item_of}
 use Rattle.netlink_replies.specs.Bodies.{request_size}
 use Rattle.netlink_replies.specs.FramePlaces.{MeansFrame}
 use Rattle.netlink_replies.specs.Headers.{has_flag}
-use Rattle.netlink_replies.specs.Meaning.{Item, done_item, error_item, meaning, other}
+use Rattle.netlink_replies.specs.Meaning.{Item, done_item, error_item, meaning}
 use Rattle.netlink_replies.specs.Reads.{Gives}
 use Rattle.netlink_replies.specs.declared.replies.Replies.{Replies}
 use Rattle.netlink_replies.specs.declared.reply.Reply.{Reply}

@@ -1,5 +1,5 @@
 -- A reply as numbers and parts of the datagram.
-use Rattle.std.specs.Prelude.{ℕ, ℤ, ◌≡◌, ◌+◌, ◌≤◌, List, [], length, drop, pos, Some, Ok}
+use Rattle.std.specs.Prelude.{ℕ, ℤ, ◌≡◌, ◌+◌, ◌≤◌, List, [], drop, pos, Some, Ok}
 use Rattle.netlink_replies.specs.Answers.{after, item_of}
 use Rattle.netlink_replies.specs.Reads.{Gives}
 use Rattle.netlink_replies.specs.declared.replies.Replies.{Replies}

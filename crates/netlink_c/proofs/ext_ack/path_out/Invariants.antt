@@ -1,4 +1,4 @@
-use Rattle.std.proofs.Common.{◌≡◌, ◌+◌, ◌≤◌, length}
+use Rattle.std.proofs.Common.{◌+◌, ◌≤◌, length}
 use Rattle.netlink_replies.specs.PathSteps.{block_of}
 use Rattle.netlink_c.specs.ExtAck.{FillsOut}
 use Rattle.netlink_c.proofs.ext_ack.path_out.Given as goal

@@ -1,11 +1,10 @@
-use Rattle.std.proofs.Common.{◌≡◌, ◌<◌, ◌≤◌, ℕ, List, None, Some, Err, ap, sym, subst, ◌∙◌, drop, length}
-use Rattle.std.specs.Prelude.{max}
+use Rattle.std.proofs.Common.{◌≡◌, ℕ, List, None, Some, Err, ap, sym, subst, ◌∙◌, drop}
 use Rattle.netlink_packet_core.specs.DecodeError.{DecodeError}
 use Rattle.netlink_replies.specs.Reads.{Gives}
 use Rattle.netlink_replies.specs.declared.replies.Replies.{Replies}
 use Rattle.netlink_c.specs.Fault.{Refuses}
 use Rattle.netlink_c.specs.ReplyItems.{GivesReply}
-use Rattle.netlink_c.specs.States.{state_from, state_numbers}
+use Rattle.netlink_c.specs.States.{state_from}
 use Rattle.netlink_c.proofs.StateLemmas.{state_back}
 use Rattle.netlink_c.proofs.replies.nlp_replies_next.Goals as goal
 
