@@ -1,6 +1,6 @@
 #!/usr/bin/env python3
-"""Runs the built program `netlink_links` on captured datagrams, on inputs with each error, with wrong arguments, and
-with inputs and outputs that fail.
+"""Runs the built program `netlink_links` on captured datagrams, on inputs with each error, on every prefix of a stream,
+on random bytes, on a pipe that stays open, with wrong arguments, and with inputs and outputs that fail.
 
 This script computes the expected lines for the captured datagrams itself, with Python's struct and ipaddress and the
 numbers of linux/if.h, if_link.h and if_addr.h. The expected lines for acknowledgements, errors and messages made here
@@ -9,7 +9,10 @@ are written by hand. The expected error texts are those of docs/FORMAT.md.
 
 import ipaddress
 import os
+import random
+import selectors
 import struct
+import subprocess
 
 from built import TOP, FailingDevices, built, error_of, in_parallel, row, silent, tally
 
@@ -35,6 +38,7 @@ DEVICES = {1: "ether", 772: "loopback"}
 FAMILIES = {2: "inet", 10: "inet6"}
 SCOPES = {0: "global", 253: "link", 254: "host"}
 
+BAD = "a message is malformed"
 USAGE = (2, b"", "usage: netlink_links < FILE")
 LINE = b"7: a: <> link/[0]\n"
 
@@ -108,6 +112,10 @@ def error(attributes, flags=0x300, code=-22, request=struct.pack("<IHHII", 52, 1
     return frame(2, struct.pack("<i", code) + request + attributes, flags=flags)
 
 
+def padded(data):
+    return data + bytes(-len(data) % 4)
+
+
 NAMED = attribute(3, b"a\0")
 TEXT = attribute(1, b"a b\0")
 DUMP_INTR = 0x12  # NLM_F_DUMP_INTR and NLM_F_MULTI
@@ -128,24 +136,33 @@ def invalid(kind, at, why, policy=0):
     return rejected(kind, f"at byte {at}, in policy {policy}: {why}")
 
 
+CODE = "invalid {0} length caused by invalid {0}: length is {1} but {0} are at least 4 bytes"
 INTERIOR_NUL = "attribute {} is a string with a NUL before its last byte"
 
-# Bytes whose message has no line, and the error text for each.
-ERRORS = [
+LONGEST = 1 << 20
+
+# The types of control messages and of netlink_route (linux/netlink.h and rtnetlink.h).
+KNOWN = {*range(1, 5), *range(16, 23), *range(24, 27), *range(28, 31), *range(32, 35), 64, 66, 67, *range(88, 91)}
+
+# Bytes that no message starts with that can be read, and the error text for each.
+STOPS = [
     (b"\0", f"{FRAME}length is 1 but {MINIMUM}"),
     (link(NAMED)[:39], f"{FRAME}length field says 40 the buffer is 39 bytes long"),
     (frame(16, bytes(16), 15), f"{FRAME}length field says 15 but {MINIMUM}"),
-    (frame(36, bytes(12)), rejected(36, "message type 36 is not known")),
-    (frame(28, bytes(12), flags=DUMP_INTR), "no line for message type 28"),
-    *[
-        (frame(kind, bytes(size)), f"no line for message type {kind}")
-        for kind, size in ((28, 12), (24, 12), (34, 12), (66, 4), (90, 4))
-    ],
-    (frame(26, b"\2\0\0\0"), "no line for message type 26"),
+    (frame(16, bytes(16), 0), f"{FRAME}length field says 0 but {MINIMUM}"),
+    (frame(16, b"", LONGEST), f"{FRAME}length field says {LONGEST} the buffer is 16 bytes long"),
+    (frame(16, b"", LONGEST + 1), f"a message of {LONGEST + 1} bytes is longer than {LONGEST}"),
+    (frame(16, bytes(64), 0xFFFFFFFF), f"a message of {0xFFFFFFFF} bytes is longer than {LONGEST}"),
+]
+
+# Malformed messages in frames of sound length, and the error text for each.
+MALFORMED = [
     (frame(18, bytes(5)), short(18, 5, 16)),
     (frame(28, bytes(11)), short(28, 11, 12)),
     (frame(16, bytes(15)), short(16, 15, 16)),
     (frame(20, bytes(7)), short(20, 7, 8)),
+    (frame(2, bytes(3)), f"failed parsing NLMSG_ERROR caused by {CODE.format('ErrorBuffer', 3)}"),
+    (frame(3, bytes(1)), f"failed to parse NLMSG_DONE caused by {CODE.format('DoneBuffer', 1)}"),
     (link(b"\5\0\3"), invalid(16, 16, "3 bytes are too few for an attribute")),
     (link(b"\5\0\3\0"), invalid(16, 16, "an attribute of 5 bytes is truncated to 4")),
     (link(b"\3\0\3\0"), invalid(16, 16, "an attribute has length 3, less than 4")),
@@ -175,6 +192,15 @@ LINES = [
     (link(attribute(18, attribute(1, b"veth"))), b"7: if7: <> link/[0] kind veth\n"),
     (link(attribute(0x8012, attribute(1, b"veth\0"))), b"7: if7: <> link/[0] kind veth\n"),
 ]
+
+# Messages of unknown types, and of families that have no lines yet.
+LINES += [(frame(kind, b"abc"), f"type {kind}, 19 bytes\n".encode()) for kind in (0, 5, 15, 36, 40, 65535)]
+LINES += [
+    (frame(kind, bytes(size)), f"type {kind}, {16 + size} bytes\n".encode())
+    for kind, size in ((28, 12), (24, 12), (26, 4), (34, 12), (66, 4), (90, 4))
+]
+LINES += [(frame(28, bytes(12), flags=DUMP_INTR), b"interrupted\ntype 28, 28 bytes\n")]
+LINES += [(frame(40, bytes(LONGEST - 16)), b"type 40, 1048576 bytes\n")]
 
 # A request of 18 bytes and its padding.
 REQUEST = struct.pack("<IHHII", 18, 16, 5, 1, 0) + b"\7\7\0\0"
@@ -211,24 +237,74 @@ def rows():
     whole, all_lines = (b"".join(it[name] for name in captured) for it in (captured, lines))
     yield row("all of them", [], (0, all_lines, ""), whole)
     yield row("nothing", [], (0, b"", ""))
-    for data, error in ERRORS:
+    for data, error in STOPS:
         yield row(data.hex(), [], (1, b"", f"byte 0: {error}"), data)
         longer = link(NAMED) + data
         yield row(longer.hex(), [], (1, LINE, f"byte 40: {error}"), longer)
+    for data, error in MALFORMED:
+        yield row(data.hex(), [], (1, f"byte 0: {error}\n".encode(), BAD), data)
+        lines = LINE + f"byte 40: {error}\n".encode() + LINE
+        longer = link(NAMED) + padded(data) + link(NAMED)
+        yield row(longer.hex(), [], (1, lines, BAD), longer)
+        yield row((longer + b"\0").hex(), [], (1, lines, f"byte {len(longer)}: {STOPS[0][1]}"), longer + b"\0")
     for data, line in LINES:
-        yield row(data.hex(), [], (0, line, ""), data)
-        yield row((link(NAMED) + data).hex(), [], (0, LINE + line, ""), link(NAMED) + data)
+        yield row(data[:99].hex(), [], (0, line, ""), data)
+        yield row(data[:99].hex(), [], (0, LINE + line + LINE, ""), link(NAMED) + padded(data) + link(NAMED))
     for words in (["links"], [""], ["-h"], ["a", "b"], [b"\xff"]):
         yield row(f"arguments {words}", words, USAGE, link(NAMED))
+
+
+def shown(data):
+    """Returns what the program does with a stream of messages of unknown types: its status, output and error. Returns
+    None if a type is known."""
+    at, lines = 0, []
+    while at < len(data):
+        left, error = len(data) - at, None
+        said = number(data[at : at + 4])
+        if left < 16:
+            error = f"{FRAME}length is {left} but {MINIMUM}"
+        elif said < 16:
+            error = f"{FRAME}length field says {said} but {MINIMUM}"
+        elif said > LONGEST:
+            error = f"a message of {said} bytes is longer than {LONGEST}"
+        elif said > left:
+            error = f"{FRAME}length field says {said} the buffer is {left} bytes long"
+        if error:
+            return 1, "".join(lines).encode(), f"byte {at}: {error}"
+        kind = number(data[at + 4 : at + 6])
+        if kind in KNOWN:
+            return None
+        mark = "interrupted\n" if number(data[at + 6 : at + 8]) & 0x10 else ""
+        lines.append(f"{mark}type {kind}, {said} bytes\n")
+        at += (said + 3) & ~3
+    return 0, "".join(lines).encode(), ""
+
+
+def stream_rows():
+    """Yields every prefix of a stream, streams with a damaged length, and random bytes."""
+    made = random.Random(1)
+    whole = b"".join(padded(frame(kind, made.randbytes(kind % 7))) for kind in range(40, 60))
+    for cut in range(len(whole) + 1):
+        yield row(f"the first {cut} bytes", [], shown(whole[:cut]), whole[:cut])
+    damaged = []
+    while len(damaged) < 200:
+        at = 4 * made.randrange(len(whole) // 4)
+        damaged.append(whole[:at] + made.randbytes(made.choice((1, 2, 4))) + whole[at + 4 :])
+    while len(damaged) < 300:
+        damaged.append(bytes(made.choice((0, 0, 40, made.randrange(256))) for _ in range(made.randrange(80))))
+    for place, data in enumerate(damaged):
+        if wanted := shown(data):
+            yield row(f"damaged stream {place}", [], wanted, data)
 
 
 def failing_rows(devices):
     """Yields runs whose input cannot be read, whose output cannot be written, or whose standard error is closed.
 
-    The program writes all its output before it prints an error of the input, so it reports `write failed` instead. It
-    does not write an empty output, so no device can fail then. It checks its arguments before it reads or writes.
+    The program writes the lines of a message before it reads on, so it reports `write failed` instead of a later error of
+    the input. It writes nothing for no message, so no device can fail then. It checks its arguments before it reads or
+    writes.
     """
-    data, (rejected, error) = link(NAMED), ERRORS[0]
+    data, (rejected, error) = link(NAMED), STOPS[0]
     yield from devices.unread("netlink_links", [])
     yield from devices.unwritten("a link", [], data)
     yield from devices.unwritten("a link and an error", [], data + rejected)
@@ -242,11 +318,64 @@ def failing_rows(devices):
     yield row("a directory, no standard error", [], (1, b"", ""), devices.folder, closed="2>&-")
 
 
+def live_error(program):
+    """Writes messages to a pipe that stays open. The lines of each must be there as soon as its last byte was written,
+    and not before. Returns what differs, or None."""
+    messages = [(link(NAMED), LINE), (frame(40, b"abc"), b"type 40, 19 bytes\n"), LINES[0]]
+    messages += [(MALFORMED[0][0], f"byte 80: {MALFORMED[0][1]}\n".encode()), (error(TEXT), b"error -22: a b\n")]
+    at = 0
+    with subprocess.Popen([program], stdin=subprocess.PIPE, stdout=subprocess.PIPE, stderr=subprocess.PIPE) as run:
+        os.set_blocking(run.stdout.fileno(), False)
+        with selectors.DefaultSelector() as ready:
+            ready.register(run.stdout, selectors.EVENT_READ)
+            for data, line in messages:
+                # the padding comes late, with the next message
+                os.write(run.stdin.fileno(), bytes(-at % 4) + data[:-1])
+                if ready.select(0.05):
+                    return f"a line before the last byte of {data.hex()}"
+                os.write(run.stdin.fileno(), data[-1:])
+                if not ready.select(10):
+                    return f"no line after the last byte of {data.hex()}"
+                wrote = os.read(run.stdout.fileno(), 4096)
+                if wrote != line:
+                    return f"{data.hex()} on a pipe: wrote {wrote}, not {line}"
+                at += -at % 4 + len(data)
+        rest = run.communicate(timeout=10)
+    ended = run.returncode, *rest
+    return None if ended == (1, b"", f"{BAD}\n".encode()) else f"an open pipe: ended with {ended}"
+
+
+def closed_error(program):
+    """Closes the output after the first line. Returns what differs, or None."""
+    with subprocess.Popen([program], stdin=subprocess.PIPE, stdout=subprocess.PIPE, stderr=subprocess.PIPE) as run:
+        os.write(run.stdin.fileno(), link(NAMED))
+        wrote = run.stdout.readline()
+        run.stdout.close()
+        os.write(run.stdin.fileno(), link(NAMED))
+        said = run.stderr.read()
+    ended = run.returncode, wrote, said
+    return None if ended == (1, LINE, b"write failed\n") else f"an output that is closed: ended with {ended}"
+
+
+def memory_error(program):
+    """Passes 64 MiB of messages. The program may take 8 MB of memory. Returns what differs, or None."""
+    many = 1024 * link(NAMED, attribute(200, bytes(1000)))
+    with subprocess.Popen([program], stdin=subprocess.PIPE, stdout=subprocess.DEVNULL) as run:
+        for _ in range(64):
+            run.stdin.write(many)
+        run.stdin.flush()
+        with open(f"/proc/{run.pid}/status") as file:
+            peak = next(int(line.split()[1]) for line in file if line.startswith("VmHWM:"))
+    return None if run.returncode == 0 and peak <= 8_000 else f"64 MiB: status {run.returncode}, {peak} kB of memory"
+
+
 def main():
     program = built("netlink_links", "netlink_links")
-    all_rows = [*rows(), *failing_rows(FailingDevices())]
+    all_rows = [*rows(), *stream_rows(), *failing_rows(FailingDevices())]
     errors = [it for it in in_parallel(lambda it: error_of(program, it), all_rows) if it]
-    tally("links", errors, len(all_rows) - len(errors))
+    checks = [live_error, closed_error, memory_error]
+    errors += [it for it in (check(program) for check in checks) if it]
+    tally("links", errors, len(all_rows) + len(checks) - len(errors))
 
 
 main()

@@ -61,8 +61,8 @@ DATAGRAMS = {
     "links, the last one truncated": ("links-0.bin", -1),
     "addresses": ("addresses-0.bin", None),
     "an error with its request": ("link-mtu-refused-0.bin", None),
-    "neighbours, which have no line": ("neighbours-0.bin", None),
-    "routes, which have no line": ("routes-0.bin", None),
+    "neighbours, which have no line of their own": ("neighbours-0.bin", None),
+    "routes, which have no line of their own": ("routes-0.bin", None),
     "a message of no known type": ("type-unknown-request.bin", None),
     "no bytes": ("links-0.bin", 0),
 }
@@ -164,16 +164,22 @@ def of_frame(library):
 
 
 def of_links(library):
-    """Returns the sweeps of netlink_links: each of its datagrams and an empty input, for which it allocates only to
-    read its arguments."""
+    """Returns the sweeps of netlink_links: each of its datagrams and an empty input, for which it allocates to read its
+    arguments, then its buffer, and then the room for a header.
+
+    The program writes the line of a message before it reads on, so the lines before a failed allocation are there."""
     program = built("netlink_links", "netlink_links")
-    _, reading, _ = run_failing(library, [program], b"", 0)
+    _, allocations, _ = run_failing(library, [program], b"", 0)
+    early = [LINKS_USAGE] * (allocations - 2) + [OUT_OF_MEMORY] * 2
 
     def sweep_of(name):
         file, end = DATAGRAMS[name]
         data = captured(file)[:end]
         sweep = Sweep(library, f"netlink_links of {name}", [program], data)
-        return sweep.each_in_turn(run([program], data), [LINKS_USAGE] * reading, [OUT_OF_MEMORY])
+        usual = run([program], data)
+        lines = usual[1].splitlines(keepends=True)
+        later = [(1, b"".join(lines[:number]), OUT_OF_MEMORY[2]) for number in range(len(lines) + 1)]
+        return sweep.each_in_turn(usual, early, later)
 
     return in_parallel(sweep_of, DATAGRAMS)
 

@@ -1,3 +1,5 @@
 pub mod Frames
 pub mod Once
-pub mod Passing
+pub mod Running
+pub mod Shown
+pub mod Steps

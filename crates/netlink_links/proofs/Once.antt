@@ -1,111 +1,114 @@
--- An input has one output and ends in one way.
-use Rattle.std.proofs.Common.{◌≡◌, ◌≢◌, ◌++◌, List, [], ◌∷◌, ℕ, ℤ, ap, refl, sym, ◌∙◌, subst, arith, Option, Some, None, length, length-drop}
+-- An input shows one list of messages and ends in one way.
+use Rattle.std.proofs.Common.{◌≡◌, ◌∙◌, ◌-◌, ap, arith, refl, sym, subst, ℕ, List, [], length, Option, ap}
 use Rattle.std.specs.Option.{option_map}
-use Rattle.std.specs.Prelude.{Bool}
+use Rattle.std.specs.Prelude.{true, false}
 use Rattle.netlink_packet_core.specs.Attribute.{Attribute}
-use Rattle.netlink_packet_core.specs.Frame.{SamePayload}
-use Rattle.netlink_packet_core.specs.FrameStartLaws.{no_frame_starts}
+use Rattle.netlink_packet_core.specs.DecodeError.{DecodeError}
+use Rattle.netlink_packet_core.specs.DecodeError.TheVariants.{FrameShort, FrameCut, FrameLength}
+use Rattle.netlink_packet_core.specs.FrameStartLaws.{no_frame_starts, starts_frame-fault, starts_frame-field}
 use Rattle.netlink_packet_core.specs.FrameWalkLaws.{starts_frame_once}
-use Rattle.netlink_packet_core.specs.Protocol.{Encoding, Decoding}
-use Rattle.netlink_packet_core.specs.Uniqueness.{Uniqueness}
+use Rattle.netlink_packet_core.specs.Header.{header_of}
+use Rattle.netlink_packet_core.specs.Refusal.{IsFrameFault}
 use Rattle.netlink_packet_core.specs.WalkLaws.{walk_once}
-use Rattle.netlink_packet_core.specs.Walks.{WalksAs}
-use Rattle.netlink_packet_core.specs.declared.header.NetlinkHeader.{NetlinkHeader}
-use Rattle.netlink_packet_core.specs.declared.message.NetlinkMessage.{NetlinkMessage}
-use Rattle.netlink_packet_core.specs.declared.payload.NetlinkPayload.{NetlinkPayload}
-use Rattle.netlink_packet_core.specs.declared.payload.NetlinkPayload.TheVariants.{Done, Error, Noop, Overrun, InnerMessage}
+use Rattle.netlink_packet_core.specs.Walks.{StepLaws, walks_once}
 use Rattle.netlink_replies.specs.AckValues.{first_value, without_nul}
-use Rattle.netlink_links.specs.Address.{or_empty}
-use Rattle.netlink_links.specs.Ack.{HasText, marked_if}
-use Rattle.netlink_links.specs.Lines.{done_line, error_line, joined, message_line, payload_line, route_line}
-use Rattle.netlink_links.specs.Messages.{IsCause, IsLine, IsStop, Makes, SameCause, SameStop, StartsLine}
-use Rattle.netlink_links.specs.declared.messages.Cause.{Cause}
-use Rattle.netlink_links.specs.declared.messages.Cause.TheVariants.{NoLine, Rejected}
-use Rattle.netlink_links.specs.declared.messages.Stop.{Stop}
+use Rattle.netlink_replies.specs.Meaning.{meaning}
+use Rattle.netlink_links.specs.Ack.{IsText, marked_if}
+use Rattle.netlink_links.specs.Messages.{Check, HasLines, Lines, item_lines}
+use Rattle.netlink_links.specs.Stream.{IsCause, IsStop, Shows, StartsLines}
+use Rattle.netlink_links.specs.declared.stream.Cause.{Cause}
+use Rattle.netlink_links.specs.declared.stream.Cause.TheVariants.{Damaged, TooLong}
+use Rattle.netlink_links.specs.declared.stream.Stop.{Stop}
 
--- ---- equal messages have one line
+-- ---- a frame has one list of lines
 
-payload_once : {I : Type 0} (d : Decoding I) (text : Option (List ℕ)) (x y : NetlinkPayload I) → SamePayload d x y
-    → payload_line d text x ≡ payload_line d text y
-payload_once d text Noop Noop same = refl
-payload_once d text (Done m) (Done n) same = ap (λ (z : ℤ). Some (done_line z text)) same.0
-payload_once d text (Error m) (Error n) same = ap (λ (z : ℤ). Some (error_line z text)) same.0
-payload_once d text (Overrun a) (Overrun b) same = refl
-payload_once d text (InnerMessage v) (InnerMessage w) same = ap route_line same
-payload_once d text x y same = absurd same
-
-message_once : {I : Type 0} (d : Decoding I) (text : Option (List ℕ)) (m n : NetlinkMessage I) → m.header ≡ n.header
-    → SamePayload d m.payload n.payload → message_line d text m ≡ message_line d text n
-message_once d text m n header same =
-    ap (λ (h : NetlinkHeader). marked_if h.flags (payload_line d text m.payload)) header
-    ∙ ap (marked_if n.header.flags) (payload_once d text m.payload n.payload same)
-
--- bytes have one text
-text_once : (bytes : List ℕ) (s t : Option (List ℕ)) → HasText bytes s → HasText bytes t → s ≡ t
-text_once bytes s t (all, fault, walk, is) (more, other, also, that) =
+text_once : (attributes : List ℕ) (s t : Option (List ℕ)) → IsText attributes s → IsText attributes t → s ≡ t
+text_once attributes s t (all, fault, walk, is) (more, other, also, that) =
     is ∙ ap (λ (a : List Attribute). option_map without_nul (first_value 1 a)) (walk_once _ all more fault other walk also).0 ∙ sym that
 
-line_once : {I E : Type 0} (e : Encoding I) (d : Decoding I) (w : E → Bool) → Uniqueness e d w → (bytes : List ℕ) (m n : NetlinkMessage I)
-    (line other : Option (List ℕ)) → IsLine d bytes m line → IsLine d bytes n other → line ≡ other
-line_once e d w unique bytes m n line other (s, first, has, says) (t, second, also, tells) =
-    let same = unique.same bytes m n first second in
-    sym says ∙ ap (λ (text : Option (List ℕ)). message_line d text m) (text_once bytes s t has also)
-    ∙ message_once d t m n same.0 same.1 ∙ tells
+lines_once : (check : Check) (at : ℕ) (frame : List ℕ) (lines more : Lines) → HasLines check at frame lines
+    → HasLines check at frame more → lines ≡ more
+lines_once check at frame lines more (text, has, is) (other, also, that) =
+    is ∙ ap (λ (t : Option (List ℕ)). marked_if (header_of frame).flags (item_lines check at frame t (meaning frame)))
+    (text_once _ text other has also) ∙ sym that
 
--- bytes that start with a message with a line have no cause to stop
-no_cause : {I E : Type 0} (e : Encoding I) (d : Decoding I) (w : E → Bool) → Uniqueness e d w → (bytes line : List ℕ) (m : NetlinkMessage I)
-    (why : Cause) → IsLine d bytes m (Some line) → IsCause d w bytes why → ⊥
-no_cause e d w unique bytes line m (Rejected error) is cause = cause.1 (unique.frame bytes m error is.1 cause.0)
-no_cause e d w unique bytes line m (NoLine t) is (n, none, type_is) =
-    absurd (let same : Some line ≡ None = line_once e d w unique bytes m n (Some line) None is none in cc)
+step_once : (check : Check) (input bytes : List ℕ) (lines more : Lines) (rest other : List ℕ)
+    → StartsLines check input bytes lines rest → StartsLines check input bytes more other
+    → (lines ≡ more) × (rest ≡ other)
+step_once check input bytes lines more rest other first second =
+    let same = starts_frame_once bytes first.frame second.frame rest other first.starts second.starts in (
+      lines_once check (length input - length bytes) second.frame lines more
+          (subst (λ (f : List ℕ). HasLines check (length input - length bytes) f lines) same.0 first.shown) second.shown,
+      same.1,
+    )
 
-cause_once : {I E : Type 0} (e : Encoding I) (d : Decoding I) (w : E → Bool) → Uniqueness e d w → (bytes : List ℕ) (first second : Cause)
-    → IsCause d w bytes first → IsCause d w bytes second → SameCause first second
-cause_once e d w unique bytes (Rejected r) (Rejected s) first second = unique.refusal bytes r s first.0 second.0 first.1 second.1
-cause_once e d w unique bytes (Rejected r) (NoLine u) first (n, none, type_is) = first.1 (unique.frame bytes n r none.1 first.0)
-cause_once e d w unique bytes (NoLine t) (Rejected s) (m, none, type_is) second = second.1 (unique.frame bytes m s none.1 second.0)
-cause_once e d w unique bytes (NoLine t) (NoLine u) (m, none, type_is) (n, nothing, other) =
-    type_is ∙ ap (λ (h : NetlinkHeader). h.message_type) (unique.same bytes m n none.1 nothing.1).0 ∙ sym other
+-- ---- bytes have one cause to stop, or none
 
--- ---- an input has one sequence of lines
+without : (bytes : List ℕ) (e : DecodeError) → IsFrameFault true bytes e → (f : DecodeError) × IsFrameFault false bytes f
+without bytes (FrameShort size within) is = (FrameShort size false, (is.0, is.1, refl))
+without bytes (FrameCut said size within) is = (FrameCut said size false, (is.0, is.1, is.2, is.3, refl))
+without bytes (FrameLength said within) is = (FrameLength said false, (is.0, is.1, is.2, refl))
+without bytes _ is = absurd is
 
-stop_once : {I E : Type 0} (e : Encoding I) (d : Decoding I) (w : E → Bool) → Uniqueness e d w → (input bytes : List ℕ) (r s : Stop)
-    → bytes ≢ [] → IsStop d w input bytes r → IsStop d w input bytes s → SameStop (Some r) (Some s)
-stop_once e d w unique input [] r s some first second = absurd (some refl)
-stop_once e d w unique input (b ∷ bytes) r s some first second = (
-  omega (arith, ap length first.place ∙ length-drop r.at input, ap length second.place ∙ length-drop s.at input),
-  cause_once e d w unique (b ∷ bytes) r.cause s.cause first.cause second.cause,
-)
+no_cause_of : (check : Check) (input bytes : List ℕ) (lines : Lines) (rest : List ℕ) (cause : Cause)
+    → StartsLines check input bytes lines rest → IsCause bytes cause → ⊥
+no_cause_of check input bytes lines rest (Damaged error) starts (is, most) =
+    let fault = without bytes error is in
+    starts_frame-fault bytes starts.frame rest fault.0 starts.starts fault.1
+no_cause_of check input bytes lines rest (TooLong said) starts (long, is, high) =
+    omega (arith, is, high, starts.most, starts_frame-field bytes starts.frame rest starts.starts)
 
-abbrev LineWalk : {I E : Type 0} → Decoding I → (E → Bool) → List ℕ → List ℕ → List (List ℕ) → Option Stop → Type 0
-LineWalk d w input = WalksAs (StartsLine d) (IsStop d w input)
+no_cause : (check : Check) (input bytes : List ℕ) (lines : Lines) (rest : List ℕ) (stop : Stop)
+    → StartsLines check input bytes lines rest → IsStop input bytes stop → ⊥
+no_cause check input bytes lines rest stop starts is =
+    no_cause_of check input bytes lines rest stop.cause starts is.cause
 
-lines_once : {I E : Type 0} (e : Encoding I) (d : Decoding I) (w : E → Bool) → Uniqueness e d w → (input bytes : List ℕ)
-    (all more : List (List ℕ)) (r s : Option Stop) → LineWalk d w input bytes all r → LineWalk d w input bytes more s
-    → (joined all ≡ joined more) × SameStop r s
-lines_once e d w unique input bytes [] [] None None p q = (refl, tt)
-lines_once e d w unique input bytes [] [] None (Some s) p q = absurd (q.0 p)
-lines_once e d w unique input bytes [] [] (Some r) None p q = absurd (p.0 q)
-lines_once e d w unique input bytes [] [] (Some r) (Some s) p q = (refl, stop_once e d w unique input bytes r s p.0 p.1 q.1)
-lines_once e d w unique input bytes [] (k ∷ more) None s p (rest, (frame, starts, (n, is)), q) =
-    absurd (no_frame_starts bytes frame rest p starts)
-lines_once e d w unique input bytes [] (k ∷ more) (Some r) s p (rest, (frame, starts, (n, is)), q) =
-    absurd (no_cause e d w unique bytes k n r.cause is p.1.cause)
-lines_once e d w unique input bytes (l ∷ all) [] r None (rest, (frame, starts, (m, is)), p) q =
-    absurd (no_frame_starts bytes frame rest q starts)
-lines_once e d w unique input bytes (l ∷ all) [] r (Some s) (rest, (frame, starts, (m, is)), p) q =
-    absurd (no_cause e d w unique bytes l m s.cause is q.1.cause)
-lines_once e d w unique input bytes (l ∷ all) (k ∷ more) r s (rest, (frame, starts, (m, is)), p)
-    (other, (piece, begins, (n, also)), q) =
-    let one = starts_frame_once bytes frame piece rest other starts begins in
-    let line : l ≡ k = ap or_empty (line_once e d w unique bytes m n (Some l) (Some k) is also) in
-    let later = lines_once e d w unique input rest all more r s p (subst (λ (b : List ℕ). LineWalk d w input b more s) (sym one.1) q) in
-    (ap (λ (x : List ℕ). x ++ joined all) line ∙ ap (λ (x : List ℕ). k ++ x) later.0, later.1)
+fault_once : (bytes : List ℕ) (e f : DecodeError) → IsFrameFault true bytes e → IsFrameFault true bytes f → e ≡ f
+fault_once bytes (FrameShort m i) (FrameShort n j) p q = cc
+fault_once bytes (FrameShort m i) (FrameCut n k j) p q = absurd (omega arith)
+fault_once bytes (FrameShort m i) (FrameLength n j) p q = absurd (omega arith)
+fault_once bytes (FrameCut m l i) (FrameShort n j) p q = absurd (omega arith)
+fault_once bytes (FrameCut m l i) (FrameCut n k j) p q = cc
+fault_once bytes (FrameCut m l i) (FrameLength n j) p q = absurd (omega arith)
+fault_once bytes (FrameLength m i) (FrameShort n j) p q = absurd (omega arith)
+fault_once bytes (FrameLength m i) (FrameCut n k j) p q = absurd (omega arith)
+fault_once bytes (FrameLength m i) (FrameLength n j) p q = cc
+fault_once bytes (FrameShort m i) _ p q = absurd q
+fault_once bytes (FrameCut m l i) _ p q = absurd q
+fault_once bytes (FrameLength m i) _ p q = absurd q
+fault_once bytes _ g p q = absurd p
 
--- one output and one stop
-pub once : {I E : Type 0} (e : Encoding I) (d : Decoding I) (w : E → Bool) → Uniqueness e d w → (input first second : List ℕ)
-    (r s : Option Stop) → Makes d w input first r → Makes d w input second s → (first ≡ second) × SameStop r s
-unfolding Makes
-once e d w unique input first second r s (all, walk, is) (more, other, also) =
-    let same = lines_once e d w unique input input all more r s walk other in
-    (is ∙ same.0 ∙ sym also, same.1)
+-- no damaged frame has a length field that is too large
+not_both : (bytes : List ℕ) (e : DecodeError) (said : ℕ) → IsCause bytes (Damaged e) → IsCause bytes (TooLong said) → ⊥
+not_both bytes e said (is, most) (long, that, high) = omega (arith, most long, that, high)
+
+cause_once : (bytes : List ℕ) (r s : Cause) → IsCause bytes r → IsCause bytes s → r ≡ s
+cause_once bytes (Damaged e) (Damaged f) p q = ap Damaged (fault_once bytes e f p.0 q.0)
+cause_once bytes (Damaged e) (TooLong n) p q = absurd (not_both bytes e n p q)
+cause_once bytes (TooLong n) (Damaged f) p q = absurd (not_both bytes f n q p)
+cause_once bytes (TooLong m) (TooLong n) p q = ap TooLong (p.1 ∙ sym q.1)
+
+stop_once : (input bytes : List ℕ) (r s : Stop) → IsStop input bytes r → IsStop input bytes s → r ≡ s
+stop_once input bytes r s first second =
+    let at : r.at ≡ s.at = omega (arith, first.place, second.place) in
+    let cause : r.cause ≡ s.cause = cause_once bytes r.cause s.cause first.cause second.cause in
+    let moved : r ≡ record { at = s.at; cause = r.cause } = ap (λ (n : ℕ). record { at = n; cause = r.cause }) at in
+    moved ∙ ap (λ (c : Cause). record { at = s.at; cause = c }) cause
+
+-- ---- an input shows one list
+
+nothing_starts : (check : Check) (input bytes : List ℕ) (lines : Lines) (rest : List ℕ) → bytes ≡ []
+    → StartsLines check input bytes lines rest → ⊥
+nothing_starts check input bytes lines rest none starts = no_frame_starts bytes starts.frame rest none starts.starts
+
+pub step_laws : (check : Check) (input : List ℕ) → StepLaws (StartsLines check input) (IsStop input)
+step_laws check input = record {
+  once = step_once check input;
+  nothing = nothing_starts check input;
+  fault = λ bytes lines rest stop. no_cause check input bytes lines rest stop;
+  fault_once = stop_once input;
+}
+
+pub once : (check : Check) (input : List ℕ) (all more : List Lines) (s t : Option Stop) → Shows check input all s
+    → Shows check input more t → (all ≡ more) × (s ≡ t)
+once check input = walks_once (step_laws check input) input

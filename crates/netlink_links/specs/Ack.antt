@@ -3,12 +3,11 @@ use Rattle.std.specs.Prelude.{ℕ, ◌≡◌, Bool, List, [], ◌++◌, Option, 
 use Rattle.std.specs.Option.{option_map}
 use Rattle.netlink_packet_core.specs.Attribute.{Attribute}
 use Rattle.netlink_packet_core.specs.DecodeError.{DecodeError}
-use Rattle.netlink_packet_core.specs.FrameWalk.{frame_of}
 use Rattle.netlink_packet_core.specs.Walk.{Walk}
 use Rattle.netlink_packet_core.specs.declared.constants.TheConstants.{NLM_F_DUMP_INTR}
 use Rattle.netlink_replies.specs.AckValues.{first_value, without_nul}
 use Rattle.netlink_replies.specs.Headers.{has_flag}
-use Rattle.netlink_replies.specs.Meaning.{Item, meaning}
+use Rattle.netlink_replies.specs.Meaning.{Item}
 use Rattle.netlink_replies.specs.declared.reply.Reply.TheVariants.{Done, Acknowledged, Rejected}
 use Rattle.netlink_links.specs.Text.{sentence_text}
 
@@ -26,10 +25,6 @@ IsText attributes text =
     (all : List Attribute) × (fault : Option DecodeError) × Walk attributes all fault
     × (text ≡ option_map without_nul (first_value 1 all))
 
--- the frame that the bytes start with has this text
-abbrev pub HasText : List ℕ → Option (List ℕ) → Type 0
-HasText bytes text = IsText (ack_attributes (meaning (frame_of bytes))) text
-
 -- a text after a colon, if there is one
 abbrev pub text_words : Option (List ℕ) → List ℕ
 text_words None = []
@@ -39,10 +34,8 @@ text_words (Some text) = codes ": " ++ sentence_text text
 abbrev pub is_interrupted : ℕ → Bool
 is_interrupted flags = has_flag flags NLM_F_DUMP_INTR
 
--- the mark in front of a line
-abbrev pub marked : List ℕ → List ℕ
-marked line = codes "interrupted\n" ++ line
-
--- the line of a message with these flags, if it has one
-abbrev pub marked_if : ℕ → Option (List ℕ) → Option (List ℕ)
-marked_if flags line = if is_interrupted flags then option_map marked line else line
+-- the lines of a message with these flags, and whether it is malformed: a line precedes them if the
+-- message is of an interrupted dump
+abbrev pub marked_if : ℕ → List ℕ × Bool → List ℕ × Bool
+marked_if flags (text, malformed) =
+    (if is_interrupted flags then codes "interrupted\n" ++ text else text, malformed)

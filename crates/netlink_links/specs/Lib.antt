@@ -6,5 +6,7 @@ pub mod Lines
 pub mod Link
 pub mod Messages
 pub mod Names
+pub mod Reading
 pub mod Run
+pub mod Stream
 pub mod Text

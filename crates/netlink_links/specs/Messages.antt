@@ -1,69 +1,68 @@
--- The messages of an input, and its lines.
-use Rattle.std.specs.Prelude.{◌≡◌, ◌≢◌, ℕ, Bool, List, ◌++◌, Option, Some, None, codes, decimal, drop}
+-- What a message is shown as.
+use Rattle.std.specs.Prelude.{ℕ, ◌≡◌, Bool, true, false, List, ◌++◌, length, Option, Some, None, Ok, Err, codes, decimal, pos}
+use Rattle.netlink_family.specs.ErrorTexts.{error_text}
+use Rattle.netlink_family.specs.declared.error.FamilyError.{FamilyError}
+use Rattle.netlink_family.specs.declared.error.FamilyError.TheVariants.{UnknownType}
 use Rattle.netlink_packet_core.specs.Causes.{cause_text}
-use Rattle.netlink_packet_core.specs.DecodeError.TheVariants.{OutOfMemory}
-use Rattle.netlink_packet_core.specs.Frame.{Frame}
-use Rattle.netlink_packet_core.specs.FrameWalk.{StartsFrame}
-use Rattle.netlink_packet_core.specs.Protocol.{Decoding}
-use Rattle.netlink_packet_core.specs.Refusal.{IsRefusal, SameRefusal}
-use Rattle.netlink_packet_core.specs.Walks.{WalksAs}
-use Rattle.netlink_packet_core.specs.declared.message.NetlinkMessage.{NetlinkMessage}
-use Rattle.netlink_links.specs.Ack.{HasText}
-use Rattle.netlink_links.specs.Lines.{joined, message_line}
-use Rattle.netlink_links.specs.declared.messages.Cause.{Cause}
-use Rattle.netlink_links.specs.declared.messages.Cause.TheVariants.{NoLine, Rejected}
-use Rattle.netlink_links.specs.declared.messages.Stop.{Stop}
+use Rattle.netlink_packet_core.specs.Header.{header_of, payload_of}
+use Rattle.netlink_packet_core.specs.Refusal.{refusal_text}
+use Rattle.netlink_replies.specs.Meaning.{Item, meaning}
+use Rattle.netlink_replies.specs.declared.reply.Reply.TheVariants.{Message, Done, Acknowledged, Rejected, Overrun, Other}
+use Rattle.netlink_links.specs.Ack.{IsText, ack_attributes, marked_if}
+use Rattle.netlink_links.specs.Lines.{done_line, error_line, route_line}
 
--- the bytes start with this message, and this is its line, if it has one
-abbrev pub IsLine : {I : Type 0} → Decoding I → List ℕ → NetlinkMessage I → Option (List ℕ)
-    → Type 0
-IsLine d bytes m line =
-    (text : Option (List ℕ)) × Frame d bytes m × HasText bytes text
-    × (message_line d text m ≡ line)
+-- the error of a payload, if it has one, by its message type
+abbrev pub Check : Type 0
+Check = ℕ → List ℕ → Option FamilyError
 
--- the bytes start with a message that has this line
-abbrev pub HasLine : {I : Type 0} → Decoding I → List ℕ → List ℕ → Type 0
-HasLine {I} d bytes line = (m : NetlinkMessage I) × IsLine d bytes m (Some line)
+-- the lines of a message, and whether it is malformed
+abbrev pub Lines : Type 0
+Lines = List ℕ × Bool
 
--- and the rest follows its frame and padding
-abbrev pub StartsLine : {I : Type 0} → Decoding I → List ℕ → List ℕ → List ℕ → Type 0
-StartsLine d bytes line rest =
-    (frame : List ℕ) × StartsFrame bytes frame rest × HasLine d bytes line
+abbrev pub good : List ℕ → Lines
+good text = (text, false)
 
--- the bytes are rejected with this error, or start with a message of this type without a line
-abbrev pub IsCause : {I E : Type 0} → Decoding I → (E → Bool) → List ℕ → Cause → Type 0
-IsCause d wants_memory bytes (Rejected e) = IsRefusal d wants_memory bytes e × (e ≢ OutOfMemory)
-IsCause {I} d wants_memory bytes (NoLine t) =
-    (m : NetlinkMessage I) × IsLine d bytes m None × (t ≡ m.header.message_type)
+-- a malformed message at this offset, with its error
+abbrev pub bad : ℕ → List ℕ → Lines
+bad at why = (codes "byte " ++ (decimal at ++ (codes ": " ++ (why ++ codes "\n"))), true)
 
--- the bytes are the input from this offset on, and the lines end there for this cause
-pub record IsStop {I E : Type 0} (d : Decoding I) (wants_memory : E → Bool) (input bytes : List ℕ)
-    (stop : Stop) : Type 0 where
-  pub place : bytes ≡ drop stop.at input
-  pub cause : IsCause d wants_memory bytes stop.cause
+-- a message without a line of its own, by its type and its length field
+abbrev pub type_line : ℕ → ℕ → List ℕ
+type_line t size =
+    codes "type " ++ (decimal t ++ (codes ", " ++ (decimal size ++ codes " bytes\n")))
 
--- the output is the lines of the messages in the frames of the input, up to its end or a stop
-unfoldable pub Makes : {I E : Type 0} → Decoding I → (E → Bool) → List ℕ → List ℕ → Option Stop
-    → Type 0
-Makes d wants_memory input output stop =
-    (all : List (List ℕ))
-    × WalksAs (StartsLine d) (IsStop d wants_memory input) input all stop × (output ≡ joined all)
+abbrev pub line_or_type : ℕ → ℕ → Option (List ℕ) → List ℕ
+line_or_type t size (Some line) = line
+line_or_type t size None = type_line t size
 
-abbrev pub SameCause : Cause → Cause → Type 0
-SameCause (Rejected e) (Rejected f) = SameRefusal e f
-SameCause (NoLine t) (NoLine u) = t ≡ u
-SameCause _ _ = ⊥
+-- a message whose payload has this error, by the offset, type and size of the message
+abbrev pub error_lines : ℕ → ℕ → ℕ → FamilyError → Lines
+error_lines at t size (UnknownType other) = good (type_line t size)
+error_lines at t size error = bad at (refusal_text t (error_text error))
 
--- neither is a stop, or both are at the same byte for the same cause; only the end of a free text
--- may differ
-abbrev pub SameStop : Option Stop → Option Stop → Type 0
-SameStop None None = Unit {0}
-SameStop (Some r) (Some s) = (r.at ≡ s.at) × SameCause r.cause s.cause
-SameStop _ _ = ⊥
+-- a message of a family, by its offset, type, size and payload, and by the payload's error
+abbrev pub family_lines : ℕ → ℕ → ℕ → List ℕ → Option FamilyError → Lines
+family_lines at t size payload None = good (line_or_type t size (route_line (t, payload)))
+family_lines at t size payload (Some error) = error_lines at t size error
 
-abbrev pub why_text : Cause → List ℕ
-why_text (Rejected e) = cause_text e
-why_text (NoLine t) = codes "no line for message type " ++ decimal t
+abbrev pub own_lines : Check → ℕ → List ℕ → Lines
+own_lines check at frame =
+    family_lines at (header_of frame).message_type (length frame) (payload_of frame)
+    (check (header_of frame).message_type (payload_of frame))
 
-abbrev pub stop_text : Stop → List ℕ
-stop_text stop = codes "byte " ++ (decimal stop.at ++ (codes ": " ++ why_text stop.cause))
+-- a frame by what it means, and by the kernel's text in it
+abbrev pub item_lines : Check → ℕ → List ℕ → Option (List ℕ) → Option Item → Lines
+item_lines check at frame text None = good (codes "noop\n")
+item_lines check at frame text (Some (Err error)) = bad at (cause_text error)
+item_lines check at frame text (Some (Ok (Done code attributes))) = good (done_line code text)
+item_lines check at frame text (Some (Ok (Acknowledged attributes))) = good (error_line (pos 0) text)
+item_lines check at frame text (Some (Ok (Rejected code request attributes))) = good (error_line code text)
+item_lines check at frame text (Some (Ok Overrun)) = good (codes "overrun\n")
+item_lines check at frame text (Some (Ok (Message whole))) = own_lines check at frame
+item_lines check at frame text (Some (Ok (Other whole))) = own_lines check at frame
+
+-- the frame of a message at this offset has these lines
+abbrev pub HasLines : Check → ℕ → List ℕ → Lines → Type 0
+HasLines check at frame lines =
+    (text : Option (List ℕ)) × IsText (ack_attributes (meaning frame)) text
+    × (lines ≡ marked_if (header_of frame).flags (item_lines check at frame text (meaning frame)))

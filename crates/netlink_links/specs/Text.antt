@@ -1,5 +1,5 @@
 -- Bytes as text.
-use Rattle.std.specs.Prelude.{ℕ, ◌≡◌, ◌<◌, true, ◌==◌, ◌&&◌, Bool, false, List, [], ◌∷◌, ◌++◌, codes, length, nat_le, nat_lt, if◌then◌else◌}
+use Rattle.std.specs.Prelude.{ℕ, ◌≡◌, ◌<◌, true, ◌==◌, ◌&&◌, Bool, List, [], ◌∷◌, ◌++◌, codes, length, nat_le, nat_lt, if◌then◌else◌}
 use Rattle.std.specs.List.{fold, list_all}
 use Rattle.std.specs.Net.Addr.{segments_of}
 use Rattle.std.specs.Net.Text.{ipv4_text, ipv6_text}

@@ -2,38 +2,47 @@
 
 ghost use Rattle.std.specs.Prelude.{◌≡◌, IfOk, string_bytes};
 ghost use Rattle.std.specs.Option.{option_copied};
-ghost use Rattle.netlink_packet_core.specs.Header.{HoldsFrame};
-ghost use Rattle.netlink_replies.specs.Meaning.{shown_item};
-ghost use Rattle.netlink_links.specs.Ack.{HasText, IsText, ack_attributes, is_interrupted, text_words};
+ghost use Rattle.netlink_packet_core.specs.FrameWalk.{IsWholeFrame};
+ghost use Rattle.netlink_replies.specs.Meaning.{meaning, shown_item};
+ghost use Rattle.netlink_links.specs.Ack.{IsText, ack_attributes, is_interrupted, text_words};
 
 use crate::text::sentence_text;
 use netlink_packet_core::{DecodeError, NLM_F_DUMP_INTR, NetlinkBuffer};
 use netlink_replies::{ExtendedAck, Replies, Reply, Request};
 use std::alloc::{AllocError, Global};
 
-/// Returns the kernel's text in the frame at the start of the bytes, if it is an error or done
-/// message with a text. Requires that the bytes hold a complete frame.
-pub(crate) fn kernel_text(bytes: &[u8]) -> Option<&[u8]>
-    requires whole { HoldsFrame bytes.now }
-    ensures text { HasText bytes.now (option_copied result) }
+/// Returns what a frame means by itself. Requires that the bytes are one frame.
+pub(crate) fn meaning_of(frame: &[u8]) -> Option<Result<Reply<&[u8]>, DecodeError>>
+    requires whole { IsWholeFrame frame.now }
+    ensures item { shown_item result ≡ meaning frame.now }
 {
     let request = Request {
-        sequence_number: NetlinkBuffer::new(bytes).sequence_number(),
+        sequence_number: NetlinkBuffer::new(frame).sequence_number(),
         port_number: 0,
         is_dump: false,
         wants_ack: false,
     };
-    text_in(ack_attributes(Replies::new(request).take(bytes)))
+    Replies::new(request).take(frame)
+}
+
+/// Returns the kernel's text in a message that means this, if it is an error or done message with a
+/// text.
+pub(crate) fn kernel_text<'a>(
+    item: &Option<Result<Reply<&'a [u8]>, DecodeError>>,
+) -> Option<&'a [u8]>
+    ensures text { IsText (ack_attributes (shown_item item.now)) (option_copied result) }
+{
+    text_in(ack_attributes(item))
 }
 
 /// Returns the attributes of an extended acknowledgement; nothing if the frame is another message.
-fn ack_attributes<'a>(item: Option<Result<Reply<&'a [u8]>, DecodeError>>) -> &'a [u8]
-    ensures { result.now ≡ ack_attributes (shown_item item.entry) }
+fn ack_attributes<'a>(item: &Option<Result<Reply<&'a [u8]>, DecodeError>>) -> &'a [u8]
+    ensures { result.now ≡ ack_attributes (shown_item item.now) }
 {
     match item {
-        Some(Ok(Reply::Done { attributes, .. })) => attributes,
-        Some(Ok(Reply::Acknowledged { attributes })) => attributes,
-        Some(Ok(Reply::Rejected { attributes, .. })) => attributes,
+        Some(Ok(Reply::Done { attributes, .. })) => *attributes,
+        Some(Ok(Reply::Acknowledged { attributes })) => *attributes,
+        Some(Ok(Reply::Rejected { attributes, .. })) => *attributes,
         _ => &[],
     }
 }

@@ -1,11 +1,10 @@
 //! What the arguments ask for, and how the program ends.
 
 ghost use Rattle.std.specs.Prelude.{◌≡◌, ◌↔◌, Some, IfSome, IsTrue, false, option_map, true};
-ghost use Rattle.std.specs.Io.KnownBytes.{Keeps};
 ghost use Rattle.std.specs.Vec.Iter.{into_iter_items};
+ghost use Rattle.netlink_family.specs.Errors.{family_error};
 ghost use Rattle.netlink_program.specs.Ending.{IsUsage};
 ghost use Rattle.netlink_links.specs.Ending.{AsksForLines, Ends, usage_text};
-ghost use Rattle.netlink_links.specs.Run.{IsEarly};
 
 use crate::line::Line;
 use crate::run::{Fault, run};
@@ -45,7 +44,7 @@ pub fn asked(args: Option<Args>) -> bool
 }
 
 /// Runs over the reader and the writer if that is asked; otherwise uses neither.
-pub fn ended<I: Line, R: Read, W: Write>(
+pub fn ended<F: Line, R: Read, W: Write>(
     alloc: Global,
     is_asked: bool,
     reader: &mut R,
@@ -53,13 +52,12 @@ pub fn ended<I: Line, R: Read, W: Write>(
 ) -> Ending<Fault, Usage>
     ensures usage { IsUsage result ↔ (is_asked ≡ false) }
     ensures untouched { is_asked ≡ false → (reader.new ≡ reader.old) × (writer.new ≡ writer.old) }
-    ensures early { (fault : Fault) → result ≡ Ending.Failed fault → IsEarly fault
-        → Keeps (W.contents writer.old) (W.contents writer.new) }
     ensures ends { is_asked ≡ true → IfSome (R.remaining reader.old) (λ input.
-        Ends I.decoding I.wants_memory input (W.contents writer.old) (W.contents writer.new) result) }
+        Ends (family_error F.types F.short F.header_len F.rows) input (R.remaining reader.new)
+        (W.contents writer.old) (W.contents writer.new) result) }
 {
     if !is_asked {
         return Ending::Usage(Usage);
     }
-    Ending::from(run::<I, R, W>(alloc, reader, writer))
+    Ending::from(run::<F, R, W>(alloc, reader, writer))
 }

@@ -1,12 +1,13 @@
 //! A run of the program over a reader and a writer.
 
-ghost use Rattle.std.specs.Prelude.{◌≡◌, Some, IfErr, IfSome};
-ghost use Rattle.std.specs.Io.KnownBytes.{Keeps};
-ghost use Rattle.netlink_links.specs.Run.{RunsAs, IsEarly, fault_text, outcome, read_fault};
+ghost use Rattle.std.specs.Prelude.{◌≡◌, Some, IfSome};
+ghost use Rattle.netlink_family.specs.Errors.{family_error};
+ghost use Rattle.netlink_links.specs.Run.{RunsAs, end_of, fault_text, read_fault};
 
 use crate::line::Line;
-use crate::messages::{Output, Stop, lines_of};
-use netlink_program::{ReadFault, read_all};
+use crate::messages::lines_of;
+use crate::stream::{Next, Stop, read_frame, skip_padding};
+use netlink_program::{ReadFault, WriteFault, write_through};
 use std::alloc::{AllocError, Global};
 use std::fmt;
 use std::io::{Read, Write};
@@ -14,13 +15,15 @@ use std::io::{Read, Write};
 /// Why a run failed.
 #[derive(Debug, Drop, PartialEq, Eq)]
 pub enum Fault {
-    /// The reader failed, or did not end within 1048576 calls.
+    /// The reader failed, or did not reach its end within 2^64 - 1 calls or bytes.
     Read,
-    /// The writer failed. It may have written a part.
+    /// The writer failed. It may have written a part of what it was given.
     Write,
     /// An allocation failed.
     OutOfMemory,
-    /// A message of the input has no line.
+    /// The whole input was shown, and a message in it is malformed.
+    Malformed,
+    /// A message of the input cannot be read.
     Stopped(Stop),
 }
 
@@ -32,6 +35,7 @@ impl fmt::Display for Fault {
             Fault::Read => f.write_str("read failed"),
             Fault::Write => f.write_str("write failed"),
             Fault::OutOfMemory => f.write_str("out of memory"),
+            Fault::Malformed => f.write_str("a message is malformed"),
             Fault::Stopped(stop) => write!(f, "{stop}"),
         }
     }
@@ -48,6 +52,16 @@ impl From<ReadFault> for Fault {
     }
 }
 
+impl From<WriteFault> for Fault {
+    ghost use Rattle.netlink_links.specs.declared.run.Fault.TheVariants.{Write};
+
+    ghost from_gives = { λ _ fault. fault ≡ Write };
+
+    fn from(_failed: WriteFault) -> Fault {
+        Fault::Write
+    }
+}
+
 impl From<AllocError> for Fault {
     ghost use Rattle.netlink_links.specs.declared.run.Fault.TheVariants.{OutOfMemory};
 
@@ -58,38 +72,50 @@ impl From<AllocError> for Fault {
     }
 }
 
-/// Writes the lines of all messages that the reader gives, up to a message without one, in one
-/// piece.
+/// Reads one message after another, and writes the lines of each, and flushes the writer, before it
+/// reads another byte. Keeps one frame in memory.
 ///
-/// The reader must end within 1048576 calls of at most 4096 bytes each. An interrupted call counts
-/// and is repeated. If the run ends with `Read` or `OutOfMemory`, nothing was written. `Write` takes
-/// precedence over `Stopped`. Empty output is not written.
-pub fn run<I: Line, R: Read, W: Write>(
+/// Reads to the end of the input, or up to a message that cannot be read, and then returns
+/// `Stopped`. Returns `Malformed` at the end if a message was malformed. Returns `Read` if the
+/// reader fails, or does not reach its end within 2^64 - 1 messages, calls for one of them, or
+/// bytes; `Write` if the writer or its flush fails; and `OutOfMemory` if an allocation fails. The
+/// lines of all messages before the error are written.
+pub fn run<F: Line, R: Read, W: Write>(
     alloc: Global,
     reader: &mut R,
     writer: &mut W,
 ) -> Result<(), Fault>
-    ensures nothing { IfErr result
-        (λ fault. IsEarly fault → Keeps (W.contents writer.old) (W.contents writer.new)) }
     ensures runs { IfSome (R.remaining reader.old) (λ input.
-        RunsAs I.decoding I.wants_memory input (W.contents writer.old) (W.contents writer.new) result) }
+        RunsAs (family_error F.types F.short F.header_len F.rows) input (R.remaining reader.new)
+        (W.contents writer.old) (W.contents writer.new) result) }
 {
-    let input = read_all(alloc, reader)?;
-    let Output { lines, stop } = lines_of::<I>(alloc, input.as_slice())?;
-    let is_written = writer.write_all(lines.as_bytes()).is_ok();
-    outcome(is_written, stop)
+    let mut frame = Vec::new(alloc);
+    let mut at: u64 = 0;
+    let mut is_malformed = false;
+    for _ in 0..u64::MAX {
+        match read_frame(reader, &mut frame)? {
+            Next::Frame => {}
+            Next::End => return end_of(is_malformed),
+            Next::Stop(cause) => return Err(Fault::Stopped(Stop { at, cause })),
+        }
+        let message = lines_of::<F>(alloc, at, &frame)?;
+        write_through(writer, message.text.as_bytes())?;
+        is_malformed = is_malformed || message.is_malformed;
+        let padding = skip_padding(reader, frame.len())?;
+        match at.checked_add((frame.len() + padding) as u64) {
+            Some(next) => at = next,
+            None => return Err(Fault::Read),
+        }
+    }
+    Err(Fault::Read)
 }
 
-/// Returns how a run ends: with `Write` if its output was not written, else with the stop, if there
-/// is one.
-fn outcome(is_written: bool, stop: Option<Stop>) -> Result<(), Fault>
-    ensures is { result ≡ outcome is_written stop }
+/// Returns how a run ends at the end of its input.
+fn end_of(is_malformed: bool) -> Result<(), Fault>
+    ensures is { result ≡ end_of is_malformed }
 {
-    if !is_written {
-        return Err(Fault::Write);
+    if is_malformed {
+        return Err(Fault::Malformed);
     }
-    match stop {
-        None => Ok(()),
-        Some(stop) => Err(Fault::Stopped(stop)),
-    }
+    Ok(())
 }

@@ -1,12 +1,12 @@
 //! The arguments, the statuses and the texts on standard error.
 
 use crate::ending::{Usage, asked, ended};
-use crate::messages::{Cause, Stop};
 use crate::run::Fault;
+use crate::stream::{Cause, Stop};
 use crate::tests::lines::ADDRESS;
-use netlink_packet_core::DecodeError;
+use netlink_family::Joined;
 use netlink_program::Ending;
-use netlink_route::RouteMessage;
+use netlink_route::RouteTables;
 use std::alloc::{AllocError, Global};
 use std::env::Args;
 use std::test::Fail;
@@ -39,7 +39,7 @@ fn a_name_alone_asks(rt: HostRuntime) -> Result<(), Fail> {
 fn each_ending_has_its_status_and_its_text(rt: HostRuntime) -> Result<(), Fail> {
     let stopped = Fault::Stopped(Stop {
         at: 40,
-        cause: Cause::Rejected(DecodeError::TooLong),
+        cause: Cause::TooLong(1_048_577),
     });
     let rows = [
         (Ending::Done, 0u8, ""),
@@ -47,9 +47,14 @@ fn each_ending_has_its_status_and_its_text(rt: HostRuntime) -> Result<(), Fail> 
         (Ending::Failed(Fault::Write), 1, "write failed\n"),
         (Ending::Failed(Fault::OutOfMemory), 1, "out of memory\n"),
         (
+            Ending::Failed(Fault::Malformed),
+            1,
+            "a message is malformed\n",
+        ),
+        (
             Ending::Failed(stopped),
             1,
-            "byte 40: message does not fit a 32-bit length\n",
+            "byte 40: a message of 1048577 bytes is longer than 1048576\n",
         ),
         (Ending::Usage(Usage), 2, "usage: netlink_links < FILE\n"),
     ];
@@ -66,7 +71,12 @@ fn runs_end_with_their_status(rt: HostRuntime) {
     for (is_asked, status, size) in [(true, 0, 73), (false, 2, 0)] {
         let mut reader: &[u8] = &ADDRESS;
         let mut output: Vec<u8> = Vec::new(rt.alloc());
-        let ending = ended::<RouteMessage, _, _>(rt.alloc(), is_asked, &mut reader, &mut output);
+        let ending = ended::<Joined<RouteTables>, _, _>(
+            rt.alloc(),
+            is_asked,
+            &mut reader,
+            &mut output,
+        );
         assert_eq!(rt; ending.status(), status);
         assert_eq!(rt; output.len(), size);
         assert_eq!(rt; reader.is_empty(), is_asked);

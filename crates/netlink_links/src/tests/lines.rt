@@ -1,8 +1,8 @@
 //! Messages made by hand, after linux/rtnetlink.h, if_link.h and if_addr.h, and their lines.
 
-use crate::messages::{Cause, Output, Stop, lines_of};
-use netlink_route::RouteMessage;
-use std::alloc::{AllocError, Global};
+use crate::run::run;
+use netlink_family::Joined;
+use netlink_route::RouteTables;
 use std::test::Fail;
 
 /// The link "lo" below link 9 and in link 5, a request to change it, with packets of 65536 bytes;
@@ -42,70 +42,11 @@ const OTHERS: [u8; 136] = [
     8, 0, 1, 0, b'a', b' ', b'b', 0, // NLMSGERR_ATTR_MSG
 ];
 
-/// Returns the lines of an input whose messages all have one; otherwise nothing.
-fn all_lines(alloc: Global, input: &[u8]) -> Result<String, AllocError> {
-    let output = lines_of::<RouteMessage>(alloc, input)?;
-    match output.stop {
-        None => Ok(output.lines),
-        Some(_) => Ok(String::new(alloc)),
-    }
-}
-
-#[test]
-fn a_link_is_a_line(rt: HostRuntime) -> Result<(), Fail> {
-    assert_eq!(rt;
-        all_lines(rt.alloc(), &LO)?.as_str(),
-        "Set 1: lo@if9: <LOOPBACK,UP,LOWER_UP> mtu 65536 master if5 state 0x7 link/loopback 00:00:00:00:00:fe kind veth\n"
-    );
-    Ok(())
-}
-
-#[test]
-fn an_address_is_a_line(rt: HostRuntime) -> Result<(), Fail> {
-    assert_eq!(rt;
-        all_lines(rt.alloc(), &ADDRESS)?.as_str(),
-        "Deleted 4: inet 10.0.0.1 peer 10.0.0.2/24 brd 10.0.0.255 scope link abcd\n"
-    );
-    Ok(())
-}
-
-#[test]
-fn other_messages_are_words(rt: HostRuntime) -> Result<(), Fail> {
-    assert_eq!(rt;
-        all_lines(rt.alloc(), &OTHERS)?.as_str(),
-        "error -2\nack\ndone -22\ninterrupted\nnoop\noverrun\nerror -22: a b\n"
-    );
-    Ok(())
-}
-
-/// A request for all neighbours (linux/neighbour.h).
+/// A request for all neighbours (linux/neighbour.h), of which there is no line yet.
 const NEIGHBOURS: [u8; 28] = [
     28, 0, 0, 0, 30, 0, 1, 3, 1, 0, 0, 0, 0, 0, 0, 0, // length 28, RTM_GETNEIGH
     2, 0, 0, 0, 0, 0, 0, 0, 0, 0, 0, 0, // AF_INET
 ];
-
-#[test]
-fn a_neighbour_has_no_line(rt: HostRuntime) -> Result<(), Fail> {
-    let Output { lines, stop } = lines_of::<RouteMessage>(rt.alloc(), &NEIGHBOURS)?;
-    assert!(rt; lines.is_empty());
-    match stop {
-        Some(stop) => {
-            assert_eq!(rt;
-                stop,
-                Stop {
-                    at: 0,
-                    cause: Cause::NoLine(30)
-                }
-            );
-            assert_eq!(rt;
-                stop.to_string(rt.alloc())?.as_str(),
-                "byte 0: no line for message type 30"
-            );
-        }
-        None => assert!(rt; false),
-    }
-    Ok(())
-}
 
 /// A link named in Latin-1, without a NUL and with no other attribute.
 const LATIN: [u8; 40] = [
@@ -115,10 +56,29 @@ const LATIN: [u8; 40] = [
 ];
 
 #[test]
-fn names_may_have_any_bytes(rt: HostRuntime) -> Result<(), Fail> {
-    assert_eq!(rt;
-        all_lines(rt.alloc(), &LATIN)?.as_str(),
-        "-1: 63:e9: <> link/ether\n"
-    );
+fn messages_have_lines(rt: HostRuntime) -> Result<(), Fail> {
+    let rows: [(&[u8], &str); 5] = [
+        (
+            &LO,
+            "Set 1: lo@if9: <LOOPBACK,UP,LOWER_UP> mtu 65536 master if5 state 0x7 link/loopback 00:00:00:00:00:fe kind veth\n",
+        ),
+        (
+            &ADDRESS,
+            "Deleted 4: inet 10.0.0.1 peer 10.0.0.2/24 brd 10.0.0.255 scope link abcd\n",
+        ),
+        (
+            &OTHERS,
+            "error -2\nack\ndone -22\ninterrupted\nnoop\noverrun\nerror -22: a b\n",
+        ),
+        (&NEIGHBOURS, "type 30, 28 bytes\n"),
+        (&LATIN, "-1: 63:e9: <> link/ether\n"),
+    ];
+    for (input, lines) in rows {
+        let mut reader = input;
+        let mut output: Vec<u8> = Vec::new(rt.alloc());
+        let ended = run::<Joined<RouteTables>, _, _>(rt.alloc(), &mut reader, &mut output);
+        assert!(rt; ended.is_ok());
+        assert_eq!(rt; output.as_slice(), lines.as_bytes());
+    }
     Ok(())
 }
