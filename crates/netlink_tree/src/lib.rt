@@ -7,8 +7,6 @@ mod fault;
 mod frames;
 pub mod laws;
 mod read;
-#[cfg(test)]
-mod tests;
 mod tree;
 mod write;
 

@@ -1,6 +1,7 @@
 //! Walking datagrams, and appending to them.
 
-use crate::{Frames, append_frame, frames_fault};
+use crate::tests::calls::{is_not_appended, prints_as};
+use netlink_tree::{Frames, append_frame, frames_fault};
 use std::alloc::{AllocError, Global};
 use std::test::Fail;
 
@@ -48,35 +49,52 @@ fn datagrams_are_frames_and_then_the_fault(rt: HostRuntime) -> Result<(), Fail> 
         ),
     ];
     for (front, after, sizes, frames, fault) in rows {
-        let mut datagram = Vec::from_slice(rt.alloc(), front)?;
-        datagram.extend_from_slice(after)?;
-        let (found_sizes, found, found_fault) = walked(rt.alloc(), &datagram)?;
-        assert!(rt; found_sizes.as_slice() == sizes);
-        assert!(rt; found.as_slice() == frames);
-        assert_eq!(rt; found_fault.as_str(), fault);
-        match frames_fault(&datagram) {
-            Some(cause) => assert_eq!(rt; cause.to_string(rt.alloc())?.as_str(), fault),
-            None => assert!(rt; fault.is_empty()),
-        }
+        let datagram = joined(rt.alloc(), front, after)?;
+        assert!(rt; walks_as(rt.alloc(), &datagram, sizes, frames, fault));
+        assert!(rt; has_fault(rt.alloc(), &datagram, fault));
     }
     Ok(())
 }
 
-/// Returns the size of each frame, their bytes one after another, and the error text.
-fn walked(alloc: Global, datagram: &[u8]) -> Result<(Vec<usize>, Vec<u8>, String), AllocError> {
-    let mut sizes = Vec::new(alloc);
-    let mut frames = Vec::new(alloc);
-    let mut text = String::new(alloc);
+fn joined(alloc: Global, front: &[u8], after: &[u8]) -> Result<Vec<u8>, AllocError> {
+    let mut datagram = Vec::from_slice(alloc, front)?;
+    datagram.extend_from_slice(after)?;
+    Ok(datagram)
+}
+
+/// Returns whether the error of a datagram has this text, or there is none and the text is empty.
+fn has_fault(alloc: Global, datagram: &[u8], text: &str) -> bool {
+    match frames_fault(datagram) {
+        Some(cause) => prints_as(alloc, &cause, text),
+        None => text.is_empty(),
+    }
+}
+
+/// Returns whether a walk yields frames of these sizes, with these bytes one after another, and
+/// then an error with this text, or the end if the text is empty.
+fn walks_as(alloc: Global, datagram: &[u8], sizes: &[usize], frames: &[u8], fault: &str) -> bool {
+    let mut expected = sizes.iter();
+    let mut rest = frames;
+    let mut is_ended_so = fault.is_empty();
     for item in Frames::new(datagram) {
         match item {
-            Ok(frame) => {
-                sizes.push(frame.len())?;
-                frames.extend_from_slice(frame)?;
-            }
-            Err(fault) => text = fault.to_string(alloc)?,
+            Ok(frame) => match (expected.next(), rest_after(frame, rest)) {
+                (Some(size), Some(after)) if frame.len() == *size => rest = after,
+                _ => return false,
+            },
+            Err(cause) => is_ended_so = prints_as(alloc, &cause, fault),
         }
     }
-    Ok((sizes, frames, text))
+    is_ended_so && rest.is_empty() && expected.next().is_none()
+}
+
+/// Returns what follows the frame in the bytes, if they begin with it.
+fn rest_after<'a>(frame: &[u8], bytes: &'a [u8]) -> Option<&'a [u8]> {
+    if bytes.get(..frame.len()) == Some(frame) {
+        bytes.get(frame.len()..)
+    } else {
+        None
+    }
 }
 
 #[test]
@@ -84,12 +102,22 @@ fn a_datagram_ends_for_good(rt: HostRuntime) {
     let mut walk = Frames::new(CUT);
     let start = walk;
     let mut again = start;
-    assert!(rt; matches!(again.next(), Some(Err(_))));
-    assert!(rt; matches!(walk.next(), Some(Err(_))));
-    assert!(rt; walk.next().is_none());
-    assert!(rt; walk.next().is_none());
+    assert!(rt; is_fault_next(&mut again));
+    assert!(rt; is_fault_next(&mut walk));
+    assert!(rt; is_at_end(&mut walk));
+    assert!(rt; is_at_end(&mut walk));
     assert!(rt; walk == Frames::new(&[]));
     assert!(rt; start != walk);
+}
+
+/// Returns whether the walk yields an error next.
+fn is_fault_next(walk: &mut Frames<&[u8]>) -> bool {
+    matches!(walk.next(), Some(Err(_)))
+}
+
+/// Returns whether the walk is at its end.
+fn is_at_end(walk: &mut Frames<&[u8]>) -> bool {
+    walk.next().is_none()
 }
 
 #[test]
@@ -127,10 +155,7 @@ fn what_is_no_frame_is_not_appended(rt: HostRuntime) -> Result<(), Fail> {
     ];
     for (frame, text) in rows {
         let mut datagram = Vec::from_slice(rt.alloc(), &[1, 2, 3, 4])?;
-        match append_frame(rt.alloc(), &mut datagram, frame) {
-            Ok(()) => assert!(rt; false),
-            Err(fault) => assert_eq!(rt; fault.to_string(rt.alloc())?.as_str(), text),
-        }
+        assert!(rt; is_not_appended(rt.alloc(), &mut datagram, frame, text));
         assert!(rt; datagram.as_slice() == [1, 2, 3, 4].as_slice());
     }
     Ok(())

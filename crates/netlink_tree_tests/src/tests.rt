@@ -1,4 +1,5 @@
 //! Test cases for each public function.
 
+mod calls;
 mod frames;
 mod trees;
