@@ -55,10 +55,19 @@ class Edit:
                 raise BadEdit(f"it changes {kind} in {file}, and an edit must change code only")
         return made
 
+    def places(self, texts):
+        """Returns the functions that the edit changes, and None if it changes code outside a function."""
+        return {function_at(file, texts[file], texts[file].find(old), len(old)) for file, old, _ in self.pairs}
+
+    def is_inside(self, texts):
+        """Returns whether the edit changes code inside functions only, and its lines `only:` name none but these."""
+        places = self.places(texts)
+        return None not in places and all(any(is_of(it, path) for it in places) for path in self.only)
+
     def functions(self, texts):
         """Returns the functions that the edit changes. Raises BadEdit if it changes code outside a function and does
         not name a function that must reject it."""
-        found = {function_at(file, texts[file], texts[file].find(old), len(old)) for file, old, _ in self.pairs}
+        found = self.places(texts)
         if None in found and not self.only:
             raise BadEdit("it changes code outside a function, so a line `only:` must name a function that rejects it")
         return found - {None}

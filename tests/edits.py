@@ -42,7 +42,7 @@ from edit import BadEdit, edits_of, function_at_line, is_of
 from libraries import TOP, below, dependencies, folder_of, words_over_rlibs
 
 # The largest number of edits that one check tries.
-BATCH = 16
+BATCH = 18
 PARTS = ("src", "specs", "proofs")
 
 # The last line of a check of some functions: how many were requested, and how many of them are proved.
@@ -191,16 +191,16 @@ class Batch:
 
 
 def batches(edits, functions, texts):
-    """Returns the edits in batches, and those that must be tried alone.
+    """Returns the edits in batches, and those that must be tried alone, such as edits of constants.
 
-    Distributes them in turn, so that functions next to each other, which often call one another, are in different
-    batches.
+    Distributes them in turn, those of many functions first, so that functions next to each other, which often call one
+    another, are in different batches.
     """
-    wide = [it for it in edits if not it.only]
-    held = [it for edit in wide for it in functions[edit]]
-    made = [Batch(texts) for _ in range(max([-(-len(wide) // BATCH), *map(held.count, set(held))]))]
-    alone = [it for it in edits if it.only]
-    for at, edit in enumerate(wide):
+    inside = sorted([it for it in edits if it.is_inside(texts)], key=lambda it: -len(functions[it]))
+    held = [it for edit in inside for it in functions[edit]]
+    made = [Batch(texts) for _ in range(max([-(-len(inside) // BATCH), *map(held.count, set(held))]))]
+    alone = [it for it in edits if it not in inside]
+    for at, edit in enumerate(inside):
         turn = [*made[at % len(made) :], *made[: at % len(made)]]
         if not any(it.takes(edit, functions[edit]) for it in turn):
             alone.append(edit)
