@@ -25,7 +25,7 @@ pub record Kept (check : Check) (old now start end : Option (List ℕ)) (at : �
   pub any : any_malformed done ≡ malformed
   pub wrote : Appends start end (output_of done)
 
--- the same after a frame whose padding, of so many bytes, was not yet read
+-- the same after a frame whose padding, of `missing` bytes, was not yet read
 pub record KeptFrame (check : Check) (old now start end : Option (List ℕ)) (missing at : ℕ) (malformed : Bool) : Type 0 where
   pub done : List Lines
   pub passed : PassedFrame check old done now missing at

@@ -19,13 +19,13 @@ GivesNext old new bytes (Stop cause) = IfSome old (λ rest. (rest ≢ []) × IsC
 abbrev pub Tries : Option (List ℕ) → Option (List ℕ) → Type 0
 Tries old new = (front : List ℕ) × Consumes old new front × (HoldsFrame front → ⊥)
 
--- the reader lost n bytes: so many, or all if it had fewer
+-- the reader lost n bytes: `most` of them, or all if it had fewer
 abbrev pub Skips : Option (List ℕ) → Option (List ℕ) → ℕ → ℕ → Type 0
 Skips None new most n = ⊤
 Skips (Some bytes) None most n = ⊥
 Skips (Some bytes) (Some rest) most n =
     (rest ≡ drop most bytes) × (n + length rest ≡ length bytes)
 
--- the reader lost at most so many bytes
+-- the reader lost at most `most` bytes
 abbrev pub SkipsPart : Option (List ℕ) → Option (List ℕ) → ℕ → Type 0
 SkipsPart old new most = (front : List ℕ) × Consumes old new front × (length front ≤ most)

@@ -43,7 +43,7 @@ pub(crate) fn lines_of<F: Line>(alloc: Global, at: u64, frame: &[u8]) -> Result<
     marked(alloc, NetlinkBuffer::new(frame).flags(), shown)
 }
 
-/// Returns lines with `interrupted` in front of them, if these are the flags of a message of an
+/// Returns lines, and `interrupted` before them if these are the flags of a message of an
 /// interrupted dump.
 fn marked(alloc: Global, flags: u16, shown: Shown) -> Result<Shown, AllocError>
     ensures { IfOk result (λ s. (string_bytes s.text, s.is_malformed)

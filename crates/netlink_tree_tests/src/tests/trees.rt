@@ -86,7 +86,7 @@ fn sixteen_levels_are_read(rt: HostRuntime) -> Result<(), Fail> {
 /// their encoding, or the error text.
 type Written = (usize, Option<usize>, usize, &'static str);
 
-/// Returns whether writing such trees returns so many bytes or this error.
+/// Returns whether writing such trees gives that number of bytes or that error.
 fn is_row(alloc: Global, row: Written) -> Result<bool, AllocError> {
     let inside = match row.1 {
         Some(size) => leaf(alloc, size)?,
@@ -233,7 +233,7 @@ fn texts_of_faults(rt: HostRuntime) {
     assert!(rt; are_told_apart());
 }
 
-/// Returns whether `==` tells errors apart.
+/// Returns whether `==` distinguishes errors.
 fn are_told_apart() -> bool {
     faults_equal();
     TreeFault::TooDeep == TreeFault::TooDeep
