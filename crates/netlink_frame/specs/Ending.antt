@@ -1,5 +1,5 @@
 -- What the arguments ask for, and how the program ends.
-use Rattle.std.specs.Prelude.{◌≡◌, ◌≢◌, ℕ, List, [], ◌∷◌, Option, None, Some, String, codes, string_bytes}
+use Rattle.std.specs.Prelude.{◌≡◌, ◌≢◌, ℕ, List, [], ◌∷◌, Option, None, Some, String, bytes_eq, codes, if◌then◌else◌, string_bytes}
 use Rattle.std.specs.declared.alloc.Global.{Global}
 use Rattle.netlink_packet_core.specs.DecodeError.TheVariants.{OutOfMemory}
 use Rattle.netlink_program.specs.declared.ending.Ending.{Ending}
@@ -11,13 +11,14 @@ use Rattle.netlink_frame.specs.declared.ending.Usage.{Usage}
 use Rattle.netlink_frame.specs.declared.run.Fault.{Fault}
 use Rattle.netlink_frame.specs.declared.run.Fault.TheVariants.{Decode}
 
--- the word of a command
-abbrev pub word_of : Command → List ℕ
-word_of Normalize = codes "normalize"
-word_of Show = codes "show"
-word_of Nlas = codes "nlas"
-word_of Canon = codes "canon"
-word_of Frames = codes "frames"
+-- the command that a word names
+abbrev pub command_of : List ℕ → Option Command
+command_of word =
+    if bytes_eq word (codes "normalize") then Some Normalize
+    else (if bytes_eq word (codes "show") then Some Show
+    else (if bytes_eq word (codes "nlas") then Some Nlas
+    else (if bytes_eq word (codes "canon") then Some Canon
+    else (if bytes_eq word (codes "frames") then Some Frames else None))))
 
 -- the arguments are the program's name and the word of the command; arguments that could not be
 -- read name none
@@ -25,7 +26,7 @@ abbrev pub Asks : Option (List (String Global)) → Command → Type 0
 Asks None command = ⊥
 Asks (Some arguments) command =
     (name : String Global) × (word : String Global) × (arguments ≡ name ∷ (word ∷ []))
-    × (string_bytes word ≡ word_of command)
+    × (command_of (string_bytes word) ≡ Some command)
 
 -- the text of the usage
 abbrev pub usage_text : List ℕ

@@ -1,6 +1,7 @@
 //! The commands of the program.
 
-ghost use Rattle.std.specs.Prelude.{◌≡◌, ◌↔◌, Some, codes};
+ghost use Rattle.std.specs.Prelude.{◌≡◌};
+ghost use Rattle.netlink_frame.specs.Ending.{command_of};
 
 /// A command: what the program writes for an input.
 #[derive(Clone, Copy, Debug, PartialEq, Eq)]
@@ -22,11 +23,7 @@ pub enum Command {
 impl Command {
     /// Returns the command that `word` names, or `None` for any other string.
     pub fn from_text(word: &str) -> Option<Command>
-        ensures normalize { (result ≡ Some Command.Normalize) ↔ (word.now ≡ codes "normalize") }
-        ensures show { (result ≡ Some Command.Show) ↔ (word.now ≡ codes "show") }
-        ensures nlas { (result ≡ Some Command.Nlas) ↔ (word.now ≡ codes "nlas") }
-        ensures canon { (result ≡ Some Command.Canon) ↔ (word.now ≡ codes "canon") }
-        ensures frames { (result ≡ Some Command.Frames) ↔ (word.now ≡ codes "frames") }
+        ensures names { result ≡ command_of word.now }
     {
         match word {
             "normalize" => Some(Command::Normalize),

@@ -211,8 +211,8 @@ impl Request {
         ensures { result ≡ belongs self.now frame.now }
     {
         let view = NetlinkBuffer::new(frame);
-        view.sequence_number() == self.sequence_number
-            && (self.port_number == 0 || view.port_number() == self.port_number)
+        (view.sequence_number() == self.sequence_number)
+            & ((self.port_number == 0) | (view.port_number() == self.port_number))
     }
 
     /// Returns whether a frame of the answer with these flags and this meaning ends it.

@@ -1,24 +1,13 @@
 use Rattle.std.proofs.Common.{◌≡◌, ◌↔◌, Some, ℕ, List, [], ◌∷◌, length, refl, sym, ap, subst, ◌∙◌, arith, String, Global}
-use Rattle.std.specs.Prelude.{Option, codes, option_map, string_bytes}
+use Rattle.std.specs.Prelude.{Option, option_map, string_bytes}
 use Rattle.std.specs.Vec.Iter.{into_iter_items}
-use Rattle.netlink_frame.specs.Ending.{Asks, word_of}
+use Rattle.netlink_frame.specs.Ending.{Asks, command_of}
 use Rattle.netlink_frame.specs.declared.command.Command.{Command}
-use Rattle.netlink_frame.specs.declared.command.Command.TheVariants.{Normalize, Show, Nlas, Canon, Frames}
 use Rattle.netlink_frame.proofs.ending.asked.Goals as goal
 
--- `text` is the word of the command that was found, and of no other
+-- the command that was found is the one that `text` names
 abbrev NamesIt : Option Command → List ℕ → Type 0
-NamesIt found text = (command : Command) → (found ≡ Some command) ↔ (text ≡ word_of command)
-
-by_word : (found : Option Command) (text : List ℕ)
-    → ((found ≡ Some Normalize) ↔ (text ≡ codes "normalize")) → ((found ≡ Some Show) ↔ (text ≡ codes "show"))
-    → ((found ≡ Some Nlas) ↔ (text ≡ codes "nlas")) → ((found ≡ Some Canon) ↔ (text ≡ codes "canon"))
-    → ((found ≡ Some Frames) ↔ (text ≡ codes "frames")) → NamesIt found text
-by_word found text normalize show nlas canon frames Normalize = normalize
-by_word found text normalize show nlas canon frames Show = show
-by_word found text normalize show nlas canon frames Nlas = nlas
-by_word found text normalize show nlas canon frames Canon = canon
-by_word found text normalize show nlas canon frames Frames = frames
+NamesIt found text = found ≡ command_of text
 
 nothing_left : (rest : List (String Global)) → length rest ≡ 0 → rest ≡ []
 nothing_left [] none = refl
@@ -26,8 +15,8 @@ nothing_left (x ∷ rest) none = absurd (omega arith)
 
 -- the second of two arguments is the word
 second_word : (name word : String Global) (command : Command) → Asks (Some (name ∷ (word ∷ []))) command
-    → string_bytes word ≡ word_of command
-second_word name word command (first, second, same, names) = let is : word ≡ second = cc in ap string_bytes is ∙ names
+    → command_of (string_bytes word) ≡ Some command
+second_word name word command (first, second, same, names) = let is : word ≡ second = cc in ap (λ (w : String Global). command_of (string_bytes w)) is ∙ names
 
 -- a name and a word, with nothing after them, name the command of that word
 two_ask : (given : Option (List (String Global))) (items after rest : List (String Global)) (name word : String Global)
@@ -39,8 +28,8 @@ two_ask given items after rest name word found had first second none names comma
     had ∙ ap Some (first
     ∙ ap (λ (l : List (String Global)). name ∷ l) (second ∙ ap (λ (l : List (String Global)). word ∷ l) (nothing_left rest none))) in
     subst (λ (o : Option (List (String Global))). (found ≡ Some command) ↔ Asks o command) (sym alone) (
-      λ is. (name, word, refl, (names command).0 is),
-      λ asks. (names command).1 (second_word name word command asks),
+      λ is. (name, word, refl, sym names ∙ is),
+      λ asks. names ∙ second_word name word command asks,
     )
 
 pub returns-in-None : goal.returns-in-None
@@ -49,7 +38,5 @@ returns-in-None c = record {
       two_ask _ _ _ _ _ _ c.from_text.result (ap (option_map into_iter_items) c.in_ok-args.was) c.in_ok-_name.ensures.cases.0
       c.in_ok-word.ensures.cases.0
       (sym c.next-2.new.self.rest.ok.0 ∙ c.in-None.ensures.cases.0)
-      (subst (NamesIt c.from_text.result) c.as_str.ensures.value
-      (by_word _ _ c.from_text.ensures.normalize c.from_text.ensures.show c.from_text.ensures.nlas c.from_text.ensures.canon
-      c.from_text.ensures.frames));
+      (c.from_text.ensures.names ∙ ap command_of c.as_str.ensures.value);
 }
