@@ -11,6 +11,7 @@ mod mark;
 mod memory_not_asked;
 mod memory_refused;
 mod messages;
+mod outcomes;
 mod overwriting;
 mod refusals;
 mod runs;

@@ -2,7 +2,7 @@
 
 use crate::command::Command;
 use crate::frames::frames_fault;
-use crate::run::{Fault, run};
+use crate::tests::outcomes::{Row, come_to};
 use std::test::Fail;
 
 /// A frame of 20 bytes, and one of 17 with its padding.
@@ -13,20 +13,13 @@ pub const DATAGRAM: [u8; 40] = [
 
 #[test]
 fn lines_of_frames(rt: HostRuntime) -> Result<(), Fail> {
-    let rows: [(&[u8], &str); 3] = [
-        (&DATAGRAM[..37], "20 18\n17 4\n"),
-        (&DATAGRAM, "20 18\n17 4\n"),
-        (&[], ""),
+    let rows: [Row<'_>; 3] = [
+        (Command::Frames, &DATAGRAM[..37], b"20 18\n17 4\n", 0, ""),
+        (Command::Frames, &DATAGRAM, b"20 18\n17 4\n", 0, ""),
+        (Command::Frames, &[], &[], 0, ""),
     ];
-    for (datagram, lines) in rows.iter() {
-        let mut reader: &[u8] = datagram;
-        let mut output: Vec<u8> = Vec::new(rt.alloc());
-        let answer = run(rt.alloc(), Command::Frames, &mut reader, &mut output);
-        assert!(rt; answer.is_ok());
-        assert_eq!(rt; output.as_slice(), lines.as_bytes());
-    }
     assert!(rt; frames_fault(&DATAGRAM[..37]).is_none());
-    Ok(())
+    come_to(&rt, rt.alloc(), &rows)
 }
 
 /// Four bytes follow the first 37. Three of them are padding, so one is left.
@@ -34,18 +27,11 @@ fn lines_of_frames(rt: HostRuntime) -> Result<(), Fail> {
 fn lines_of_frames_up_to_a_fault(rt: HostRuntime) -> Result<(), Fail> {
     let mut datagram = DATAGRAM[..37].to_vec(rt.alloc())?;
     datagram.extend_from_slice(&[0, 0, 0, 1])?;
-    let mut reader: &[u8] = &datagram;
-    let mut output: Vec<u8> = Vec::new(rt.alloc());
-    match run(rt.alloc(), Command::Frames, &mut reader, &mut output) {
-        Err(Fault::Decode(cause)) => {
-            assert_eq!(rt; cause.number(), 9);
-            assert_eq!(rt;
-                cause.to_string(rt.alloc())?.as_str(),
-                "invalid netlink buffer length caused by invalid netlink buffer: length is 1 but netlink packets are at least 16 bytes"
-            );
-        }
-        _ => assert!(rt; false),
-    }
-    assert_eq!(rt; output.as_slice(), b"20 18\n17 4\n".as_slice());
-    Ok(())
+    let text =
+        "invalid netlink buffer length caused by invalid netlink buffer: length is 1 but netlink packets are at least 16 bytes";
+    come_to(
+        &rt,
+        rt.alloc(),
+        &[(Command::Frames, &datagram, b"20 18\n17 4\n", 9, text)],
+    )
 }

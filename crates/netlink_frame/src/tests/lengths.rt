@@ -3,7 +3,7 @@
 use crate::ping_pong::PingPongMessage;
 use crate::samples::Zeros;
 use crate::tests::cuts::{Ending, WELL, nlas_of};
-use crate::tests::messages::{Message, PING};
+use crate::tests::messages::{PING, read};
 use crate::tests::refusals::refuses;
 use netlink_packet_core::{
     DecodeError, NetlinkBuffer, NetlinkMessage, NetlinkPayload, NlaBuffer, normalize,
@@ -22,10 +22,14 @@ fn lengths_of_a_ping(rt: HostRuntime) {
     ping_of_length(&rt, rt.alloc(), u32::MAX);
 }
 
-fn ping_of_length(rt: &impl Abort, alloc: Global, length: u32) {
+fn ping_with_length(length: u32) -> [u8; 20] {
     let mut frame = PING;
     NetlinkBuffer::new(&mut frame[..]).set_length(length);
-    match Message::deserialize(alloc, &frame) {
+    frame
+}
+
+fn ping_of_length(rt: &impl Abort, alloc: Global, length: u32) {
+    match read(alloc, &ping_with_length(length)) {
         Ok(message) => match &message.payload {
             NetlinkPayload::InnerMessage(PingPongMessage::Ping(bytes)) => {
                 assert!(rt; PING.get(16..length as usize) == Some(bytes.as_slice()));
@@ -49,6 +53,12 @@ fn ping_of_length(rt: &impl Abort, alloc: Global, length: u32) {
     }
 }
 
+fn attribute_with_length(length: u16) -> [u8; 8] {
+    let mut block = [0, 0, 1, 0, 0xaa, 0xbb, 0xcc, 0xdd];
+    NlaBuffer::new(&mut block[..]).set_length(length);
+    block
+}
+
 /// An attribute of kind 1 with other lengths.
 #[test]
 fn lengths_of_an_attribute(rt: HostRuntime) -> Result<(), Fail> {
@@ -66,9 +76,7 @@ fn lengths_of_an_attribute(rt: HostRuntime) -> Result<(), Fail> {
         (65535, "", (6, 8, 65535)),
     ];
     for (length, lines, ending) in rows.iter() {
-        let mut block = [0, 0, 1, 0, 0xaa, 0xbb, 0xcc, 0xdd];
-        NlaBuffer::new(&mut block[..]).set_length(*length);
-        let (output, ended) = nlas_of(rt.alloc(), &block)?;
+        let (output, ended) = nlas_of(rt.alloc(), &attribute_with_length(*length))?;
         assert_eq!(rt; output.as_slice(), lines.as_bytes(), "length {length}");
         assert!(rt; ended == *ending, "length {length}");
     }
@@ -79,34 +87,46 @@ fn lengths_of_an_attribute(rt: HostRuntime) -> Result<(), Fail> {
 #[test]
 fn lengths_of_a_body(rt: HostRuntime) {
     for size in 0..4u8 {
-        let mut frame = [0u8; 20];
-        frame[0] = 16 + size;
-        frame[4] = 2;
-        match &Message::deserialize(rt.alloc(), &frame) {
-            Err(
-                DecodeError::ErrorShort {
-                    size: said,
-                    inside: true,
-                },
-            ) => assert_eq!(rt; *said, usize::from(size)),
-            _ => assert!(rt; false, "{size} bytes of an error"),
-        }
-        frame[4] = 3;
-        match &Message::deserialize(rt.alloc(), &frame) {
-            Ok(message) => match &message.payload {
-                NetlinkPayload::Done(done) => {
-                    assert!(rt; size == 0 && done.code == 0 && done.extended_ack.is_empty());
-                }
-                _ => assert!(rt; false),
+        error_of_size(&rt, rt.alloc(), size);
+        done_of_size(&rt, rt.alloc(), size);
+    }
+}
+
+/// Returns a frame of this type whose length field is 16 and this size.
+fn body_of_size(kind: u8, size: u8) -> [u8; 20] {
+    let mut frame = [0u8; 20];
+    frame[0] = 16u8.saturating_add(size);
+    frame[4] = kind;
+    frame
+}
+
+fn error_of_size(rt: &impl Abort, alloc: Global, size: u8) {
+    match &read(alloc, &body_of_size(2, size)) {
+        Err(
+            DecodeError::ErrorShort {
+                size: said,
+                inside: true,
             },
-            Err(
-                DecodeError::DoneShort {
-                    size: said,
-                    inside: true,
-                },
-            ) => assert!(rt; size != 0 && *said == usize::from(size)),
-            Err(_) => assert!(rt; false, "{size} bytes of a done message"),
-        }
+        ) => assert_eq!(rt; *said, usize::from(size)),
+        _ => assert!(rt; false, "{size} bytes of an error"),
+    }
+}
+
+fn done_of_size(rt: &impl Abort, alloc: Global, size: u8) {
+    match &read(alloc, &body_of_size(3, size)) {
+        Ok(message) => match &message.payload {
+            NetlinkPayload::Done(done) => {
+                assert!(rt; size == 0 && done.code == 0 && done.extended_ack.is_empty());
+            }
+            _ => assert!(rt; false),
+        },
+        Err(
+            DecodeError::DoneShort {
+                size: said,
+                inside: true,
+            },
+        ) => assert!(rt; size != 0 && *said == usize::from(size)),
+        Err(_) => assert!(rt; false, "{size} bytes of a done message"),
     }
 }
 
@@ -133,13 +153,17 @@ fn the_longest_message(rt: HostRuntime) -> Result<(), Fail> {
     assert!(rt; longest.fits());
     let longer = NetlinkMessage::from_inner(Zeros(4294967280));
     assert!(rt; !longer.fits());
-    match normalize::<Zeros>(rt.alloc(), &counted(4294967280)) {
-        Err(refusal) => assert_eq!(rt; refusal.number(), 15),
-        Ok(_) => assert!(rt; false),
-    }
-    let frame = normalize::<Zeros>(rt.alloc(), &counted(4))?;
-    assert_eq!(rt; frame.as_slice(), FOUR_ZEROS.as_slice());
+    assert!(rt; refuses(normal_zeros(rt.alloc(), 4294967280), 15));
+    assert_eq!(rt;
+        normal_zeros(rt.alloc(), 4)?.as_slice(),
+        FOUR_ZEROS.as_slice()
+    );
     Ok(())
+}
+
+/// Returns the canonical frame of a count of zeros.
+pub(crate) fn normal_zeros(alloc: Global, count: u64) -> Result<Vec<u8>, DecodeError> {
+    normalize::<Zeros>(alloc, &counted(count))
 }
 
 /// Zeros are counted, or read as a count. Everything else is rejected.

@@ -9,17 +9,18 @@ use crate::ping_pong::PingPongMessage;
 use crate::samples::Zeros;
 use crate::tests::attributes::TWO;
 use crate::tests::datagrams::DATAGRAM;
-use crate::tests::lengths::{FOUR_ZEROS, counted};
+use crate::tests::lengths::{FOUR_ZEROS, normal_zeros};
 use crate::tests::memory_not_asked::attributes::Flag;
 use crate::tests::messages::{
-    CODED_DONE, DONE, EMPTY_DONE, Message, NOOP, OVERRUN, PING, PLAIN_DONE, PLAIN_NOOP,
+    CODED_DONE, DONE, EMPTY_DONE, Message, NOOP, OVERRUN, PING, PLAIN_DONE, PLAIN_NOOP, read,
+    read_view,
 };
 use crate::tests::refusals::UNKNOWN;
 use crate::text::show_text;
 use netlink_packet_core::{
     DecodeError, DefaultNla, DoneBuffer, DoneMessage, ErrorBuffer, ErrorContext, ErrorMessage,
-    NetlinkBuffer, NetlinkSerializable, NlaBuffer, NonZeroI32, Parseable, append_nla, copy_of,
-    is_canonical_frame, normalize, normalize_nlas, parse_string, write_nlas,
+    NetlinkSerializable, NlaBuffer, NonZeroI32, Parseable, append_nla, copy_of, is_canonical_frame,
+    normalize, normalize_nlas, parse_string, write_nlas,
 };
 use netlink_tree::{TreeFault, append_frame, is_well_formed, read_tree, write_tree};
 use std::alloc::Global;
@@ -104,7 +105,7 @@ fn an_attribute_is_read_and_copied(rt: HostRuntime) -> Result<(), Fail> {
 }
 
 #[test]
-fn bodies_are_read_and_copied(rt: HostRuntime) -> Result<(), Fail> {
+fn a_done_body_is_read_and_copied(rt: HostRuntime) -> Result<(), Fail> {
     let alloc = rt.alloc();
     let done = DoneMessage {
         code: 5,
@@ -115,6 +116,12 @@ fn bodies_are_read_and_copied(rt: HostRuntime) -> Result<(), Fail> {
         Err(_) => assert!(rt; false),
     }
     assert!(rt; done.try_clone(alloc)? == done);
+    Ok(())
+}
+
+#[test]
+fn an_error_body_is_read_and_copied(rt: HostRuntime) -> Result<(), Fail> {
+    let alloc = rt.alloc();
     let error = ErrorMessage {
         code: NonZeroI32::new(-8765),
         header: [6u8].to_vec(alloc)?,
@@ -172,10 +179,9 @@ fn messages_are_read(rt: HostRuntime) -> Result<(), Fail> {
     let alloc = rt.alloc();
     let frames: [&[u8]; 4] = [&PING, &DONE, &CODED_DONE, &OVERRUN];
     for frame in frames {
-        let message = Message::deserialize(alloc, frame)?;
+        let message = read(alloc, frame)?;
         assert!(rt; message.header.length as usize == frame.len());
-        let view = NetlinkBuffer::new_checked(frame)?;
-        assert!(rt; Message::parse(alloc, &view)? == message);
+        assert!(rt; read_view(alloc, frame)? == message);
     }
     Ok(())
 }
@@ -186,7 +192,7 @@ fn a_refused_message(rt: HostRuntime) -> Result<(), Fail> {
     let alloc = rt.alloc();
     let text =
         "Failed to parse message with type 19: invalid ping-pong message: invalid message type";
-    assert!(rt; refused_with(alloc, Message::deserialize(alloc, &UNKNOWN), text)?);
+    assert!(rt; refused_with(alloc, read(alloc, &UNKNOWN), text)?);
     Ok(())
 }
 
@@ -201,11 +207,22 @@ fn frames_are_normalised(rt: HostRuntime) -> Result<(), Fail> {
     for (frame, normal) in rows.iter() {
         assert!(rt; normalize::<PingPongMessage>(alloc, frame)?.as_slice() == *normal);
     }
-    let four = normalize::<Zeros>(alloc, &counted(4))?;
-    assert!(rt; four.as_slice() == FOUR_ZEROS.as_slice());
+    assert!(rt; normal_zeros(alloc, 4)?.as_slice() == FOUR_ZEROS.as_slice());
+    assert!(rt; is_canonical_frame::<PingPongMessage>(alloc, &PING)?);
+    Ok(())
+}
+
+#[test]
+fn a_frame_is_written(rt: HostRuntime) -> Result<(), Fail> {
+    let alloc = rt.alloc();
     let ping = Message::from_inner(PingPongMessage::Ping([0u8, 1, 2, 3].to_vec(alloc)?));
     assert!(rt; ping.into_frame(alloc)?.as_slice() == PING.as_slice());
-    assert!(rt; is_canonical_frame::<PingPongMessage>(alloc, &PING)?);
+    Ok(())
+}
+
+#[test]
+fn payloads_are_appended(rt: HostRuntime) -> Result<(), Fail> {
+    let alloc = rt.alloc();
     let mut text = Vec::new(alloc);
     Zeros(4).append(&mut text)?;
     PingPongMessage::Ping([5u8].to_vec(alloc)?).append(&mut text)?;

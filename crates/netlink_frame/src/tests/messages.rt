@@ -3,10 +3,11 @@
 use crate::ping_pong::PingPongMessage;
 use netlink_packet_core::laws::{frame_unique, reads_back, refusal_unique};
 use netlink_packet_core::{
-    DoneMessage, Emitable, ErrorMessage, NetlinkBuffer, NetlinkHeader, NetlinkMessage,
+    DecodeError, DoneMessage, Emitable, ErrorMessage, NetlinkBuffer, NetlinkHeader, NetlinkMessage,
     NetlinkPayload, NetlinkSerializable, NonZeroI32, Parseable, normalize,
 };
 use std::alloc::Global;
+use std::process::Abort;
 use std::test::Fail;
 
 pub type Message = NetlinkMessage<PingPongMessage>;
@@ -59,29 +60,60 @@ const LONG_ERROR: [u8; 24] = [
 
 pub const OVERRUN: [u8; 19] = [0x13, 0, 0, 0, 4, 0, 0, 0, 0, 0, 0, 0, 0, 0, 0, 0, 7, 8, 9];
 
+/// Reads a message. Has no contract, so that the proofs of tests are short.
+pub(crate) fn read(alloc: Global, bytes: &[u8]) -> Result<Message, DecodeError> {
+    Message::deserialize(alloc, bytes)
+}
+
+/// Reads the message of a view.
+pub(crate) fn read_view(alloc: Global, frame: &[u8]) -> Result<Message, DecodeError> {
+    let view = NetlinkBuffer::new_checked(frame)?;
+    Message::parse(alloc, &view)
+}
+
+/// Finalizes a message, and writes it by both of its functions. What follows it is unchanged.
+pub(crate) fn is_written_as(rt: &impl Abort, message: &mut Message, frame: &[u8]) {
+    assert!(rt; message.fits());
+    message.finalize();
+    let size = message.buffer_len();
+    assert_eq!(rt; size, frame.len());
+    let mut buffer = [0x55u8; 25];
+    assert!(rt; size < buffer.len());
+    message.serialize(&mut buffer);
+    assert_eq!(rt; &buffer[..size], frame);
+    assert_eq!(rt; buffer[size], 0x55);
+    let mut again = [0x55u8; 25];
+    message.emit(&mut again);
+    assert_eq!(rt; again, buffer);
+}
+
+/// Reads a message from its frame and one more byte, and from a view of its frame.
+fn reads_as(rt: &impl Abort, alloc: Global, message: &Message, frame: &[u8]) -> Result<(), Fail> {
+    let mut longer = frame.to_vec(alloc)?;
+    longer.push(0x55)?;
+    assert!(rt; read(alloc, &longer)? == *message);
+    assert!(rt; read_view(alloc, frame)? == *message);
+    Ok(())
+}
+
 #[test]
 fn a_ping_is_written_and_read_back(rt: HostRuntime) -> Result<(), Fail> {
     let bytes = [0u8, 1, 2, 3].to_vec(rt.alloc())?;
     let mut message = Message::from_inner(PingPongMessage::Ping(bytes));
+    is_written_as(&rt, &mut message, &PING);
+    reads_as(&rt, rt.alloc(), &message, &PING)?;
+    frame_unique::<PingPongMessage>();
+    Ok(())
+}
+
+#[test]
+fn a_ping_comes_apart(rt: HostRuntime) -> Result<(), Fail> {
+    let message = Message::deserialize(rt.alloc(), &PING)?;
     assert!(rt; message.fits());
     reads_back(&message, &message, &[0x21]);
-    message.finalize();
-    assert_eq!(rt; message.buffer_len(), 20);
-    let mut buffer = [0x55u8; 21];
-    message.serialize(&mut buffer);
-    assert_eq!(rt; &buffer[..20], PING.as_slice());
-    assert_eq!(rt; buffer[20], 0x55);
-    let back = Message::deserialize(rt.alloc(), &buffer)?;
-    assert!(rt; back == message);
-    let view = NetlinkBuffer::new_checked(&PING[..])?;
-    assert!(rt; Message::parse(rt.alloc(), &view)? == message);
-    let mut again = [0x55u8; 21];
-    message.emit(&mut again);
-    assert_eq!(rt; again, buffer);
-    let (header, payload) = back.into_parts();
+    let (header, payload) = message.into_parts();
     assert_eq!(rt; header.length, 20);
     assert_eq!(rt; payload.message_type(), 18);
-    frame_unique::<PingPongMessage>();
     Ok(())
 }
 
@@ -89,27 +121,24 @@ fn a_ping_is_written_and_read_back(rt: HostRuntime) -> Result<(), Fail> {
 fn a_pong_is_written_and_read_back(rt: HostRuntime) -> Result<(), Fail> {
     let bytes = [0u8, 1, 2, 3].to_vec(rt.alloc())?;
     let mut message = Message::from_inner(PingPongMessage::Pong(bytes));
-    assert!(rt; message.fits());
-    message.finalize();
-    assert_eq!(rt; message.buffer_len(), 20);
-    let mut buffer = [0x55u8; 20];
-    message.serialize(&mut buffer);
-    assert_eq!(rt; buffer, PONG);
-    let back = Message::deserialize(rt.alloc(), &PONG)?;
-    assert!(rt; back == message);
-    assert_eq!(rt; back.payload.message_type(), 20);
-    match &back.payload {
-        NetlinkPayload::InnerMessage(PingPongMessage::Pong(bytes)) => {
-            assert_eq!(rt; bytes.as_slice(), &PONG[16..]);
-        }
-        _ => assert!(rt; false),
-    }
+    is_written_as(&rt, &mut message, &PONG);
+    reads_as(&rt, rt.alloc(), &message, &PONG)?;
+    assert_eq!(rt; message.payload.message_type(), 20);
+    assert_eq!(rt; pong_of(&message), Some(&PONG[16..]));
     Ok(())
+}
+
+/// Returns the bytes of a pong.
+fn pong_of(message: &Message) -> Option<&[u8]> {
+    match &message.payload {
+        NetlinkPayload::InnerMessage(PingPongMessage::Pong(bytes)) => Some(bytes.as_slice()),
+        _ => None,
+    }
 }
 
 #[test]
 fn a_request_is_read(rt: HostRuntime) -> Result<(), Fail> {
-    let message = Message::deserialize(rt.alloc(), &REQUEST)?;
+    let message = read(rt.alloc(), &REQUEST)?;
     assert_eq!(rt; message.header.flags, 769);
     assert_eq!(rt; message.header.sequence_number, 1526271540);
     match &message.payload {
@@ -128,14 +157,8 @@ fn a_done_message_is_written(rt: HostRuntime) -> Result<(), Fail> {
         extended_ack: [6u8, 7, 8, 9].to_vec(rt.alloc())?,
     };
     let mut message = Message::new(NetlinkHeader::default(), NetlinkPayload::Done(body));
-    assert!(rt; message.fits());
-    message.finalize();
-    assert_eq!(rt; message.buffer_len(), 24);
-    let mut buffer = [1u8; 24];
-    message.serialize(&mut buffer);
-    assert_eq!(rt; buffer, DONE);
-    assert!(rt; Message::deserialize(rt.alloc(), &buffer)? == message);
-    Ok(())
+    is_written_as(&rt, &mut message, &DONE);
+    reads_as(&rt, rt.alloc(), &message, &DONE)
 }
 
 #[test]
@@ -145,14 +168,8 @@ fn an_error_message_is_written(rt: HostRuntime) -> Result<(), Fail> {
         header: Vec::new(rt.alloc()),
     };
     let mut message = Message::new(NetlinkHeader::default(), NetlinkPayload::Error(body));
-    assert!(rt; message.fits());
-    message.finalize();
-    assert_eq!(rt; message.buffer_len(), 20);
-    let mut buffer = [1u8; 20];
-    message.serialize(&mut buffer);
-    assert_eq!(rt; buffer, ERROR);
-    assert!(rt; Message::deserialize(rt.alloc(), &buffer)? == message);
-    Ok(())
+    is_written_as(&rt, &mut message, &ERROR);
+    reads_as(&rt, rt.alloc(), &message, &ERROR)
 }
 
 /// Returns the type, the code and the bytes of a payload that every protocol shares.
@@ -164,6 +181,16 @@ fn parts(message: &Message) -> (u16, i32, &[u8]) {
         NetlinkPayload::Overrun(bytes) => (4, 0, bytes.as_slice()),
         NetlinkPayload::InnerMessage(inner) => (inner.message_type(), 0, &[]),
     }
+}
+
+fn has_parts(rt: &impl Abort, message: &Message, size: usize, wanted: (u16, i32, &[u8])) {
+    let (kind, code, bytes) = wanted;
+    assert_eq!(rt; message.header.length as usize, size);
+    assert_eq!(rt; message.payload.message_type(), kind);
+    let (read_kind, read_code, read_bytes) = parts(message);
+    assert_eq!(rt; read_kind, kind);
+    assert_eq!(rt; read_code, code);
+    assert_eq!(rt; read_bytes, bytes);
 }
 
 /// Each frame with its payload's type, code and bytes, and the frame that it is normalized to.
@@ -180,13 +207,8 @@ fn shared_payloads(rt: HostRuntime) -> Result<(), Fail> {
         (&OVERRUN, 4, 0, &[7, 8, 9], &OVERRUN),
     ];
     for (frame, kind, code, bytes, normal) in rows.iter() {
-        let message = Message::deserialize(rt.alloc(), frame)?;
-        assert_eq!(rt; message.header.length as usize, frame.len());
-        assert_eq!(rt; message.payload.message_type(), *kind);
-        let (read_kind, read_code, read_bytes) = parts(&message);
-        assert_eq!(rt; read_kind, *kind);
-        assert_eq!(rt; read_code, *code);
-        assert_eq!(rt; read_bytes, *bytes);
+        let message = read(rt.alloc(), frame)?;
+        has_parts(&rt, &message, frame.len(), (*kind, *code, bytes));
         assert_eq!(rt; normal_of(rt.alloc(), frame)?.as_slice(), *normal);
     }
     Ok(())

@@ -1,10 +1,9 @@
 //! The lines of a message.
 
 use crate::command::Command;
-use crate::run::{Fault, run};
 use crate::tests::messages::{CODED_DONE, EMPTY_DONE, ERROR, NOOP, OVERRUN, PING, PONG, REQUEST};
+use crate::tests::outcomes::come_to;
 use crate::tests::refusals::SHORT_DONE;
-use netlink_packet_core::DecodeError;
 use std::test::Fail;
 
 const ACKNOWLEDGEMENT: [u8; 20] = [
@@ -54,11 +53,11 @@ const SHOWN: [(&[u8], &str); 9] = [
 #[test]
 fn each_kind_of_message(rt: HostRuntime) -> Result<(), Fail> {
     for (frame, lines) in SHOWN {
-        let mut reader = frame;
-        let mut output: Vec<u8> = Vec::new(rt.alloc());
-        let answer = run(rt.alloc(), Command::Show, &mut reader, &mut output);
-        assert!(rt; answer.is_ok());
-        assert_eq!(rt; output.as_slice(), lines.as_bytes());
+        come_to(
+            &rt,
+            rt.alloc(),
+            &[(Command::Show, frame, lines.as_bytes(), 0, "")],
+        )?;
     }
     Ok(())
 }
@@ -66,26 +65,11 @@ fn each_kind_of_message(rt: HostRuntime) -> Result<(), Fail> {
 /// The body of the done message has 3 bytes.
 #[test]
 fn a_refused_message_shows_nothing(rt: HostRuntime) -> Result<(), Fail> {
-    let mut reader: &[u8] = &SHORT_DONE;
-    let mut output: Vec<u8> = Vec::new(rt.alloc());
-    match run(rt.alloc(), Command::Show, &mut reader, &mut output) {
-        Err(Fault::Decode(cause)) => {
-            assert!(rt;
-                matches!(
-                    &cause,
-                    DecodeError::DoneShort {
-                        size: 3,
-                        inside: true,
-                    }
-                )
-            );
-            assert_eq!(rt;
-                cause.to_string(rt.alloc())?.as_str(),
-                "failed to parse NLMSG_DONE caused by invalid DoneBuffer length caused by invalid DoneBuffer: length is 3 but DoneBuffer are at least 4 bytes"
-            );
-        }
-        _ => assert!(rt; false),
-    }
-    assert!(rt; output.is_empty());
-    Ok(())
+    let text =
+        "failed to parse NLMSG_DONE caused by invalid DoneBuffer length caused by invalid DoneBuffer: length is 3 but DoneBuffer are at least 4 bytes";
+    come_to(
+        &rt,
+        rt.alloc(),
+        &[(Command::Show, &SHORT_DONE, &[], 12, text)],
+    )
 }

@@ -8,6 +8,7 @@ use crate::tests::refusals::refuses;
 use netlink_tree::{
     Frames, NlaTree, TreeFault, append_frame, frames_fault, is_well_formed, read_tree, write_tree,
 };
+use std::alloc::Global;
 use std::test::Fail;
 
 /// A frame goes into a datagram with room for it.
@@ -29,10 +30,8 @@ fn frames_of_a_datagram(rt: HostRuntime) -> Result<(), Fail> {
     Ok(())
 }
 
-/// Seventeen nests inside one another, and a value that no length field counts.
-#[test]
-fn trees_that_are_refused(rt: HostRuntime) -> Result<(), Fail> {
-    let alloc = rt.alloc();
+/// Returns seventeen nests inside one another.
+fn deep(alloc: Global) -> Result<Vec<NlaTree>, Fail> {
     let mut deep = Vec::new(alloc);
     for _ in 0..17 {
         let children = deep;
@@ -42,9 +41,22 @@ fn trees_that_are_refused(rt: HostRuntime) -> Result<(), Fail> {
             children,
         })?;
     }
+    Ok(deep)
+}
+
+/// Returns a leaf with a value that no length field counts.
+fn long(alloc: Global) -> Result<Vec<NlaTree>, Fail> {
     let mut long = Vec::with_capacity(alloc, 1)?;
     let value = vec![in alloc; 9; 65532]?;
     long.push(NlaTree::Leaf { kind: 1, value })?;
+    Ok(long)
+}
+
+#[test]
+fn trees_that_are_refused(rt: HostRuntime) -> Result<(), Fail> {
+    let alloc = rt.alloc();
+    let deep = deep(alloc)?;
+    let long = long(alloc)?;
     refuse_from_here(alloc);
     assert!(rt; is_well_formed(&deep) && is_well_formed(&long));
     if is_well_formed(&deep) && is_well_formed(&long) {

@@ -28,6 +28,11 @@ fn views_of_an_attribute(rt: HostRuntime) {
         }
         Err(_) => assert!(rt; false),
     }
+}
+
+#[test]
+fn views_that_are_refused(rt: HostRuntime) {
+    refuse_from_here(rt.alloc());
     let rows: [(&[u8], u8); 3] = [(&[5, 0, 1], 5), (&[5, 0, 1, 0], 6), (&[3, 0, 1, 0], 7)];
     for (bytes, number) in rows.iter() {
         assert!(rt; refuses(NlaBuffer::new_checked(*bytes), *number));
@@ -85,7 +90,6 @@ fn attributes_are_written(rt: HostRuntime) -> Result<(), Fail> {
     let nla = DefaultNla::new(0xc006, value);
     assert!(rt; nla.kind() == 0xc006 && nla.value_len() == 1);
     assert!(rt; nla.is_nested() && nla.is_network_byteorder());
-    assert!(rt; nla_align(5) == 8);
     assert!(rt; nla_buffer_len(&nla) == 8);
     assert!(rt; nla_fits(&nla));
     let mut buffer = [0x55u8; 9];
@@ -95,8 +99,16 @@ fn attributes_are_written(rt: HostRuntime) -> Result<(), Fail> {
     let mut again = [0x55u8; 9];
     nla.emit(&mut again);
     assert!(rt; again == buffer);
+    Ok(())
+}
+
+#[test]
+fn a_list_is_written(rt: HostRuntime) -> Result<(), Fail> {
+    refuse_from_here(rt.alloc());
+    assert!(rt; nla_align(5) == 8);
     let list = [Flag(9)];
     let nlas = Nlas(&list);
+    let mut again = [0x55u8; 9];
     assert!(rt; nlas.buffer_len() == 8);
     nlas.emit(&mut again);
     assert!(rt; again == [5, 0, 7, 0x40, 9, 0, 0, 0, 0x55]);
@@ -106,9 +118,8 @@ fn attributes_are_written(rt: HostRuntime) -> Result<(), Fail> {
 }
 
 #[test]
-fn blocks_are_walked(rt: HostRuntime) -> Result<(), Fail> {
-    let alloc = rt.alloc();
-    refuse_from_here(alloc);
+fn blocks_are_walked(rt: HostRuntime) {
+    refuse_from_here(rt.alloc());
     let mut walk = NlasIterator::new(&SHORT);
     assert!(rt; matches!(walk.next(), Some(Ok(_))));
     match walk.next() {
@@ -117,6 +128,11 @@ fn blocks_are_walked(rt: HostRuntime) -> Result<(), Fail> {
     }
     assert!(rt; walk.next().is_none());
     assert!(rt; walk == NlasIterator::new(&[]));
+}
+
+#[test]
+fn attributes_are_found(rt: HostRuntime) {
+    refuse_from_here(rt.alloc());
     assert!(rt; nla_place(&TWO, 1) == Some((12, 16)) && nla_place(&TWO, 2).is_none());
     assert!(rt; nla_find(&TWO, 2) == Some(1) && nla_find(&TWO, 3).is_none());
     assert!(rt; nla_find_raw(&TWO, 2) == Some(1) && nla_find_raw(&TWO, 0x8002).is_none());
@@ -125,20 +141,34 @@ fn blocks_are_walked(rt: HostRuntime) -> Result<(), Fail> {
         Some(fault) => assert!(rt; fault.number() == 7),
         None => assert!(rt; false),
     }
+}
+
+#[test]
+fn blocks_are_normalised(rt: HostRuntime) -> Result<(), Fail> {
+    let alloc = rt.alloc();
+    refuse_from_here(alloc);
+    assert!(rt; is_canonical_nlas(&TWO) && !is_canonical_nlas(&SHORT));
     assert!(rt; normalize_nlas(alloc, &[])?.is_empty());
     let damaged: [(&[u8], u8); 3] = [(&TWO[..9], 5), (&TWO[..15], 6), (&SHORT, 7)];
     for (block, number) in damaged.iter() {
         assert!(rt; refuses(normalize_nlas(alloc, block), *number));
     }
+    Ok(())
+}
+
+#[test]
+fn values_are_written_over(rt: HostRuntime) {
+    refuse_from_here(rt.alloc());
     let mut block = TWO;
     assert!(rt; overwrite(&mut block, 0, &[0xbb]));
     assert!(rt; !overwrite(&mut block, 1, &[0xbb]));
     assert!(rt; write_nla_value(&mut block, 0, &[0xbb]) && !write_nla_value(&mut block, 2, &[]));
     assert!(rt; block == [5, 0, 1, 0, 0xbb, 0, 0, 0, 8, 0, 2, 0, 1, 2, 3, 4]);
-    assert!(rt; is_canonical_nlas(&TWO) && !is_canonical_nlas(&SHORT));
-    assert!(rt; nlas_value_mut(&mut block, 0).is_some_and(|value| value.len() == 1));
+    match nlas_value_mut(&mut block, 0) {
+        Some(value) => assert!(rt; value.len() == 1),
+        None => assert!(rt; false),
+    }
     assert!(rt; nlas_value_mut(&mut block, 2).is_none());
-    Ok(())
 }
 
 /// An attribute goes into a block with room for it and its padding.

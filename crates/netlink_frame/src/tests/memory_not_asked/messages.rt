@@ -2,13 +2,14 @@
 
 use crate::ping_pong::PingPongMessage;
 use crate::samples::Zeros;
-use crate::tests::lengths::counted;
+use crate::tests::lengths::normal_zeros;
 use crate::tests::mark::refuse_from_here;
-use crate::tests::messages::{CODED_DONE, EMPTY_DONE, ERROR, Message, NOOP, PING};
+use crate::tests::messages::{
+    CODED_DONE, EMPTY_DONE, ERROR, Message, NOOP, PING, is_written_as, read, read_view,
+};
 use crate::tests::refusals::{UNKNOWN, refuses};
 use netlink_packet_core::{
-    Emitable, NetlinkBuffer, NetlinkHeader, NetlinkMessage, NetlinkPayload, NetlinkSerializable,
-    Parseable, is_canonical_frame, normalize,
+    NetlinkHeader, NetlinkMessage, NetlinkPayload, NetlinkSerializable, is_canonical_frame,
 };
 use std::test::Fail;
 
@@ -21,16 +22,17 @@ fn a_message_is_written(rt: HostRuntime) -> Result<(), Fail> {
     assert!(rt; ping.is_written_as(alloc, &PING[16..]).ok() == Some(true));
     assert!(rt; ping.is_written_as(alloc, &PING[17..]).ok() == Some(false));
     let mut message = Message::from_inner(ping);
+    is_written_as(&rt, &mut message, &PING);
+    Ok(())
+}
+
+#[test]
+fn a_message_comes_apart(rt: HostRuntime) -> Result<(), Fail> {
+    let mut message = read(rt.alloc(), &PING)?;
+    refuse_from_here(rt.alloc());
     assert!(rt; message.fits());
     message.finalize();
-    assert!(rt; message.buffer_len() == 20);
     assert!(rt; message.payload.message_type() == 18);
-    let mut buffer = [0x55u8; 21];
-    message.serialize(&mut buffer);
-    assert!(rt; &buffer[..20] == &PING[..] && buffer[20] == 0x55);
-    let mut again = [0x55u8; 21];
-    message.emit(&mut again);
-    assert!(rt; again == buffer);
     let (header, payload) = message.into_parts();
     assert!(rt; header.length == 20);
     let renewed = Message::new(NetlinkHeader::default(), payload);
@@ -58,11 +60,10 @@ fn messages_with_nothing_to_copy(rt: HostRuntime) -> Result<(), Fail> {
         (&EMPTY_OVERRUN, 4, 0, true),
     ];
     for (frame, kind, code, canonical) in rows.iter() {
-        let message = Message::deserialize(alloc, frame)?;
+        let message = read(alloc, frame)?;
         assert!(rt; message.header.length as usize == frame.len());
         assert!(rt; kind_and_code(&message) == (*kind, *code));
-        let view = NetlinkBuffer::new_checked(*frame)?;
-        assert!(rt; Message::parse(alloc, &view)? == message);
+        assert!(rt; read_view(alloc, frame)? == message);
         let verdict = is_canonical_frame::<PingPongMessage>(alloc, frame);
         assert!(rt; verdict.ok() == Some(*canonical));
     }
@@ -95,11 +96,11 @@ fn refusals_without_words(rt: HostRuntime) {
         (&short_error, 13),
     ];
     for (bytes, number) in rows.iter() {
-        assert!(rt; refuses(Message::deserialize(alloc, bytes), *number));
+        assert!(rt; refuses(read(alloc, bytes), *number));
         let verdict = is_canonical_frame::<PingPongMessage>(alloc, bytes);
         assert!(rt; verdict.ok() == Some(false));
     }
-    assert!(rt; refuses(normalize::<Zeros>(alloc, &counted(4294967280)), 15));
+    assert!(rt; refuses(normal_zeros(alloc, 4294967280), 15));
     let long = NetlinkMessage::from_inner(Zeros(4294967280));
     assert!(rt; refuses(long.into_frame(alloc), 15));
 }
