@@ -210,37 +210,40 @@ fn errors_in_chosen_nests_have_their_offset(rt: HostRuntime) -> Result<(), Fail>
 }
 
 #[test]
-fn chosen_nests_are_copied_and_shown(rt: HostRuntime) -> Result<(), Fail> {
-    let alloc = rt.alloc();
-    let view = MessageView::<Choosing>::new(CHOOSING, &BEFORE)?;
-    assert_eq!(rt;
-        view.show(alloc)?.as_str(),
-        "type 101\nlinkinfo:\n  data:\n    id: 10\n  kind: vlan\n"
-    );
-    let message = view.to_owned(alloc)?;
-    assert!(rt; message.bytes.as_slice() == BEFORE.as_slice());
+fn chosen_nests_are_shown(rt: HostRuntime) -> Result<(), Fail> {
+    let rows: [(&[u8], &str); 2] = [
+        (
+            &BEFORE,
+            "type 101\nlinkinfo:\n  data:\n    id: 10\n  kind: vlan\n",
+        ),
+        (
+            &UNKNOWN,
+            "type 101\nlinkinfo:\n  kind: vlaM\n  data: 010203\n",
+        ),
+    ];
+    for (payload, text) in rows.iter() {
+        let view = MessageView::<Choosing>::new(CHOOSING, payload)?;
+        assert_eq!(rt; view.show(rt.alloc())?.as_str(), *text);
+    }
+    Ok(())
+}
+
+/// Padding in a nest is kept, as in any value.
+#[test]
+fn chosen_nests_are_copied(rt: HostRuntime) -> Result<(), Fail> {
     let mut dirty = KERNEL;
-    // padding in a nest is kept, as in any value
     dirty[13] = 9;
-    let message = MessageView::<Choosing>::new(CHOOSING, &dirty)?.to_owned(alloc)?;
-    assert!(rt; message.bytes.as_slice() == dirty.as_slice());
-    assert_eq!(rt;
-        MessageView::<Choosing>::new(CHOOSING, &UNKNOWN)?
-            .show(alloc)?
-            .as_str(),
-        "type 101\nlinkinfo:\n  kind: vlaM\n  data: 010203\n"
-    );
+    let rows: [&[u8]; 2] = [&BEFORE, &dirty];
+    for payload in rows {
+        let message = MessageView::<Choosing>::new(CHOOSING, payload)?.to_owned(rt.alloc())?;
+        assert!(rt; message.bytes.as_slice() == payload);
+    }
     Ok(())
 }
 
 #[test]
-fn an_attribute_must_not_choose_for_those_before_it(rt: HostRuntime) -> Result<(), Fail> {
+fn a_kind_chooses_for_those_after_it(rt: HostRuntime) -> Result<(), Fail> {
     let alloc = rt.alloc();
-    let late = FamilyError::InvalidAttribute(AttributeError {
-        offset: 0,
-        policy: TOP,
-        reason: Reason::LateChoice { kind: KIND },
-    });
     let wrong = FamilyError::InvalidAttribute(AttributeError {
         offset: 4,
         policy: VLAN,
@@ -266,6 +269,17 @@ fn an_attribute_must_not_choose_for_those_before_it(rt: HostRuntime) -> Result<(
         b'e', b't', b'h',
     ];
     assert!(rt; message.bytes.as_slice() == same.as_slice());
+    Ok(())
+}
+
+#[test]
+fn an_attribute_must_not_choose_for_those_before_it(rt: HostRuntime) -> Result<(), Fail> {
+    let alloc = rt.alloc();
+    let late = FamilyError::InvalidAttribute(AttributeError {
+        offset: 0,
+        policy: TOP,
+        reason: Reason::LateChoice { kind: KIND },
+    });
     let mut message: ChoosingMessage = OwnedMessage::new(alloc, CHOOSING)?;
     message.try_push(alloc, DATA, &[1])?;
     assert!(rt; message.push(alloc, KIND, Value::Str(b"vlan")).err() == Some(late));

@@ -7,6 +7,7 @@ use crate::rules::{FRA_IIFNAME, FRA_L3MDEV, FRA_TUN_ID, MARK, RTM_NEWRULE};
 use crate::tables::{NDTA_NAME, NDTA_PARMS, NDTA_THRESH1, PARMS};
 use netlink_family::{AttributeError, FamilyError, Reason, Shape, Value};
 use netlink_packet_core::{NetlinkDeserializable, NetlinkHeader, normalize};
+use std::alloc::Global;
 use std::test::Fail;
 
 const NEIGHBOUR: [u8; 56] = [
@@ -42,14 +43,18 @@ fn getters_return_the_first_of_a_kind(rt: HostRuntime) -> Result<(), Fail> {
     Ok(())
 }
 
-#[test]
-fn flag_bits_are_ignored(rt: HostRuntime) -> Result<(), Fail> {
-    let alloc = rt.alloc();
+/// Decodes the payload of a message about a neighbour table.
+fn table_of(alloc: Global, payload: &[u8]) -> Result<Route, FamilyError> {
     let header = NetlinkHeader {
         message_type: 64,
         ..NetlinkHeader::default()
     };
-    let message = Route::deserialize(alloc, &header, &FLAGGED[16..])?;
+    Route::deserialize(alloc, &header, payload)
+}
+
+#[test]
+fn flag_bits_are_ignored(rt: HostRuntime) -> Result<(), Fail> {
+    let message = table_of(rt.alloc(), &FLAGGED[16..])?;
     assert!(rt; message.view().u32(NDTA_THRESH1) == Some(128));
     assert!(rt; message.view().str_bytes(NDTA_NAME) == Some(b"a".as_slice()));
     match message.view().value(NDTA_PARMS) {
@@ -59,16 +64,27 @@ fn flag_bits_are_ignored(rt: HostRuntime) -> Result<(), Fail> {
         }
         _ => assert!(rt; false),
     }
+    Ok(())
+}
+
+#[test]
+fn flag_bits_are_kept(rt: HostRuntime) -> Result<(), Fail> {
     assert_eq!(rt;
-        normalize::<Route>(alloc, &FLAGGED)?.as_slice(),
+        normalize::<Route>(rt.alloc(), &FLAGGED)?.as_slice(),
         FLAGGED.as_slice()
     );
+    Ok(())
+}
+
+/// An error has the kind as received, and the table its name.
+#[test]
+fn errors_keep_flag_bits(rt: HostRuntime) {
     let mut bad = FLAGGED;
     bad[34] = 2; // NDTPA_REFCNT has the same size; NDTPA_REACHABLE_TIME, 3, does not
-    assert!(rt; Route::deserialize(alloc, &header, &bad[16..]).is_ok());
+    assert!(rt; table_of(rt.alloc(), &bad[16..]).is_ok());
     bad[34] = 3;
-    bad[35] = 0x80; // the error has the kind as received, and the table its name
-    let error = AttributeError {
+    bad[35] = 0x80;
+    let error = FamilyError::InvalidAttribute(AttributeError {
         offset: 16,
         policy: PARMS,
         reason: Reason::WrongSize {
@@ -76,20 +92,15 @@ fn flag_bits_are_ignored(rt: HostRuntime) -> Result<(), Fail> {
             expected: 8,
             received: 4,
         },
-    };
-    let found = Route::deserialize(alloc, &header, &bad[16..]).err();
-    assert!(rt; found == Some(FamilyError::InvalidAttribute(error)));
-    assert_eq!(rt;
-        name_of_error(64, &FamilyError::InvalidAttribute(error)),
-        "NDTPA_REACHABLE_TIME"
-    );
-    Ok(())
+    });
+    assert_eq!(rt; name_of_error(64, &error), "NDTPA_REACHABLE_TIME");
+    assert!(rt; table_of(rt.alloc(), &bad[16..]).err() == Some(error));
 }
 
 #[test]
 fn getters_decode_each_shape(rt: HostRuntime) -> Result<(), Fail> {
     let alloc = rt.alloc();
-    let mut header = NetlinkHeader {
+    let header = NetlinkHeader {
         message_type: 28,
         ..NetlinkHeader::default()
     };
@@ -105,14 +116,22 @@ fn getters_decode_each_shape(rt: HostRuntime) -> Result<(), Fail> {
     assert!(rt; port(&neighbour) == Some(0x1234));
     assert!(rt; neighbour.view().ip(NDA_CACHEINFO) == None);
     assert!(rt; neighbour.view().bytes(NDA_DST) == None);
-    header.message_type = RTM_NEWRULE;
+    Ok(())
+}
+
+#[test]
+fn getters_decode_each_shape_of_a_rule(rt: HostRuntime) -> Result<(), Fail> {
+    let header = NetlinkHeader {
+        message_type: RTM_NEWRULE,
+        ..NetlinkHeader::default()
+    };
     let payload = [
         2, 0, 0, 0, 0, 0, 0, 0, 0, 0, 0, 0, // header
         7, 0, 3, 0, b'e', b't', b'h', 0, // FRA_IIFNAME
         12, 0, 12, 0, 0, 0, 0, 0, 0, 0, 1, 2, // FRA_TUN_ID
         5, 0, 19, 0, 1, 0, 0, 0, // FRA_L3MDEV
     ];
-    let rule = Route::deserialize(alloc, &header, &payload)?;
+    let rule = Route::deserialize(rt.alloc(), &header, &payload)?;
     assert!(rt; rule.view().str(FRA_IIFNAME) == Some("eth"));
     assert!(rt; rule.view().str_bytes(FRA_IIFNAME) == Some(b"eth".as_slice()));
     assert!(rt; rule.view().be64(FRA_TUN_ID) == Some(258));

@@ -8,6 +8,8 @@ use netlink_packet_core::laws::reads_back;
 use netlink_packet_core::{
     NetlinkDeserializable, NetlinkHeader, NetlinkMessage, NetlinkPayload, normalize,
 };
+use std::alloc::Global;
+use std::process::Abort;
 use std::test::Fail;
 
 const NEIGHBOUR: [u8; 36] = [
@@ -38,21 +40,22 @@ fn one_type_decodes_every_family(rt: HostRuntime) -> Result<(), Fail> {
         (&RULE, None, Some(Value::U32(32767))),
     ];
     for (datagram, link, number) in rows.iter() {
-        let message = NetlinkMessage::<Route>::deserialize(alloc, datagram)?;
-        assert!(rt; message.fits());
-        reads_back(&message, &message, &[7]);
-        assert_eq!(rt; normalize::<Route>(alloc, datagram)?.as_slice(), *datagram);
-        let payload = &message.payload;
-        match payload {
-            NetlinkPayload::InnerMessage(inner) => {
-                assert!(rt; threshold_or_priority(inner) == *number);
-                assert!(rt; link_of(inner) == *link);
-            }
-            _ => assert!(rt; false),
-        }
-        let inner = Route::deserialize(alloc, &message.header, &datagram[16..])?;
+        reads_and_writes(&rt, alloc, datagram)?;
+        let header = NetlinkMessage::<Route>::deserialize(alloc, datagram)?.header;
+        let inner = Route::deserialize(alloc, &header, &datagram[16..])?;
+        assert!(rt; threshold_or_priority(&inner) == *number);
+        assert!(rt; link_of(&inner) == *link);
         assert!(rt; neighbour_link(inner) == *link);
     }
+    Ok(())
+}
+
+fn reads_and_writes(rt: &impl Abort, alloc: Global, datagram: &[u8]) -> Result<(), Fail> {
+    let message = NetlinkMessage::<Route>::deserialize(alloc, datagram)?;
+    assert!(rt; message.fits());
+    reads_back(&message, &message, &[7]);
+    assert!(rt; matches!(message.payload, NetlinkPayload::InnerMessage(_)));
+    assert_eq!(rt; normalize::<Route>(alloc, datagram)?.as_slice(), datagram);
     Ok(())
 }
 
@@ -104,13 +107,19 @@ const SHORT: Field = ("short", 6, Shape::U16);
 
 const BIG_SHORT: Field = ("big short", 6, Shape::Be16);
 
-#[test]
-fn header_fields_are_written_and_read(rt: HostRuntime) -> Result<(), Fail> {
-    let mut message = Route::new(rt.alloc(), RTM_NEWRULE)?;
+/// Returns a rule with each of these fields.
+fn rule(alloc: Global) -> Result<Route, Fail> {
+    let mut message = Route::new(alloc, RTM_NEWRULE)?;
     message.set_i32(SIGNED, -2);
     message.set_u16(SHORT, 0x0506);
     message.set_u8(FRH_TABLE, 9);
     message.set_u32(FRH_FLAGS, 0x01020304);
+    Ok(message)
+}
+
+#[test]
+fn header_fields_are_written_and_read(rt: HostRuntime) -> Result<(), Fail> {
+    let message = rule(rt.alloc())?;
     let header = message.header();
     assert!(rt; header.bytes == [0xfe, 0xff, 0xff, 0xff, 9, 0, 6, 5, 4, 3, 2, 1].as_slice());
     assert!(rt; header.i32(SIGNED) == -2);
