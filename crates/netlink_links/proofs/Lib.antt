@@ -1,5 +1,8 @@
 pub mod Frames
+pub mod Hops
+pub mod Joined
 pub mod Once
 pub mod Running
 pub mod Shown
+pub mod Signed
 pub mod Steps

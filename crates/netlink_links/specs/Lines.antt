@@ -6,6 +6,11 @@ use Rattle.netlink_family.specs.Shapes.{has_type}
 use Rattle.netlink_links.specs.Ack.{text_words}
 use Rattle.netlink_links.specs.Address.{address_line}
 use Rattle.netlink_links.specs.Link.{link_line}
+use Rattle.netlink_links.specs.Namespace.{namespace_line}
+use Rattle.netlink_links.specs.Neighbour.{neighbour_line}
+use Rattle.netlink_links.specs.NeighbourTable.{neighbour_table_line}
+use Rattle.netlink_links.specs.Route.{route_entry_line}
+use Rattle.netlink_links.specs.Rule.{rule_line}
 
 -- a code other than 0
 abbrev pub code_words : ℤ → List ℕ
@@ -28,9 +33,40 @@ link_types = 16 ∷ 17 ∷ 18 ∷ 19 ∷ []
 abbrev pub address_types : List ℕ
 address_types = 20 ∷ 21 ∷ 22 ∷ []
 
--- the line of a message type and a payload, if it is about a link or an address
+-- those of routes, neighbours, rules, neighbour tables and ids of network namespaces
+abbrev pub route_types : List ℕ
+route_types = 24 ∷ 25 ∷ 26 ∷ []
+
+abbrev pub neighbour_types : List ℕ
+neighbour_types = 28 ∷ 29 ∷ 30 ∷ []
+
+abbrev pub rule_types : List ℕ
+rule_types = 32 ∷ 33 ∷ 34 ∷ []
+
+abbrev pub neighbour_table_types : List ℕ
+neighbour_table_types = 64 ∷ 66 ∷ 67 ∷ []
+
+abbrev pub namespace_types : List ℕ
+namespace_types = 88 ∷ 89 ∷ 90 ∷ []
+
+-- the line of a message that is about a rule, a neighbour table or an id of a namespace
+abbrev pub later_line : ℕ → List ℕ → Option (List ℕ)
+later_line t payload =
+    if has_type rule_types t then rule_line t payload
+    else if has_type neighbour_table_types t then neighbour_table_line [] t payload
+    else if has_type namespace_types t then namespace_line t payload
+    else None
+
+-- the line of a message that is about neither a link nor an address; no link has a known name
+abbrev pub other_line : ℕ → List ℕ → Option (List ℕ)
+other_line t payload =
+    if has_type neighbour_types t then Some (neighbour_line [] t payload)
+    else if has_type route_types t then route_entry_line [] t payload
+    else later_line t payload
+
+-- the line of a message type and a payload, if it has one
 unfoldable pub route_line : ℕ × List ℕ → Option (List ℕ)
 route_line (t, payload) =
     if has_type link_types t then Some (link_line t payload)
     else if has_type address_types t then Some (address_line t payload)
-    else None
+    else other_line t payload

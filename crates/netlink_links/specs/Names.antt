@@ -1,6 +1,7 @@
 -- The names of numbers, as `ip` writes them.
-use Rattle.std.specs.Prelude.{ℕ, ◌==◌, false, List, [], ◌++◌, codes, decimal, if◌then◌else◌}
+use Rattle.std.specs.Prelude.{ℕ, ◌==◌, ◌||◌, false, List, [], ◌++◌, codes, decimal, if◌then◌else◌}
 use Rattle.std.specs.Fmt.{digits}
+use Rattle.netlink_route.specs.Names.{name_or_number, route_protocol_name, route_type_name}
 
 -- IF_OPER_* of linux/if.h
 abbrev pub state_text : ℕ → List ℕ
@@ -57,3 +58,20 @@ link_verb_text t =
 abbrev pub address_verb_text : ℕ → List ℕ
 address_verb_text t =
     if t == 21 then codes "Deleted " else if t == 22 then codes "Get " else []
+
+-- RT_TABLE_* of linux/rtnetlink.h
+unfoldable pub table_text : ℕ → List ℕ
+table_text n =
+    if n == 253 then codes "default"
+    else if n == 254 then codes "main"
+    else if n == 255 then codes "local"
+    else decimal n
+
+-- RTPROT_*, without two names that are not built into `ip`
+unfoldable pub protocol_text : ℕ → List ℕ
+protocol_text n =
+    if n == 17 || n == 99 then decimal n else name_or_number (route_protocol_name n) n
+
+-- RTN_*
+unfoldable pub route_type_text : ℕ → List ℕ
+route_type_text n = if n == 0 then codes "none" else name_or_number (route_type_name n) n

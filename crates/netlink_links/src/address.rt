@@ -87,7 +87,7 @@ fn broadcast_ip<'a>(address: &MessageView<'a, Addresses>) -> &'a [u8]
 }
 
 /// Returns the bytes, or none.
-fn or_empty<'a>(found: Option<&'a [u8]>) -> &'a [u8]
+pub(crate) fn or_empty<'a>(found: Option<&'a [u8]>) -> &'a [u8]
     ensures { result.now ≡ or_empty (option_copied found.entry) }
 {
     match found {

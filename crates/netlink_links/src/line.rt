@@ -2,13 +2,18 @@
 
 ghost use Rattle.std.specs.Prelude.{◌≡◌, IfOk, string_bytes};
 ghost use Rattle.std.specs.Option.{option_copied, option_map};
-ghost use Rattle.netlink_links.specs.Lines.{code_words, done_line, error_line, route_line};
+ghost use Rattle.netlink_links.specs.Lines.{code_words, done_line, error_line, later_line, other_line, route_line};
 
 use crate::ack::text_words;
 use crate::address::address_text;
 use crate::link::link_text;
-use netlink_family::{Family, Joined, MessageView};
-use netlink_route::RouteTables;
+use crate::namespace::namespace_text;
+use crate::neighbour::neighbour_text;
+use crate::neighbour_table::neighbour_table_text;
+use crate::route::route_text;
+use crate::rule::rule_text;
+use netlink_family::{Both, Family, Joined, MessageView};
+use netlink_route::{Namespaces, NeighbourTables, Neighbours, RouteTables, Routes, Rules};
 use std::alloc::{AllocError, Global};
 
 /// A family whose messages may have lines.
@@ -20,8 +25,8 @@ pub trait Line: Family {
 }
 
 impl Line for Joined<RouteTables> {
-    /// Returns the line of a link or an address as `ip -o` writes it, and `None` for any other
-    /// message.
+    /// Returns the line of a message as `ip -o` writes it, and `None` for one that `ip` does not
+    /// write, such as a request for routes.
     #[tactic(auto, unfolding(crate::specs::Lines::route_line))]
     fn line(
         alloc: Global,
@@ -31,9 +36,48 @@ impl Line for Joined<RouteTables> {
             Ok(link) => Ok(Some(link_text(alloc, &link)?)),
             Err(other) => match other.split() {
                 Ok(address) => Ok(Some(address_text(alloc, &address)?)),
-                Err(_) => Ok(None),
+                Err(other) => other_line(alloc, &other),
             },
         }
+    }
+}
+
+/// The tables that follow those of links and addresses, and those that follow routes.
+type OtherTables = Both<Neighbours, Both<Routes, LaterTables>>;
+
+type LaterTables = Both<Rules, Both<NeighbourTables, Namespaces>>;
+
+/// Returns the line of a message about neither a link nor an address, if it has one.
+fn other_line(
+    alloc: Global,
+    message: &MessageView<'_, OtherTables>,
+) -> Result<Option<String>, AllocError>
+    ensures { IfOk result (λ text. option_map string_bytes text
+        ≡ other_line message.now.message_type message.now.payload.now) }
+{
+    match message.split() {
+        Ok(neighbour) => Ok(Some(neighbour_text(alloc, &[], &neighbour)?)),
+        Err(other) => match other.split() {
+            Ok(route) => route_text(alloc, &[], &route),
+            Err(other) => later_line(alloc, &other),
+        },
+    }
+}
+
+/// Returns the line of a message about a rule, a neighbour table or an id of a namespace.
+fn later_line(
+    alloc: Global,
+    message: &MessageView<'_, LaterTables>,
+) -> Result<Option<String>, AllocError>
+    ensures { IfOk result (λ text. option_map string_bytes text
+        ≡ later_line message.now.message_type message.now.payload.now) }
+{
+    match message.split() {
+        Ok(rule) => rule_text(alloc, &rule),
+        Err(other) => match other.split() {
+            Ok(table) => neighbour_table_text(alloc, &[], &table),
+            Err(namespace) => namespace_text(alloc, &namespace),
+        },
     }
 }
 

@@ -4,6 +4,7 @@
 
 mod ack;
 mod address;
+mod device;
 mod ending;
 mod flags;
 pub mod laws;
@@ -11,6 +12,18 @@ mod line;
 mod link;
 mod messages;
 mod names;
+mod namespace;
+mod neighbour;
+mod neighbour_table;
+mod parts;
+mod route;
+mod route_cache;
+mod route_hops;
+mod route_metrics;
+mod route_names;
+mod rule;
+mod rule_ends;
+mod rule_matches;
 mod run;
 mod stream;
 #[cfg(test)]

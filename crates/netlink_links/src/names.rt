@@ -1,8 +1,9 @@
 //! The names of numbers.
 
 ghost use Rattle.std.specs.Prelude.{◌≡◌, IfOk, string_bytes};
-ghost use Rattle.netlink_links.specs.Names.{family_text, hardware_text, scope_text, state_text};
+ghost use Rattle.netlink_links.specs.Names.{family_text, hardware_text, protocol_text, route_type_text, scope_text, state_text, table_text};
 
+use netlink_route::{RouteProtocol, RouteType};
 use std::alloc::{AllocError, Global};
 
 /// Returns the name of an operational state, an `IF_OPER_*` of linux/if.h; for any other number,
@@ -70,4 +71,41 @@ pub(crate) fn scope_text(alloc: Global, scope: u8) -> Result<String, AllocError>
         _ => return format!(in alloc; "{scope}"),
     };
     String::from_str(alloc, name)
+}
+
+/// Returns the name of a routing table, an `RT_TABLE_*` of linux/rtnetlink.h; for any other number,
+/// the number in decimal.
+#[tactic(auto, unfolding(crate::specs::Names::table_text))]
+pub(crate) fn table_text(alloc: Global, table: u32) -> Result<String, AllocError>
+    ensures { IfOk result (λ text. string_bytes text ≡ table_text table) }
+{
+    let name = match table {
+        253 => "default",
+        254 => "main",
+        255 => "local",
+        _ => return format!(in alloc; "{table}"),
+    };
+    String::from_str(alloc, name)
+}
+
+/// Returns the name of who installed a route. `ip` itself knows no name for 17 and 99.
+#[tactic(auto, unfolding(crate::specs::Names::protocol_text))]
+pub(crate) fn protocol_text(alloc: Global, protocol: u8) -> Result<String, AllocError>
+    ensures { IfOk result (λ text. string_bytes text ≡ protocol_text protocol) }
+{
+    if protocol == 17 || protocol == 99 {
+        return format!(in alloc; "{protocol}");
+    }
+    RouteProtocol(protocol).to_string(alloc)
+}
+
+/// Returns the name of a type of route; `none` for the type 0.
+#[tactic(auto, unfolding(crate::specs::Names::route_type_text))]
+pub(crate) fn route_type_text(alloc: Global, route_type: u8) -> Result<String, AllocError>
+    ensures { IfOk result (λ text. string_bytes text ≡ route_type_text route_type) }
+{
+    if route_type == 0 {
+        return String::from_str(alloc, "none");
+    }
+    RouteType(route_type).to_string(alloc)
 }

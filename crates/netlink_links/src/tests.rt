@@ -2,5 +2,9 @@
 
 mod endings;
 mod lines;
+mod neighbour_lines;
+mod other_lines;
+mod route_lines;
+mod rule_lines;
 mod runs;
 mod words;

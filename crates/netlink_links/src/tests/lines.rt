@@ -42,9 +42,15 @@ const OTHERS: [u8; 136] = [
     8, 0, 1, 0, b'a', b' ', b'b', 0, // NLMSGERR_ATTR_MSG
 ];
 
-/// A request for all neighbours (linux/neighbour.h), of which there is no line yet.
+/// A request for all neighbours (linux/neighbour.h).
 const NEIGHBOURS: [u8; 28] = [
     28, 0, 0, 0, 30, 0, 1, 3, 1, 0, 0, 0, 0, 0, 0, 0, // length 28, RTM_GETNEIGH
+    2, 0, 0, 0, 0, 0, 0, 0, 0, 0, 0, 0, // AF_INET
+];
+
+/// A request for all routes of IPv4 (linux/rtnetlink.h), of which there is no line.
+const REQUEST: [u8; 28] = [
+    28, 0, 0, 0, 26, 0, 1, 3, 1, 0, 0, 0, 0, 0, 0, 0, // length 28, RTM_GETROUTE
     2, 0, 0, 0, 0, 0, 0, 0, 0, 0, 0, 0, // AF_INET
 ];
 
@@ -57,7 +63,7 @@ const LATIN: [u8; 40] = [
 
 #[test]
 fn messages_have_lines(rt: HostRuntime) -> Result<(), Fail> {
-    let rows: [(&[u8], &str); 5] = [
+    let rows: [(&[u8], &str); 6] = [
         (
             &LO,
             "Set 1: lo@if9: <LOOPBACK,UP,LOWER_UP> mtu 65536 master if5 state 0x7 link/loopback 00:00:00:00:00:fe kind veth\n",
@@ -70,7 +76,8 @@ fn messages_have_lines(rt: HostRuntime) -> Result<(), Fail> {
             &OTHERS,
             "error -2\nack\ndone -22\ninterrupted\nnoop\noverrun\nerror -22: a b\n",
         ),
-        (&NEIGHBOURS, "type 30, 28 bytes\n"),
+        (&NEIGHBOURS, "miss\n"),
+        (&REQUEST, "type 26, 28 bytes\n"),
         (&LATIN, "-1: 63:e9: <> link/ether\n"),
     ];
     for (input, lines) in rows {

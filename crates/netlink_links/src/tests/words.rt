@@ -1,5 +1,6 @@
 //! The texts of numbers and bytes, after linux/if.h, if_arp.h and rtnetlink.h.
 
+use crate::device::{Known, device_text};
 use crate::flags::flags_text;
 use crate::names::{family_text, hardware_text, scope_text, state_text};
 use crate::text::{ip_words, name_text, sentence_text};
@@ -38,6 +39,29 @@ fn numbers_have_names(rt: HostRuntime) -> Result<(), Fail> {
     }
     for (number, text) in [(0, "global"), (253, "link"), (254, "host"), (9, "9")] {
         assert_eq!(rt; scope_text(alloc, number)?.as_str(), text);
+    }
+    Ok(())
+}
+
+/// The first known link of an index has its name, and any other is `if` and its index.
+#[test]
+fn links_have_names(rt: HostRuntime) -> Result<(), Fail> {
+    let known = [
+        Known {
+            index: 3,
+            name: "eth0".as_bytes(),
+        },
+        Known {
+            index: 3,
+            name: "eth1".as_bytes(),
+        },
+        Known {
+            index: 4,
+            name: "a b".as_bytes(),
+        },
+    ];
+    for (index, text) in [(0, "*"), (1, "if1"), (3, "eth0"), (4, "61:20:62")] {
+        assert_eq!(rt; device_text(rt.alloc(), &known, index)?.as_str(), text);
     }
     Ok(())
 }
