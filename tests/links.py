@@ -1,10 +1,12 @@
 #!/usr/bin/env python3
-"""Runs the built program `netlink_links` on captured datagrams, on inputs with each error, on every prefix of a stream,
-on random bytes, on a pipe that stays open, with wrong arguments, and with inputs and outputs that fail.
+"""Runs the built program `netlink_links` on captured datagrams, on frames for which `ip` printed lines, on inputs
+with each error, on every prefix of a stream, on random bytes, on a pipe that stays open, with wrong arguments, and with
+inputs and outputs that fail.
 
 This script computes the expected lines for the captured datagrams itself, with Python's struct and ipaddress and the
 numbers of linux/if.h, if_link.h and if_addr.h. The expected lines for acknowledgements, errors and messages made here
-are written by hand. The expected error texts are those of docs/FORMAT.md.
+are written by hand, or are those that `ip` prints (tests/ip_lines.py). The expected error texts are those of
+docs/FORMAT.md.
 """
 
 import ipaddress
@@ -15,6 +17,7 @@ import struct
 import subprocess
 
 from built import TOP, FailingDevices, built, error_of, in_parallel, row, silent, tally
+from ip_lines import ip_errors
 
 CAPTURED = ["links-0", "links-1", "links-2", "addresses-0", "addresses-1", "link-by-name-0"]
 CAPTURED += ["event-0", "event-1", "event-2"]
@@ -193,13 +196,34 @@ LINES = [
     (link(attribute(0x8012, attribute(1, b"veth\0"))), b"7: if7: <> link/[0] kind veth\n"),
 ]
 
-# Messages of unknown types, and of families that have no lines yet.
+# Messages of unknown types, requests that `ip` does not print, messages about namespaces without an id, and routes of no
+# family, of MPLS (28) and of multicast routing (128, 129).
 LINES += [(frame(kind, b"abc"), f"type {kind}, 19 bytes\n".encode()) for kind in (0, 5, 15, 36, 40, 65535)]
 LINES += [
     (frame(kind, bytes(size)), f"type {kind}, {16 + size} bytes\n".encode())
-    for kind, size in ((28, 12), (24, 12), (26, 4), (34, 12), (66, 4), (90, 4))
+    for kind, size in ((24, 12), (26, 12), (26, 4), (34, 12), (66, 4), (67, 4), (88, 4), (89, 4), (90, 4))
 ]
-LINES += [(frame(28, bytes(12), flags=DUMP_INTR), b"interrupted\ntype 28, 28 bytes\n")]
+LINES += [(frame(25, bytes([family, *bytes(11)])), b"type 25, 28 bytes\n") for family in (28, 128, 129)]
+
+# A route, neighbours, a rule, a neighbour table and ids of namespaces, and the lines that `ip` 6.1 prints for them, that
+# of the table by hand. examples/captured/ip has many more.
+ROUTE = b"\2\0\0\0\xfe\3\0\1" + bytes(4) + attribute(4, b"\3\0\0\0") + attribute(5, b"\n\1\0\2")
+NEIGHBOUR = b"\2\0\0\0\3\0\0\0\4\0\0\1" + attribute(1, b"\n\1\0\4") + attribute(2, b"\2\0\0\0\0\3")
+SHOWN = b"10.1.0.4 dev if3 lladdr 02:00:00:00:00:03 STALE\n"
+LINES += [
+    (frame(24, ROUTE), b"default via 10.1.0.2 dev if3\n"),
+    (frame(25, ROUTE), b"Deleted default via 10.1.0.2 dev if3\n"),
+    (frame(28, NEIGHBOUR), SHOWN),
+    (frame(29, NEIGHBOUR), b"Deleted " + SHOWN),
+    (frame(30, NEIGHBOUR), b"miss " + SHOWN),
+    (frame(28, NEIGHBOUR, flags=DUMP_INTR), b"interrupted\n" + SHOWN),
+    (frame(28, bytes(12)), b"\n"),
+    (frame(30, bytes(12)), b"miss\n"),
+    (frame(32, b"\2\0\0\0\xfe\0\0\1" + bytes(4)), b"0: from all lookup main\n"),
+    (frame(64, b"\2\0\0\0" + attribute(1, b"arp_cache\0")), b"inet arp_cache\n"),
+    (frame(88, bytes(4) + attribute(1, b"\5\0\0\0")), b"nsid 5\n"),
+    (frame(89, bytes(4) + attribute(1, b"\xff\xff\xff\xff")), b"Deleted nsid unassigned\n"),
+]
 LINES += [(frame(40, bytes(LONGEST - 16)), b"type 40, 1048576 bytes\n")]
 
 # A request of 18 bytes and its padding.
@@ -375,7 +399,9 @@ def main():
     errors = [it for it in in_parallel(lambda it: error_of(program, it), all_rows) if it]
     checks = [live_error, closed_error, memory_error]
     errors += [it for it in (check(program) for check in checks) if it]
-    tally("links", errors, len(all_rows) + len(checks) - len(errors))
+    from_ip, frames = ip_errors(program)
+    errors += from_ip
+    tally("links", errors, len(all_rows) + len(checks) + frames - len(errors))
 
 
 main()

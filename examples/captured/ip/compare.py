@@ -1,0 +1,71 @@
+#!/usr/bin/env python3
+"""Compares lines.txt with the lines that the installed `ip` prints for frames.bin. They are those of iproute2 6.1.
+
+Run it in namespaces without links and without lists of names, for example:
+
+unshare -rnm sh -c 'mount -t tmpfs none /etc/iproute2; mount --bind /dev/null /etc/protocols; ./compare.py'
+
+`ip monitor file` prints neither neighbour tables nor routes that were looked up for a request. The script skips these.
+"""
+
+import os
+import re
+import struct
+import subprocess
+import sys
+import tempfile
+
+FOLDER = os.path.dirname(os.path.abspath(__file__))
+
+NEIGHBOUR_TABLE = 64
+ROUTES, RULES = (24, 25), (32, 33)
+RTM_F_CLONED = 0x200
+
+
+def frames_in(data):
+    at = 0
+    while at < len(data):
+        end = at + ((struct.unpack_from("<I", data, at)[0] + 3) & ~3)
+        yield data[at:end]
+        at = end
+
+
+def kind_of(frame):
+    return struct.unpack_from("<H", frame, 4)[0]
+
+
+def is_printed(frame):
+    if kind_of(frame) in ROUTES:
+        return not struct.unpack_from("<I", frame, 24)[0] & RTM_F_CLONED
+    return kind_of(frame) != NEIGHBOUR_TABLE
+
+
+def normalized(frame, line):
+    """Returns a line of `ip` as it is in lines.txt."""
+    line = " ".join(line.replace("\\", " ").split())
+    return line if kind_of(frame) in RULES else re.sub(r"\b(dev|iif) lo\b", r"\1 if1", line)
+
+
+def main():
+    with open(os.path.join(FOLDER, "frames.bin"), "rb") as file:
+        frames = list(frames_in(file.read()))
+    with open(os.path.join(FOLDER, "lines.txt"), encoding="ascii") as file:
+        lines = file.read().splitlines()
+    rows = [(place, *row) for place, row in enumerate(zip(frames, lines), 1) if is_printed(row[0])]
+    with tempfile.NamedTemporaryFile() as file:
+        file.write(b"".join(frame for _, frame, _ in rows))
+        file.flush()
+        words = ["ip", "-o", "monitor", "file", file.name]
+        printed = subprocess.run(words, stdout=subprocess.PIPE, check=True).stdout.decode("ascii").splitlines()
+    if (len(frames), len(printed)) != (len(lines), len(rows)):
+        sys.exit(f"{len(frames)} frames and {len(lines)} lines; ip printed {len(printed)} lines instead of {len(rows)}")
+    different = 0
+    for (place, frame, line), own in zip(rows, printed):
+        if normalized(frame, own) != line:
+            different += 1
+            print(f"line {place}: ip prints {normalized(frame, own)!r}, not {line!r}")
+    print(f"{len(rows) - different} lines are equal, {different} differ, {len(lines) - len(rows)} skipped")
+    sys.exit(1 if different else 0)
+
+
+main()
