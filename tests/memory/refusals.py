@@ -61,8 +61,9 @@ DATAGRAMS = {
     "links, the last one truncated": ("links-0.bin", -1),
     "addresses": ("addresses-0.bin", None),
     "an error with its request": ("link-mtu-refused-0.bin", None),
-    "neighbours, which have no line of their own": ("neighbours-0.bin", None),
-    "routes, which have no line of their own": ("routes-0.bin", None),
+    "neighbours": ("neighbours-0.bin", None),
+    "routes": ("routes-0.bin", None),
+    "rules": ("rules-0.bin", None),
     "a message of no known type": ("type-unknown-request.bin", None),
     "no bytes": ("links-0.bin", 0),
 }
