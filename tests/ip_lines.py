@@ -1,6 +1,6 @@
-"""Compares the lines of the built program `netlink_links` with those of `ip`, for the frames of examples/captured/ip.
+"""Compares the lines of the built program `netlink_show` with those of `ip`, for the frames of examples/captured/ip.
 
-README.md of that folder states how the frames and the lines were made. tests/links.py calls `ip_errors`.
+README.md of that folder states how the frames and the lines were made. tests/show.py calls `ip_errors`.
 """
 
 import os

@@ -1,4 +1,4 @@
-"""Runs a program of this repository: ./netlink_frame and ./netlink_links call `main`.
+"""Runs a program of this repository: ./netlink_frame and ./netlink_show call `main`.
 
 The program gets the arguments, standard input and standard output unchanged, and its exit status is the script's.
 Before that, the script proves and builds the program and the crates below it, if they changed, and prints on standard

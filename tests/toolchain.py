@@ -1,6 +1,6 @@
 """Checks that the toolchain is one that README.md names, by the line that `rt version` prints.
 
-./check, c/build, ./netlink_frame and ./netlink_links first call `need_kit`.
+./check, c/build, ./netlink_frame and ./netlink_show first call `need_kit`.
 """
 
 import os

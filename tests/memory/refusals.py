@@ -2,7 +2,7 @@
 """Makes each allocation of a run fail in turn, by its number, and checks the result.
 
 It preloads the library of refuse.c into the two programs and into the built tests of the crates, each in a process of
-its own. netlink_frame runs each command on a dozen inputs, and netlink_links runs on captured datagrams. Code that
+its own. netlink_frame runs each command on a dozen inputs, and netlink_show runs on captured datagrams. Code that
 allocates is run once per allocation, with that allocation failing: it must give its usual result or report out of
 memory. Code that must not allocate is run with every allocation failing, starting at its marker: it must give its usual
 result and allocate nothing after the marker.
@@ -22,7 +22,7 @@ OTHER_ALLOCATORS = "aligned_alloc posix_memalign memalign valloc reallocarray mm
 
 # The result if an allocation fails while a program reads its arguments, and the result if one fails later.
 FRAME_USAGE = (2, b"", b"usage: netlink_frame normalize|show|nlas|canon|frames\n")
-LINKS_USAGE = (2, b"", b"usage: netlink_links < FILE\n")
+SHOW_USAGE = (2, b"", b"usage: netlink_show < FILE\n")
 OUT_OF_MEMORY = (1, b"", b"out of memory\n")
 
 # The result of a test that passes, and the results of a test that returns out of memory by `?`.
@@ -55,7 +55,7 @@ INPUTS = {
     "no bytes": "",
 }
 
-# The inputs of netlink_links: captured datagrams, each with the end of the part that the program gets.
+# The inputs of netlink_show: captured datagrams, each with the end of the part that the program gets.
 DATAGRAMS = {
     "links": ("links-0.bin", None),
     "links, the last one truncated": ("links-0.bin", -1),
@@ -164,19 +164,19 @@ def of_frame(library):
     return in_parallel(sweep_of, rows)
 
 
-def of_links(library):
-    """Returns the sweeps of netlink_links: each of its datagrams and an empty input, for which it allocates to read its
+def of_show(library):
+    """Returns the sweeps of netlink_show: each of its datagrams and an empty input, for which it allocates to read its
     arguments, then its buffer, and then the room for a header.
 
     The program writes the line of a message before it reads on, so the lines before a failed allocation are there."""
-    program = built("netlink_links", "netlink_links")
+    program = built("netlink_show", "netlink_show")
     _, allocations, _ = run_failing(library, [program], b"", 0)
-    early = [LINKS_USAGE] * (allocations - 2) + [OUT_OF_MEMORY] * 2
+    early = [SHOW_USAGE] * (allocations - 2) + [OUT_OF_MEMORY] * 2
 
     def sweep_of(name):
         file, end = DATAGRAMS[name]
         data = captured(file)[:end]
-        sweep = Sweep(library, f"netlink_links of {name}", [program], data)
+        sweep = Sweep(library, f"netlink_show of {name}", [program], data)
         usual = run([program], data)
         lines = usual[1].splitlines(keepends=True)
         later = [(1, b"".join(lines[:number]), OUT_OF_MEMORY[2]) for number in range(len(lines) + 1)]
@@ -223,7 +223,7 @@ def of_tests(library):
 def main():
     with tempfile.TemporaryDirectory() as folder:
         library = compiled(folder)
-        commands = of_frame(library) + of_links(library)
+        commands = of_frame(library) + of_show(library)
         allocating, others = of_tests(library)
 
     def count(sweeps):

@@ -1,0 +1,72 @@
+-- The lines of messages. Every line ends with a line feed.
+use Rattle.std.specs.Prelude.{ℕ, ℤ, List, [], ◌∷◌, ◌++◌, Option, Some, None, codes, pos, if◌then◌else◌}
+use Rattle.std.specs.Fmt.{signed_decimal}
+use Rattle.std.specs.Ordering.{int_eq}
+use Rattle.netlink_family.specs.Shapes.{has_type}
+use Rattle.netlink_lines.specs.Ack.{text_words}
+use Rattle.netlink_lines.specs.Address.{address_line}
+use Rattle.netlink_lines.specs.Link.{link_line}
+use Rattle.netlink_lines.specs.Namespace.{namespace_line}
+use Rattle.netlink_lines.specs.Neighbour.{neighbour_line}
+use Rattle.netlink_lines.specs.NeighbourTable.{neighbour_table_line}
+use Rattle.netlink_lines.specs.Route.{route_entry_line}
+use Rattle.netlink_lines.specs.Rule.{rule_line}
+
+-- a code other than 0
+abbrev pub code_words : ℤ → List ℕ
+code_words code = if int_eq code (pos 0) then [] else codes " " ++ signed_decimal code
+
+-- a done message by its code and its text
+abbrev pub done_line : ℤ → Option (List ℕ) → List ℕ
+done_line code text = codes "done" ++ (code_words code ++ (text_words text ++ codes "\n"))
+
+-- an error by its code, which is 0 in an acknowledgement, and its text
+abbrev pub error_line : ℤ → Option (List ℕ) → List ℕ
+error_line code text =
+    (if int_eq code (pos 0) then codes "ack" else codes "error " ++ signed_decimal code)
+    ++ (text_words text ++ codes "\n")
+
+-- the message types of links and addresses (linux/rtnetlink.h)
+abbrev pub link_types : List ℕ
+link_types = 16 ∷ 17 ∷ 18 ∷ 19 ∷ []
+
+abbrev pub address_types : List ℕ
+address_types = 20 ∷ 21 ∷ 22 ∷ []
+
+-- those of routes, neighbours, rules, neighbour tables and ids of network namespaces
+abbrev pub route_types : List ℕ
+route_types = 24 ∷ 25 ∷ 26 ∷ []
+
+abbrev pub neighbour_types : List ℕ
+neighbour_types = 28 ∷ 29 ∷ 30 ∷ []
+
+abbrev pub rule_types : List ℕ
+rule_types = 32 ∷ 33 ∷ 34 ∷ []
+
+abbrev pub neighbour_table_types : List ℕ
+neighbour_table_types = 64 ∷ 66 ∷ 67 ∷ []
+
+abbrev pub namespace_types : List ℕ
+namespace_types = 88 ∷ 89 ∷ 90 ∷ []
+
+-- the line of a message that is about a rule, a neighbour table or an id of a namespace
+abbrev pub later_line : ℕ → List ℕ → Option (List ℕ)
+later_line t payload =
+    if has_type rule_types t then rule_line t payload
+    else if has_type neighbour_table_types t then neighbour_table_line [] t payload
+    else if has_type namespace_types t then namespace_line t payload
+    else None
+
+-- the line of a message that is about neither a link nor an address; no link has a known name
+abbrev pub other_line : ℕ → List ℕ → Option (List ℕ)
+other_line t payload =
+    if has_type neighbour_types t then Some (neighbour_line [] t payload)
+    else if has_type route_types t then route_entry_line [] t payload
+    else later_line t payload
+
+-- the line of a message type and a payload, if it has one
+unfoldable pub route_line : ℕ × List ℕ → Option (List ℕ)
+route_line (t, payload) =
+    if has_type link_types t then Some (link_line t payload)
+    else if has_type address_types t then Some (address_line t payload)
+    else other_line t payload

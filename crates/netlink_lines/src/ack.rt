@@ -1,0 +1,75 @@
+//! The kernel's text in an error or done message, and the mark of an interrupted dump.
+
+ghost use Rattle.std.specs.Prelude.{◌≡◌, IfOk, string_bytes};
+ghost use Rattle.std.specs.Option.{option_copied};
+ghost use Rattle.netlink_packet_core.specs.FrameWalk.{IsWholeFrame};
+ghost use Rattle.netlink_replies.specs.Meaning.{meaning, shown_item};
+ghost use Rattle.netlink_lines.specs.Ack.{IsText, ack_attributes, is_interrupted, text_words};
+
+use crate::text::sentence_text;
+use netlink_packet_core::{DecodeError, NLM_F_DUMP_INTR, NetlinkBuffer};
+use netlink_replies::{ExtendedAck, Replies, Reply, Request};
+use std::alloc::{AllocError, Global};
+
+/// Returns what a frame means by itself. Requires that the bytes are one frame.
+pub(crate) fn meaning_of(frame: &[u8]) -> Option<Result<Reply<&[u8]>, DecodeError>>
+    requires whole { IsWholeFrame frame.now }
+    ensures item { shown_item result ≡ meaning frame.now }
+{
+    let request = Request {
+        sequence_number: NetlinkBuffer::new(frame).sequence_number(),
+        port_number: 0,
+        is_dump: false,
+        wants_ack: false,
+    };
+    Replies::new(request).take(frame)
+}
+
+/// Returns the kernel's text in a message that means this, if it is an error or done message with a
+/// text.
+pub(crate) fn kernel_text<'a>(
+    item: &Option<Result<Reply<&'a [u8]>, DecodeError>>,
+) -> Option<&'a [u8]>
+    ensures text { IsText (ack_attributes (shown_item item.now)) (option_copied result) }
+{
+    text_in(ack_attributes(item))
+}
+
+/// Returns the attributes of an extended acknowledgement; nothing if the frame is another message.
+fn ack_attributes<'a>(item: &Option<Result<Reply<&'a [u8]>, DecodeError>>) -> &'a [u8]
+    ensures { result.now ≡ ack_attributes (shown_item item.now) }
+{
+    match item {
+        Some(Ok(Reply::Done { attributes, .. })) => *attributes,
+        Some(Ok(Reply::Acknowledged { attributes })) => *attributes,
+        Some(Ok(Reply::Rejected { attributes, .. })) => *attributes,
+        _ => &[],
+    }
+}
+
+/// Returns the kernel's text in the attributes of an extended acknowledgement, if there is one.
+fn text_in(attributes: &[u8]) -> Option<&[u8]>
+    ensures { IsText attributes.now (option_copied result) }
+{
+    ExtendedAck { attributes }.message()
+}
+
+/// Returns a text after a colon, if there is one.
+pub(crate) fn text_words(alloc: Global, text: Option<&[u8]>) -> Result<String, AllocError>
+    ensures { IfOk result (λ words. string_bytes words ≡ text_words (option_copied text.entry)) }
+{
+    match text {
+        Some(text) => {
+            let sentence = sentence_text(alloc, text)?;
+            format!(in alloc; ": {sentence}")
+        }
+        None => Ok(String::new(alloc)),
+    }
+}
+
+/// Returns whether the flags are those of a message of an interrupted dump.
+pub(crate) fn is_interrupted(flags: u16) -> bool
+    ensures { result ≡ is_interrupted flags }
+{
+    flags & NLM_F_DUMP_INTR != 0
+}

@@ -1,0 +1,64 @@
+//! The names of links.
+
+ghost use Rattle.std.specs.Prelude.{◌≡◌, IfOk, OnOk, string_bytes};
+ghost use Rattle.std.specs.Option.{option_copied};
+ghost use Rattle.netlink_lines.specs.Device.{device_part, device_text, name_of};
+ghost use Rattle.netlink_lines.specs.Parts.{with_part};
+
+use crate::parts::push_keyed;
+use crate::text::name_text;
+use std::alloc::{AllocError, Global};
+
+/// A link whose name is known, for example from a message before.
+#[derive(Clone, Copy)]
+pub struct Known<'a> {
+    /// The index of the link.
+    pub index: u32,
+    /// Its name.
+    pub name: &'a [u8],
+}
+
+/// Returns the name of a link, `if` and its index if the name is not known, or `*` for the index 0. Returns `AllocError` if an allocation fails.
+#[tactic(auto, unfolding(crate::specs::Device::device_text))]
+pub fn device_text(alloc: Global, known: &[Known<'_>], index: u32) -> Result<String, AllocError>
+    ensures { IfOk result (λ text. string_bytes text ≡ device_text known.now index) }
+{
+    if index == 0 {
+        return String::from_str(alloc, "*");
+    }
+    match name_of(known, index) {
+        Some(name) => name_text(alloc, name),
+        None => format!(in alloc; "if{index}"),
+    }
+}
+
+/// Appends a key and the name of a link, if there is one.
+#[tactic(auto, unfolding(crate::specs::Parts::with_part))]
+pub(crate) fn push_device(
+    alloc: Global,
+    text: &mut String,
+    known: &[Known<'_>],
+    key: &str,
+    index: Option<u32>,
+) -> Result<(), AllocError>
+    ensures { OnOk result (string_bytes text.new
+        ≡ with_part (string_bytes text.old) (device_part known.now key.now index)) }
+{
+    match index {
+        Some(index) => push_keyed(alloc, text, key, device_text(alloc, known, index)?.as_str()),
+        None => Ok(()),
+    }
+}
+
+/// Returns the name of the first known link with this index.
+#[tactic(auto, unfolding(crate::specs::Device::name_of))]
+fn name_of<'a>(known: &[Known<'a>], index: u32) -> Option<&'a [u8]>
+    ensures { option_copied result ≡ name_of known.now index }
+{
+    for link in known {
+        if link.index == index {
+            return Some(link.name);
+        }
+    }
+    None
+}

@@ -1,0 +1,44 @@
+//! The lines of messages of route netlink (linux/rtnetlink.h), as `ip -o` prints them. `run` writes
+//! those of a stream as each message arrives. `Line::line` returns that of one message, and
+//! functions such as `link_text` those of one family.
+#![tactic(auto)]
+
+mod ack;
+mod address;
+mod device;
+mod flags;
+pub mod laws;
+mod line;
+mod link;
+mod messages;
+mod names;
+mod namespace;
+mod neighbour;
+mod neighbour_table;
+mod parts;
+mod route;
+mod route_cache;
+mod route_hops;
+mod route_metrics;
+mod route_names;
+mod rule;
+mod rule_ends;
+mod rule_matches;
+mod run;
+mod stream;
+mod text;
+
+pub use crate::address::address_text;
+pub use crate::device::{Known, device_text};
+pub use crate::flags::flags_text;
+pub use crate::line::Line;
+pub use crate::link::link_text;
+pub use crate::names::{family_text, hardware_text, scope_text, state_text};
+pub use crate::namespace::namespace_text;
+pub use crate::neighbour::neighbour_text;
+pub use crate::neighbour_table::neighbour_table_text;
+pub use crate::route::route_text;
+pub use crate::rule::rule_text;
+pub use crate::run::{Fault, run};
+pub use crate::stream::{Cause, Stop};
+pub use crate::text::{ip_words, name_text, sentence_text};

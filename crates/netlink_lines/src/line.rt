@@ -1,0 +1,119 @@
+//! The lines of messages.
+
+ghost use Rattle.std.specs.Prelude.{◌≡◌, IfOk, string_bytes};
+ghost use Rattle.std.specs.Option.{option_copied, option_map};
+ghost use Rattle.netlink_lines.specs.Lines.{code_words, done_line, error_line, later_line, other_line, route_line};
+
+use crate::ack::text_words;
+use crate::address::address_text;
+use crate::link::link_text;
+use crate::namespace::namespace_text;
+use crate::neighbour::neighbour_text;
+use crate::neighbour_table::neighbour_table_text;
+use crate::route::route_text;
+use crate::rule::rule_text;
+use netlink_family::{Both, Family, Joined, MessageView};
+use netlink_route::{Namespaces, NeighbourTables, Neighbours, RouteTables, Routes, Rules};
+use std::alloc::{AllocError, Global};
+
+/// A family whose messages may have lines.
+pub trait Line: Family {
+    /// Returns the line of a message, if it has one.
+    fn line(alloc: Global, message: &MessageView<'_, Self>) -> Result<Option<String>, AllocError>
+        ensures line { IfOk result (λ text. option_map string_bytes text
+            ≡ route_line (message.now.message_type, message.now.payload.now)) };
+}
+
+impl Line for Joined<RouteTables> {
+    /// Returns the line of a message as `ip -o` writes it, and `None` for one that `ip` does not
+    /// write, such as a request for routes.
+    #[tactic(auto, unfolding(crate::specs::Lines::route_line))]
+    fn line(
+        alloc: Global,
+        message: &MessageView<'_, Joined<RouteTables>>,
+    ) -> Result<Option<String>, AllocError> {
+        match message.tables().split() {
+            Ok(link) => Ok(Some(link_text(alloc, &link)?)),
+            Err(other) => match other.split() {
+                Ok(address) => Ok(Some(address_text(alloc, &address)?)),
+                Err(other) => other_line(alloc, &other),
+            },
+        }
+    }
+}
+
+/// The tables that follow those of links and addresses, and those that follow routes.
+type OtherTables = Both<Neighbours, Both<Routes, LaterTables>>;
+
+type LaterTables = Both<Rules, Both<NeighbourTables, Namespaces>>;
+
+/// Returns the line of a message about neither a link nor an address, if it has one.
+fn other_line(
+    alloc: Global,
+    message: &MessageView<'_, OtherTables>,
+) -> Result<Option<String>, AllocError>
+    ensures { IfOk result (λ text. option_map string_bytes text
+        ≡ other_line message.now.message_type message.now.payload.now) }
+{
+    match message.split() {
+        Ok(neighbour) => Ok(Some(neighbour_text(alloc, &[], &neighbour)?)),
+        Err(other) => match other.split() {
+            Ok(route) => route_text(alloc, &[], &route),
+            Err(other) => later_line(alloc, &other),
+        },
+    }
+}
+
+/// Returns the line of a message about a rule, a neighbour table or an id of a namespace.
+fn later_line(
+    alloc: Global,
+    message: &MessageView<'_, LaterTables>,
+) -> Result<Option<String>, AllocError>
+    ensures { IfOk result (λ text. option_map string_bytes text
+        ≡ later_line message.now.message_type message.now.payload.now) }
+{
+    match message.split() {
+        Ok(rule) => rule_text(alloc, &rule),
+        Err(other) => match other.split() {
+            Ok(table) => neighbour_table_text(alloc, &[], &table),
+            Err(namespace) => namespace_text(alloc, &namespace),
+        },
+    }
+}
+
+/// Returns the line of a done message by its code and its text: `done`, the code if it is not 0, and
+/// the text.
+pub(crate) fn done_line(alloc: Global, code: i32, text: Option<&[u8]>) -> Result<String, AllocError>
+    ensures { IfOk result (λ line. string_bytes line ≡ done_line code (option_copied text.entry)) }
+{
+    let code = code_words(alloc, code)?;
+    let words = text_words(alloc, text)?;
+    format!(in alloc; "done{code}{words}\n")
+}
+
+/// Returns the line of an error by its code and its text: `error` and the code, or `ack` if it is 0,
+/// and the text.
+pub(crate) fn error_line(
+    alloc: Global,
+    code: i32,
+    text: Option<&[u8]>,
+) -> Result<String, AllocError>
+    ensures { IfOk result (λ line. string_bytes line
+        ≡ error_line code (option_copied text.entry)) }
+{
+    let words = text_words(alloc, text)?;
+    if code == 0 {
+        return format!(in alloc; "ack{words}\n");
+    }
+    format!(in alloc; "error {code}{words}\n")
+}
+
+/// Returns a code other than 0.
+fn code_words(alloc: Global, code: i32) -> Result<String, AllocError>
+    ensures { IfOk result (λ text. string_bytes text ≡ code_words code) }
+{
+    if code == 0 {
+        return Ok(String::new(alloc));
+    }
+    format!(in alloc; " {code}")
+}

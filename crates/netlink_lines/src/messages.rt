@@ -1,0 +1,154 @@
+//! What a message is shown as.
+
+ghost use Rattle.std.specs.Prelude.{◌≡◌, false, IfOk, string_bytes};
+ghost use Rattle.std.specs.Option.{option_copied};
+ghost use Rattle.netlink_family.specs.Errors.{family_error};
+ghost use Rattle.netlink_packet_core.specs.FrameWalk.{IsWholeFrame};
+ghost use Rattle.netlink_replies.specs.Meaning.{shown_item};
+ghost use Rattle.netlink_lines.specs.Ack.{marked_if};
+ghost use Rattle.netlink_lines.specs.Messages.{HasLines, Lines, bad, error_lines, good, item_lines, own_lines, type_line};
+
+use crate::ack::{is_interrupted, kernel_text, meaning_of};
+use crate::line::{Line, done_line, error_line};
+use netlink_family::{FamilyError, MessageView};
+use netlink_packet_core::{DecodeError, NetlinkBuffer};
+use netlink_replies::Reply;
+use std::alloc::{AllocError, Global};
+
+/// The lines of a message.
+#[derive(Drop)]
+pub(crate) struct Shown {
+    /// The lines, each with its line feed.
+    pub(crate) text: String,
+    /// Whether the message is malformed, so that the line is its error.
+    pub(crate) is_malformed: bool,
+}
+
+/// Returns the lines of the message in a frame at this offset of the input. Requires that the bytes
+/// are one frame.
+///
+/// The line of a message of a known type is that of the family or, if the family has none, its type
+/// and size, as for an unknown type. Control messages are `done`, with its code if that is not 0;
+/// `error` and its code, a negative errno, or `ack` if it is 0; `noop`; `overrun`. The kernel's text
+/// follows the code. The line of a malformed message is its error. A line `interrupted` comes first
+/// if the flags have `NLM_F_DUMP_INTR`. Returns `AllocError` if an allocation fails.
+pub(crate) fn lines_of<F: Line>(alloc: Global, at: u64, frame: &[u8]) -> Result<Shown, AllocError>
+    requires whole { IsWholeFrame frame.now }
+    ensures lines { IfOk result (λ s. HasLines (family_error F.types F.short F.header_len F.rows) at frame.now
+        (string_bytes s.text, s.is_malformed)) }
+{
+    let item = meaning_of(frame);
+    let text = kernel_text(&item);
+    let shown = item_shown::<F>(alloc, at, frame, text, item)?;
+    marked(alloc, NetlinkBuffer::new(frame).flags(), shown)
+}
+
+/// Returns lines, and `interrupted` before them if these are the flags of a message of an
+/// interrupted dump.
+fn marked(alloc: Global, flags: u16, shown: Shown) -> Result<Shown, AllocError>
+    ensures { IfOk result (λ s. (string_bytes s.text, s.is_malformed)
+        ≡ marked_if flags (string_bytes shown.text, shown.is_malformed)) }
+{
+    if !is_interrupted(flags) {
+        return Ok(shown);
+    }
+    let Shown { text, is_malformed } = shown;
+    let text = format!(in alloc; "interrupted\n{text}")?;
+    Ok(Shown { text, is_malformed })
+}
+
+/// Returns the lines of a frame by what it means, and by the kernel's text in it.
+fn item_shown<F: Line>(
+    alloc: Global,
+    at: u64,
+    frame: &[u8],
+    text: Option<&[u8]>,
+    item: Option<Result<Reply<&[u8]>, DecodeError>>,
+) -> Result<Shown, AllocError>
+    requires whole { IsWholeFrame frame.now }
+    ensures { IfOk result (λ s. (string_bytes s.text, s.is_malformed)
+        ≡ item_lines (family_error F.types F.short F.header_len F.rows) at frame.now (option_copied text.entry)
+        (shown_item item.entry)) }
+{
+    let line = match item {
+        None => String::from_str(alloc, "noop\n")?,
+        Some(Err(error)) => return malformed(alloc, at, error.to_string(alloc)?.as_str()),
+        Some(Ok(Reply::Done { code, .. })) => done_line(alloc, code, text)?,
+        Some(Ok(Reply::Acknowledged { .. })) => error_line(alloc, 0, text)?,
+        Some(Ok(Reply::Rejected { code, .. })) => error_line(alloc, code, text)?,
+        Some(Ok(Reply::Overrun)) => String::from_str(alloc, "overrun\n")?,
+        Some(Ok(Reply::Message(_))) => return own_shown::<F>(alloc, at, frame),
+        Some(Ok(Reply::Other(_))) => return own_shown::<F>(alloc, at, frame),
+    };
+    Ok(well_formed(line))
+}
+
+/// Returns the lines of a message that is not a control message.
+fn own_shown<F: Line>(alloc: Global, at: u64, frame: &[u8]) -> Result<Shown, AllocError>
+    requires whole { IsWholeFrame frame.now }
+    ensures { IfOk result (λ s. (string_bytes s.text, s.is_malformed)
+        ≡ own_lines (family_error F.types F.short F.header_len F.rows) at frame.now) }
+{
+    let view = NetlinkBuffer::new(frame);
+    let message_type = view.message_type();
+    match MessageView::<F>::new(message_type, view.payload()) {
+        Ok(message) => match F::line(alloc, &message)? {
+            Some(line) => Ok(well_formed(line)),
+            None => Ok(well_formed(type_line(alloc, message_type, frame.len())?)),
+        },
+        Err(error) => rejected(alloc, at, message_type, frame.len(), &error),
+    }
+}
+
+/// Returns the line of a message whose payload has this error: the error, or the line of its type if
+/// no table has it.
+fn rejected(
+    alloc: Global,
+    at: u64,
+    message_type: u16,
+    size: usize,
+    error: &FamilyError,
+) -> Result<Shown, AllocError>
+    ensures { IfOk result (λ s. (string_bytes s.text, s.is_malformed)
+        ≡ error_lines at message_type size error.now) }
+{
+    match error {
+        FamilyError::UnknownType { .. } => {
+            Ok(well_formed(type_line(alloc, message_type, size)?))
+        }
+        _ => {
+            let why = format!(in alloc;
+                "Failed to parse message with type {message_type}: {error}"
+            )?;
+            malformed(alloc, at, why.as_str())
+        }
+    }
+}
+
+/// Returns the line of a message without a line of its own, by its type and its size in bytes.
+fn type_line(alloc: Global, message_type: u16, size: usize) -> Result<String, AllocError>
+    ensures { IfOk result (λ line. string_bytes line ≡ type_line message_type size) }
+{
+    format!(in alloc; "type {message_type}, {size} bytes\n")
+}
+
+/// Returns the line of a malformed message at this offset, with its error.
+fn malformed(alloc: Global, at: u64, why: &str) -> Result<Shown, AllocError>
+    ensures { IfOk result (λ s. (string_bytes s.text, s.is_malformed) ≡ bad at why.now) }
+{
+    let text = format!(in alloc; "byte {at}: {why}\n")?;
+    Ok(Shown {
+        text,
+        is_malformed: true,
+    })
+}
+
+/// Returns the line of a message that is not malformed.
+fn well_formed(text: String) -> Shown
+    ensures { (string_bytes result.text, result.is_malformed) ≡ good (string_bytes text) }
+{
+    Shown {
+        text,
+        is_malformed: false,
+    }
+}

@@ -1,0 +1,111 @@
+//! The names of numbers.
+
+ghost use Rattle.std.specs.Prelude.{◌≡◌, IfOk, string_bytes};
+ghost use Rattle.netlink_lines.specs.Names.{family_text, hardware_text, protocol_text, route_type_text, scope_text, state_text, table_text};
+
+use netlink_route::{RouteProtocol, RouteType};
+use std::alloc::{AllocError, Global};
+
+/// Returns the name of an operational state, an `IF_OPER_*` of linux/if.h; for any other number,
+/// the number in hexadecimal. Returns `AllocError` if an allocation fails.
+pub fn state_text(alloc: Global, state: u8) -> Result<String, AllocError>
+    ensures { IfOk result (λ text. string_bytes text ≡ state_text state) }
+{
+    let name = match state {
+        0 => "UNKNOWN",
+        1 => "NOTPRESENT",
+        2 => "DOWN",
+        3 => "LOWERLAYERDOWN",
+        4 => "TESTING",
+        5 => "DORMANT",
+        6 => "UP",
+        _ => return format!(in alloc; "0x{state:x}"),
+    };
+    String::from_str(alloc, name)
+}
+
+/// Returns the name of a device type, an `ARPHRD_*` of linux/if_arp.h; for any other number, the
+/// number in brackets. Returns `AllocError` if an allocation fails.
+pub fn hardware_text(alloc: Global, layer_type: u16) -> Result<String, AllocError>
+    ensures { IfOk result (λ text. string_bytes text ≡ hardware_text layer_type) }
+{
+    let name = match layer_type {
+        1 => "ether",
+        32 => "infiniband",
+        512 => "ppp",
+        768 => "ipip",
+        769 => "tunnel6",
+        772 => "loopback",
+        776 => "sit",
+        778 => "gre",
+        65534 => "none",
+        _ => return format!(in alloc; "[{layer_type}]"),
+    };
+    String::from_str(alloc, name)
+}
+
+/// Returns the name of an address family, an `AF_*` of linux/socket.h; for any other number,
+/// `family` and the number. Returns `AllocError` if an allocation fails.
+pub fn family_text(alloc: Global, family: u8) -> Result<String, AllocError>
+    ensures { IfOk result (λ text. string_bytes text ≡ family_text family) }
+{
+    let name = match family {
+        2 => "inet",
+        10 => "inet6",
+        _ => return format!(in alloc; "family {family}"),
+    };
+    String::from_str(alloc, name)
+}
+
+/// Returns the name of a scope, an `RT_SCOPE_*` of linux/rtnetlink.h; for any other number, the
+/// number in decimal. Returns `AllocError` if an allocation fails.
+pub fn scope_text(alloc: Global, scope: u8) -> Result<String, AllocError>
+    ensures { IfOk result (λ text. string_bytes text ≡ scope_text scope) }
+{
+    let name = match scope {
+        0 => "global",
+        200 => "site",
+        253 => "link",
+        254 => "host",
+        255 => "nowhere",
+        _ => return format!(in alloc; "{scope}"),
+    };
+    String::from_str(alloc, name)
+}
+
+/// Returns the name of a routing table, an `RT_TABLE_*` of linux/rtnetlink.h; for any other number,
+/// the number in decimal.
+#[tactic(auto, unfolding(crate::specs::Names::table_text))]
+pub(crate) fn table_text(alloc: Global, table: u32) -> Result<String, AllocError>
+    ensures { IfOk result (λ text. string_bytes text ≡ table_text table) }
+{
+    let name = match table {
+        253 => "default",
+        254 => "main",
+        255 => "local",
+        _ => return format!(in alloc; "{table}"),
+    };
+    String::from_str(alloc, name)
+}
+
+/// Returns the name of who installed a route. `ip` itself knows no name for 17 and 99.
+#[tactic(auto, unfolding(crate::specs::Names::protocol_text))]
+pub(crate) fn protocol_text(alloc: Global, protocol: u8) -> Result<String, AllocError>
+    ensures { IfOk result (λ text. string_bytes text ≡ protocol_text protocol) }
+{
+    if protocol == 17 || protocol == 99 {
+        return format!(in alloc; "{protocol}");
+    }
+    RouteProtocol(protocol).to_string(alloc)
+}
+
+/// Returns the name of a type of route; `none` for the type 0.
+#[tactic(auto, unfolding(crate::specs::Names::route_type_text))]
+pub(crate) fn route_type_text(alloc: Global, route_type: u8) -> Result<String, AllocError>
+    ensures { IfOk result (λ text. string_bytes text ≡ route_type_text route_type) }
+{
+    if route_type == 0 {
+        return String::from_str(alloc, "none");
+    }
+    RouteType(route_type).to_string(alloc)
+}

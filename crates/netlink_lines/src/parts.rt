@@ -1,0 +1,171 @@
+//! Parts of a line, with one space between them.
+
+ghost use Rattle.std.specs.Prelude.{◌≡◌, IfOk, OnOk, string_bytes};
+ghost use Rattle.netlink_lines.specs.Parts.{hex_part, host_length, keyed, number_part, or_zero, prefix_text, realm_text, realms_part, tos_part, when, with_part};
+
+use crate::text::{ip_words, push_separated};
+use netlink_packet_core::hex_pair;
+use std::alloc::{AllocError, Global};
+
+/// Appends a part, after a space if the text is not empty. An empty part changes nothing.
+#[tactic(auto, unfolding(crate::specs::Parts::with_part))]
+pub(crate) fn push_part(text: &mut String, part: &str) -> Result<(), AllocError>
+    ensures { OnOk result (string_bytes text.new ≡ with_part (string_bytes text.old) part.now) }
+{
+    if part.is_empty() {
+        return Ok(());
+    }
+    push_separated(text, " ", part)
+}
+
+/// Appends a part if the condition holds.
+#[tactic(auto, unfolding(crate::specs::Parts::when, crate::specs::Parts::with_part))]
+pub(crate) fn push_when(text: &mut String, holds: bool, part: &str) -> Result<(), AllocError>
+    ensures { OnOk result
+        (string_bytes text.new ≡ with_part (string_bytes text.old) (when holds part.now)) }
+{
+    if !holds {
+        return Ok(());
+    }
+    push_part(text, part)
+}
+
+/// Appends a key and a word, unless the word is empty.
+#[tactic(auto, unfolding(crate::specs::Parts::keyed, crate::specs::Parts::with_part))]
+pub(crate) fn push_keyed(
+    alloc: Global,
+    text: &mut String,
+    key: &str,
+    word: &str,
+) -> Result<(), AllocError>
+    ensures { OnOk result
+        (string_bytes text.new ≡ with_part (string_bytes text.old) (keyed key.now word.now)) }
+{
+    if word.is_empty() {
+        return Ok(());
+    }
+    push_part(text, format!(in alloc; "{key} {word}")?.as_str())
+}
+
+/// Appends a key and a number, if there is one.
+#[tactic(auto, unfolding(crate::specs::Parts::number_part, crate::specs::Parts::with_part))]
+pub(crate) fn push_number(
+    alloc: Global,
+    text: &mut String,
+    key: &str,
+    number: Option<u32>,
+) -> Result<(), AllocError>
+    ensures { OnOk result
+        (string_bytes text.new ≡ with_part (string_bytes text.old) (number_part key.now number)) }
+{
+    match number {
+        Some(number) => push_part(text, format!(in alloc; "{key} {number}")?.as_str()),
+        None => Ok(()),
+    }
+}
+
+/// Returns a number in hexadecimal with `0x` before it, or `0`.
+#[tactic(auto, unfolding(crate::specs::Parts::hex_part))]
+pub(crate) fn hex_text(alloc: Global, number: u32) -> Result<String, AllocError>
+    ensures { IfOk result (λ text. string_bytes text ≡ hex_part number) }
+{
+    if number == 0 {
+        return String::from_str(alloc, "0");
+    }
+    format!(in alloc; "0x{number:x}")
+}
+
+/// Returns an address and, unless its prefix is as long as the address, the length of the prefix in
+/// bits. Without an address it is `0` and the length, and empty if that is 0.
+#[tactic(auto, unfolding(crate::specs::Parts::prefix_text, crate::specs::Parts::prefix_of))]
+pub(crate) fn prefix_text(
+    alloc: Global,
+    bytes: &[u8],
+    length: u8,
+    whole: u8,
+) -> Result<String, AllocError>
+    ensures { IfOk result (λ text. string_bytes text ≡ prefix_text bytes.now length whole) }
+{
+    let ip = ip_words(alloc, bytes)?;
+    if ip.is_empty() {
+        if length == 0 {
+            return Ok(ip);
+        }
+        return format!(in alloc; "0/{length}");
+    }
+    if length == whole {
+        return Ok(ip);
+    }
+    format!(in alloc; "{ip}/{length}")
+}
+
+/// Returns the number of bits of an address of this family; 0 for other families than IPv4 and IPv6.
+#[tactic(auto, unfolding(crate::specs::Parts::host_length))]
+pub(crate) fn host_length(family: u8) -> u8
+    ensures { result ≡ host_length family }
+{
+    match family {
+        2 => 32,
+        10 => 128,
+        _ => 0,
+    }
+}
+
+/// Appends a type of service other than 0.
+#[tactic(auto, unfolding(crate::specs::Parts::tos_part, crate::specs::Parts::with_part))]
+pub(crate) fn push_tos(alloc: Global, text: &mut String, tos: u8) -> Result<(), AllocError>
+    ensures { OnOk result (string_bytes text.new ≡ with_part (string_bytes text.old) (tos_part tos)) }
+{
+    if tos == 0 {
+        return Ok(());
+    }
+    let pair = hex_pair(tos);
+    push_part(text, format!(in alloc; "tos 0x{pair}")?.as_str())
+}
+
+/// Returns a realm; `unknown` for 0.
+#[tactic(auto, unfolding(crate::specs::Parts::realm_text))]
+fn realm_text(alloc: Global, realm: u32) -> Result<String, AllocError>
+    ensures { IfOk result (λ text. string_bytes text ≡ realm_text realm) }
+{
+    if realm == 0 {
+        return String::from_str(alloc, "unknown");
+    }
+    format!(in alloc; "{realm}")
+}
+
+/// Appends the two realms of a flow, after a key, or only the lower one after another key if the
+/// upper one is 0.
+#[tactic(auto, unfolding(crate::specs::Parts::flow_part, crate::specs::Parts::with_part))]
+pub(crate) fn push_realms(
+    alloc: Global,
+    text: &mut String,
+    one: &str,
+    two: &str,
+    flow: Option<u32>,
+) -> Result<(), AllocError>
+    ensures { OnOk result
+        (string_bytes text.new ≡ with_part (string_bytes text.old) (realms_part one.now two.now flow)) }
+{
+    match flow {
+        None => Ok(()),
+        Some(flow) => {
+            let to = realm_text(alloc, flow % 65536)?;
+            if flow < 65536 {
+                return push_part(text, format!(in alloc; "{one} {to}")?.as_str());
+            }
+            let from = realm_text(alloc, flow / 65536)?;
+            push_part(text, format!(in alloc; "{two} {from}/{to}")?.as_str())
+        }
+    }
+}
+
+/// Returns a number, or 0 if there is none.
+pub(crate) fn or_zero(number: Option<u32>) -> u32
+    ensures { result ≡ or_zero number }
+{
+    match number {
+        Some(number) => number,
+        None => 0,
+    }
+}

@@ -1,0 +1,357 @@
+//! The line of a route.
+
+ghost use Rattle.std.specs.Prelude.{◌≡◌, IfOk, OnOk, string_bytes};
+ghost use Rattle.std.specs.Option.{option_map};
+ghost use Rattle.netlink_route.specs.declared.routes.TheConstants.{RTA_DST, RTA_GATEWAY, RTA_PREFSRC, RTA_SRC, RTA_VIA};
+ghost use Rattle.netlink_lines.specs.Parts.{with_parts};
+ghost use Rattle.netlink_lines.specs.Route.{installer_part, is_own, kept_parts, last_parts, mark_part, origin_parts, preference_part, route_bytes, route_entry_line, route_front, route_next, route_table, route_words, scope_part, source_text, table_part, target_text, type_part, with_rest};
+
+use crate::address::or_empty;
+use crate::device::{Known, push_device};
+use crate::names::{protocol_text, route_type_text, scope_text, table_text};
+use crate::parts::{
+    host_length, prefix_text, push_keyed, push_number, push_part, push_realms, push_tos, push_when,
+};
+use crate::route_cache::{push_cache, push_lifetime};
+use crate::route_hops::{push_hops, push_next};
+use crate::route_metrics::metrics_text;
+use crate::route_names::{hop_flags_text, preference_text};
+use crate::text::ip_words;
+use netlink_family::MessageView;
+use netlink_route::Routes;
+use netlink_route::routes::{
+    RTA_CACHEINFO, RTA_DST, RTA_FLOW, RTA_GATEWAY, RTA_IIF, RTA_MARK, RTA_NH_ID, RTA_OIF, RTA_PREF,
+    RTA_PREFSRC, RTA_PRIORITY, RTA_SRC, RTA_TABLE, RTA_UID, RTA_VIA, RTM_DELROUTE, RTM_DST_LEN,
+    RTM_FAMILY, RTM_FLAGS, RTM_GETROUTE, RTM_PROTOCOL, RTM_SCOPE, RTM_SRC_LEN, RTM_TABLE, RTM_TOS,
+    RTM_TYPE,
+};
+use std::alloc::{AllocError, Global};
+
+/// The flag `RTM_F_CLONED` of a route that the kernel looked up for a request.
+const RTM_F_CLONED: u32 = 0x200;
+
+/// The main routing table, and who installed a route if nobody said so.
+const RT_TABLE_MAIN: u32 = 254;
+
+const RTPROT_BOOT: u8 = 3;
+
+/// Returns the line of a message about an IPv4 or IPv6 route, as `ip route show table all`,
+/// `ip route get` and `ip monitor route` print it, with one space between its parts. A known link is
+/// named, and any other is `if` and its index. Returns `None` for a request and for a route of
+/// another family.
+#[tactic(auto, unfolding(crate::specs::Route::route_entry_line))]
+pub fn route_text(
+    alloc: Global,
+    known: &[Known<'_>],
+    route: &MessageView<'_, Routes>,
+) -> Result<Option<String>, AllocError>
+    ensures line { IfOk result (λ text. option_map string_bytes text
+        ≡ route_entry_line known.now route.now.message_type route.now.payload.now) }
+{
+    if route.message_type == RTM_GETROUTE || host_length(route.header().u8(RTM_FAMILY)) == 0 {
+        return Ok(None);
+    }
+    let mut text = route_words(alloc, known, route)?;
+    push_hops(alloc, &mut text, known, route)?;
+    text.push_str("\n")?;
+    Ok(Some(text))
+}
+
+/// Returns what precedes the next hops.
+#[tactic(auto, unfolding(crate::specs::Route::route_words))]
+fn route_words(
+    alloc: Global,
+    known: &[Known<'_>],
+    route: &MessageView<'_, Routes>,
+) -> Result<String, AllocError>
+    ensures { IfOk result (λ text. string_bytes text
+        ≡ route_words known.now route.now.message_type route.now.payload.now) }
+{
+    let mut text = String::new(alloc);
+    push_front(alloc, &mut text, route)?;
+    push_link(alloc, &mut text, known, route)?;
+    push_origin(alloc, &mut text, route)?;
+    push_rest(alloc, &mut text, known, route)?;
+    Ok(text)
+}
+
+/// Appends the verb, the type of the route, the destination, the source, the id of the next hop and
+/// the type of service.
+#[tactic(auto, unfolding(crate::specs::Route::route_front))]
+fn push_front(
+    alloc: Global,
+    text: &mut String,
+    route: &MessageView<'_, Routes>,
+) -> Result<(), AllocError>
+    ensures { OnOk result (string_bytes text.new ≡ with_parts (string_bytes text.old)
+        (route_front route.now.message_type route.now.payload.now)) }
+{
+    push_when(text, route.message_type == RTM_DELROUTE, "Deleted")?;
+    push_part(
+        text,
+        type_text(alloc, route.header().u8(RTM_TYPE))?.as_str(),
+    )?;
+    push_part(text, target_text(alloc, route)?.as_str())?;
+    push_keyed(alloc, text, "from", source_text(alloc, route)?.as_str())?;
+    push_number(alloc, text, "nhid", route.view().u32(RTA_NH_ID))?;
+    push_tos(alloc, text, route.header().u8(RTM_TOS))
+}
+
+/// Returns the type of a route, unless it is `unicast`.
+fn type_text(alloc: Global, route_type: u8) -> Result<String, AllocError>
+    ensures { IfOk result (λ text. string_bytes text ≡ type_part route_type) }
+{
+    if route_type == 1 {
+        return Ok(String::new(alloc));
+    }
+    route_type_text(alloc, route_type)
+}
+
+/// Returns the destination; `default` for every address.
+fn target_text(alloc: Global, route: &MessageView<'_, Routes>) -> Result<String, AllocError>
+    ensures { IfOk result (λ text. string_bytes text ≡ target_text route.now.payload.now) }
+{
+    let whole = host_length(route.header().u8(RTM_FAMILY));
+    let to = prefix_text(
+        alloc,
+        target_of(route),
+        route.header().u8(RTM_DST_LEN),
+        whole,
+    )?;
+    if to.is_empty() {
+        return String::from_str(alloc, "default");
+    }
+    Ok(to)
+}
+
+/// Returns the source; empty for every address.
+fn source_text(alloc: Global, route: &MessageView<'_, Routes>) -> Result<String, AllocError>
+    ensures { IfOk result (λ text. string_bytes text ≡ source_text route.now.payload.now) }
+{
+    let whole = host_length(route.header().u8(RTM_FAMILY));
+    prefix_text(
+        alloc,
+        source_of(route),
+        route.header().u8(RTM_SRC_LEN),
+        whole,
+    )
+}
+
+/// Returns the address of the destination; empty if there is none.
+fn target_of<'a>(route: &MessageView<'a, Routes>) -> &'a [u8]
+    ensures { result.now ≡ route_bytes route.now.payload.now RTA_DST }
+{
+    or_empty(route.view().ip(RTA_DST))
+}
+
+/// Returns the address of the source; empty if there is none.
+fn source_of<'a>(route: &MessageView<'a, Routes>) -> &'a [u8]
+    ensures { result.now ≡ route_bytes route.now.payload.now RTA_SRC }
+{
+    or_empty(route.view().ip(RTA_SRC))
+}
+
+/// Appends the gateway and the link.
+#[tactic(auto, unfolding(crate::specs::Route::route_next))]
+fn push_link(
+    alloc: Global,
+    text: &mut String,
+    known: &[Known<'_>],
+    route: &MessageView<'_, Routes>,
+) -> Result<(), AllocError>
+    ensures { OnOk result (string_bytes text.new
+        ≡ with_parts (string_bytes text.old) (route_next known.now route.now.payload.now)) }
+{
+    push_next(alloc, text, gateway_of(route), via_of(route))?;
+    push_device(alloc, text, known, "dev", route.view().u32(RTA_OIF))
+}
+
+/// Returns the gateway; empty if there is none.
+fn gateway_of<'a>(route: &MessageView<'a, Routes>) -> &'a [u8]
+    ensures { result.now ≡ route_bytes route.now.payload.now RTA_GATEWAY }
+{
+    or_empty(route.view().ip(RTA_GATEWAY))
+}
+
+/// Returns the gateway of another family; empty if there is none.
+fn via_of<'a>(route: &MessageView<'a, Routes>) -> &'a [u8]
+    ensures { result.now ≡ route_bytes route.now.payload.now RTA_VIA }
+{
+    or_empty(route.view().bytes(RTA_VIA))
+}
+
+/// Appends the table, the protocol, the scope, the preferred source, the metric and the flags. The
+/// table `main`, the protocol `boot` and the scope `global` are left out; a route that was looked up
+/// has neither protocol nor scope.
+#[tactic(auto, unfolding(crate::specs::Route::origin_parts))]
+fn push_origin(
+    alloc: Global,
+    text: &mut String,
+    route: &MessageView<'_, Routes>,
+) -> Result<(), AllocError>
+    ensures { OnOk result (string_bytes text.new
+        ≡ with_parts (string_bytes text.old) (origin_parts route.now.payload.now)) }
+{
+    let own = is_own(route);
+    push_part(text, table_part(alloc, table_of(route))?.as_str())?;
+    push_part(
+        text,
+        installer_text(alloc, own, route.header().u8(RTM_PROTOCOL))?.as_str(),
+    )?;
+    push_part(
+        text,
+        scope_part(alloc, own, route.header().u8(RTM_SCOPE))?.as_str(),
+    )?;
+    push_keyed(
+        alloc,
+        text,
+        "src",
+        ip_words(alloc, preferred_of(route))?.as_str(),
+    )?;
+    push_number(alloc, text, "metric", route.view().u32(RTA_PRIORITY))?;
+    push_part(
+        text,
+        hop_flags_text(alloc, route.header().u32(RTM_FLAGS))?.as_str(),
+    )
+}
+
+/// Returns whether the kernel did not look the route up for a request.
+fn is_own(route: &MessageView<'_, Routes>) -> bool
+    ensures { result ≡ is_own route.now.payload.now }
+{
+    route.header().u32(RTM_FLAGS) & RTM_F_CLONED == 0
+}
+
+/// Returns the number of the table, from the attribute or the header.
+fn table_of(route: &MessageView<'_, Routes>) -> u32
+    ensures { result ≡ route_table route.now.payload.now }
+{
+    match route.view().u32(RTA_TABLE) {
+        Some(table) => table,
+        None => route.header().u8(RTM_TABLE) as u32,
+    }
+}
+
+/// Returns the table, unless it is `main` or none.
+fn table_part(alloc: Global, table: u32) -> Result<String, AllocError>
+    ensures { IfOk result (λ text. string_bytes text ≡ table_part table) }
+{
+    if table == 0 || table == RT_TABLE_MAIN {
+        return Ok(String::new(alloc));
+    }
+    let name = table_text(alloc, table)?;
+    format!(in alloc; "table {name}")
+}
+
+/// Returns who installed the route, unless it is `boot` or the route was looked up.
+fn installer_text(alloc: Global, own: bool, protocol: u8) -> Result<String, AllocError>
+    ensures { IfOk result (λ text. string_bytes text ≡ installer_part own protocol) }
+{
+    if !own || protocol == RTPROT_BOOT {
+        return Ok(String::new(alloc));
+    }
+    let name = protocol_text(alloc, protocol)?;
+    format!(in alloc; "proto {name}")
+}
+
+/// Returns the scope, unless it is `global` or the route was looked up.
+fn scope_part(alloc: Global, own: bool, scope: u8) -> Result<String, AllocError>
+    ensures { IfOk result (λ text. string_bytes text ≡ scope_part own scope) }
+{
+    if !own || scope == 0 {
+        return Ok(String::new(alloc));
+    }
+    let name = scope_text(alloc, scope)?;
+    format!(in alloc; "scope {name}")
+}
+
+/// Returns the preferred source; empty if there is none.
+fn preferred_of<'a>(route: &MessageView<'a, Routes>) -> &'a [u8]
+    ensures { result.now ≡ route_bytes route.now.payload.now RTA_PREFSRC }
+{
+    or_empty(route.view().ip(RTA_PREFSRC))
+}
+
+/// Appends what follows the flags.
+#[tactic(auto, unfolding(crate::specs::Route::with_rest))]
+fn push_rest(
+    alloc: Global,
+    text: &mut String,
+    known: &[Known<'_>],
+    route: &MessageView<'_, Routes>,
+) -> Result<(), AllocError>
+    ensures { OnOk result (string_bytes text.new
+        ≡ with_rest known.now (string_bytes text.old) route.now.payload.now) }
+{
+    push_kept(alloc, text, route)?;
+    push_lifetime(alloc, text, route.view().bytes(RTA_CACHEINFO))?;
+    push_last(alloc, text, known, route)
+}
+
+/// Appends the mark, the realms, the user, and what the kernel keeps of a route that was looked up.
+#[tactic(auto, unfolding(crate::specs::Route::kept_parts))]
+fn push_kept(
+    alloc: Global,
+    text: &mut String,
+    route: &MessageView<'_, Routes>,
+) -> Result<(), AllocError>
+    ensures { OnOk result (string_bytes text.new
+        ≡ with_parts (string_bytes text.old) (kept_parts route.now.payload.now)) }
+{
+    push_part(text, mark_text(alloc, route.view().u32(RTA_MARK))?.as_str())?;
+    push_realms(alloc, text, "realm", "realms", route.view().u32(RTA_FLOW))?;
+    push_number(alloc, text, "uid", route.view().u32(RTA_UID))?;
+    push_cache(
+        alloc,
+        text,
+        route.header().u8(RTM_FAMILY),
+        route.header().u32(RTM_FLAGS),
+    )
+}
+
+/// Returns a mark other than 0, in hexadecimal if it is 16 or greater.
+fn mark_text(alloc: Global, mark: Option<u32>) -> Result<String, AllocError>
+    ensures { IfOk result (λ text. string_bytes text ≡ mark_part mark) }
+{
+    match mark {
+        None => Ok(String::new(alloc)),
+        Some(mark) => {
+            if mark == 0 {
+                return Ok(String::new(alloc));
+            }
+            if mark < 16 {
+                return format!(in alloc; "mark {mark}");
+            }
+            format!(in alloc; "mark 0x{mark:x}")
+        }
+    }
+}
+
+/// Appends the metrics, the incoming link and the preference.
+#[tactic(auto, unfolding(crate::specs::Route::last_parts))]
+fn push_last(
+    alloc: Global,
+    text: &mut String,
+    known: &[Known<'_>],
+    route: &MessageView<'_, Routes>,
+) -> Result<(), AllocError>
+    ensures { OnOk result (string_bytes text.new
+        ≡ with_parts (string_bytes text.old) (last_parts known.now route.now.payload.now)) }
+{
+    push_part(text, metrics_text(alloc, route)?.as_str())?;
+    push_device(alloc, text, known, "iif", route.view().u32(RTA_IIF))?;
+    push_part(
+        text,
+        preference_part(alloc, route.view().u8(RTA_PREF))?.as_str(),
+    )
+}
+
+/// Returns the preference of a router, if there is one.
+fn preference_part(alloc: Global, preference: Option<u8>) -> Result<String, AllocError>
+    ensures { IfOk result (λ text. string_bytes text ≡ preference_part preference) }
+{
+    match preference {
+        Some(preference) => preference_text(alloc, preference),
+        None => Ok(String::new(alloc)),
+    }
+}

@@ -1,0 +1,121 @@
+//! A run of the program over a reader and a writer.
+
+ghost use Rattle.std.specs.Prelude.{◌≡◌, Some, IfSome};
+ghost use Rattle.netlink_family.specs.Errors.{family_error};
+ghost use Rattle.netlink_lines.specs.Run.{RunsAs, end_of, fault_text, read_fault};
+
+use crate::line::Line;
+use crate::messages::lines_of;
+use crate::stream::{Next, Stop, read_frame, skip_padding};
+use netlink_program::{ReadFault, WriteFault, write_through};
+use std::alloc::{AllocError, Global};
+use std::fmt;
+use std::io::{Read, Write};
+
+/// Why a run failed.
+#[derive(Debug, Drop, PartialEq, Eq)]
+pub enum Fault {
+    /// The reader failed, or did not reach its end within 2^64 - 1 calls or bytes.
+    Read,
+    /// The writer failed. It may have written a part of what it was given.
+    Write,
+    /// An allocation failed.
+    OutOfMemory,
+    /// The whole input was shown, and a message in it is malformed.
+    Malformed,
+    /// A message of the input cannot be read.
+    Stopped(Stop),
+}
+
+impl fmt::Display for Fault {
+    ghost output = { λ fault. Some (fault_text fault) };
+
+    fn fmt<W: fmt::Write>(&self, f: &mut fmt::Formatter<W>) -> fmt::Result {
+        match self {
+            Fault::Read => f.write_str("read failed"),
+            Fault::Write => f.write_str("write failed"),
+            Fault::OutOfMemory => f.write_str("out of memory"),
+            Fault::Malformed => f.write_str("a message is malformed"),
+            Fault::Stopped(stop) => write!(f, "{stop}"),
+        }
+    }
+}
+
+impl From<ReadFault> for Fault {
+    ghost from_gives = { λ cause fault. fault ≡ read_fault cause };
+
+    fn from(cause: ReadFault) -> Fault {
+        match cause {
+            ReadFault::Read => Fault::Read,
+            ReadFault::OutOfMemory => Fault::OutOfMemory,
+        }
+    }
+}
+
+impl From<WriteFault> for Fault {
+    ghost use Rattle.netlink_lines.specs.declared.run.Fault.TheVariants.{Write};
+
+    ghost from_gives = { λ _ fault. fault ≡ Write };
+
+    fn from(_failed: WriteFault) -> Fault {
+        Fault::Write
+    }
+}
+
+impl From<AllocError> for Fault {
+    ghost use Rattle.netlink_lines.specs.declared.run.Fault.TheVariants.{OutOfMemory};
+
+    ghost from_gives = { λ _ fault. fault ≡ OutOfMemory };
+
+    fn from(_failed: AllocError) -> Fault {
+        Fault::OutOfMemory
+    }
+}
+
+/// Reads one message after another, and writes the lines of each, and flushes the writer, before it
+/// reads another byte. Keeps one frame in memory.
+///
+/// Reads to the end of the input, or up to a message that cannot be read, and then returns
+/// `Stopped`. Returns `Malformed` at the end if a message was malformed. Returns `Read` if the
+/// reader fails, or does not reach its end within 2^64 - 1 messages, calls for one of them, or
+/// bytes; `Write` if the writer or its flush fails; and `OutOfMemory` if an allocation fails. The
+/// lines of all messages before the error are written.
+pub fn run<F: Line, R: Read, W: Write>(
+    alloc: Global,
+    reader: &mut R,
+    writer: &mut W,
+) -> Result<(), Fault>
+    ensures runs { IfSome (R.remaining reader.old) (λ input.
+        RunsAs (family_error F.types F.short F.header_len F.rows) input (R.remaining reader.new)
+        (W.contents writer.old) (W.contents writer.new) result) }
+{
+    let mut frame = Vec::new(alloc);
+    let mut at: u64 = 0;
+    let mut is_malformed = false;
+    for _ in 0..u64::MAX {
+        match read_frame(reader, &mut frame)? {
+            Next::Frame => {}
+            Next::End => return end_of(is_malformed),
+            Next::Stop(cause) => return Err(Fault::Stopped(Stop { at, cause })),
+        }
+        let message = lines_of::<F>(alloc, at, &frame)?;
+        write_through(writer, message.text.as_bytes())?;
+        is_malformed = is_malformed || message.is_malformed;
+        let padding = skip_padding(reader, frame.len())?;
+        match at.checked_add((frame.len() + padding) as u64) {
+            Some(next) => at = next,
+            None => return Err(Fault::Read),
+        }
+    }
+    Err(Fault::Read)
+}
+
+/// Returns how a run ends at the end of its input.
+fn end_of(is_malformed: bool) -> Result<(), Fault>
+    ensures is { result ≡ end_of is_malformed }
+{
+    if is_malformed {
+        return Err(Fault::Malformed);
+    }
+    Ok(())
+}

@@ -1,0 +1,91 @@
+//! Messages made by hand, after linux/rtnetlink.h, if_link.h and if_addr.h, and their lines.
+
+use netlink_family::Joined;
+use netlink_lines::run;
+use netlink_route::RouteTables;
+use std::test::Fail;
+
+/// The link "lo" below link 9 and in link 5, a request to change it, with packets of 65536 bytes;
+/// its address, the state 7 that has no name, the kind "veth" in a nest without its bit.
+pub(crate) const LO: [u8; 100] = [
+    100, 0, 0, 0, 19, 0, 2, 0, 1, 0, 0, 0, 0, 0, 0, 0, // length 100, RTM_SETLINK
+    0, 0, 4, 3, 1, 0, 0, 0, 0x49, 0, 1, 0, 0, 0, 0, 0, // AF_UNSPEC, ARPHRD_LOOPBACK, index 1
+    7, 0, 3, 0, b'l', b'o', 0, 0xaa, // IFLA_IFNAME
+    8, 0, 4, 0, 0, 0, 1, 0, // IFLA_MTU
+    8, 0, 5, 0, 9, 0, 0, 0, // IFLA_LINK
+    8, 0, 10, 0, 5, 0, 0, 0, // IFLA_MASTER
+    10, 0, 1, 0, 0, 0, 0, 0, 0, 0xfe, 0xaa, 0xaa, // IFLA_ADDRESS
+    5, 0, 16, 0, 7, 0xaa, 0xaa, 0xaa, // IFLA_OPERSTATE
+    13, 0, 18, 0, 9, 0, 1, 0, b'v', b'e', b't', b'h', 0, 0, 0, 0, // IFLA_LINKINFO
+];
+
+/// The address 10.0.0.1, with 10.0.0.2 at the other end, that link 4 had.
+pub(crate) const ADDRESS: [u8; 60] = [
+    60, 0, 0, 0, 21, 0, 0, 0, 1, 0, 0, 0, 0, 0, 0, 0, // length 60, RTM_DELADDR
+    2, 24, 0, 253, 4, 0, 0, 0, // AF_INET, prefix 24, RT_SCOPE_LINK, index 4
+    8, 0, 1, 0, 10, 0, 0, 2, // IFA_ADDRESS
+    8, 0, 2, 0, 10, 0, 0, 1, // IFA_LOCAL
+    8, 0, 4, 0, 10, 0, 0, 255, // IFA_BROADCAST
+    9, 0, 3, 0, b'a', b'b', b'c', b'd', 0, 0, 0, 0, // IFA_LABEL
+];
+
+/// An error -2, an acknowledgement, a done with the code -22, a noop of an interrupted dump, an
+/// overrun, and an error -22 with the header of its request and a text of two words.
+const OTHERS: [u8; 136] = [
+    20, 0, 0, 0, 2, 0, 0, 0, 0, 0, 0, 0, 0, 0, 0, 0, 0xfe, 0xff, 0xff, 0xff, //
+    20, 0, 0, 0, 2, 0, 0, 0, 0, 0, 0, 0, 0, 0, 0, 0, 0, 0, 0, 0, //
+    20, 0, 0, 0, 3, 0, 0, 0, 0, 0, 0, 0, 0, 0, 0, 0, 0xea, 0xff, 0xff, 0xff, //
+    16, 0, 0, 0, 1, 0, 0x10, 0, 0, 0, 0, 0, 0, 0, 0, 0, // NLM_F_DUMP_INTR
+    16, 0, 0, 0, 4, 0, 0, 0, 0, 0, 0, 0, 0, 0, 0, 0, //
+    44, 0, 0, 0, 2, 0, 0, 3, 9, 0, 0, 0, 0, 0, 0, 0, // NLM_F_CAPPED and NLM_F_ACK_TLVS
+    0xea, 0xff, 0xff, 0xff, 52, 0, 0, 0, 16, 0, 5, 0, 9, 0, 0, 0, 0, 0, 0, 0, //
+    8, 0, 1, 0, b'a', b' ', b'b', 0, // NLMSGERR_ATTR_MSG
+];
+
+/// A request for all neighbours (linux/neighbour.h).
+const NEIGHBOURS: [u8; 28] = [
+    28, 0, 0, 0, 30, 0, 1, 3, 1, 0, 0, 0, 0, 0, 0, 0, // length 28, RTM_GETNEIGH
+    2, 0, 0, 0, 0, 0, 0, 0, 0, 0, 0, 0, // AF_INET
+];
+
+/// A request for all routes of IPv4 (linux/rtnetlink.h), of which there is no line.
+const REQUEST: [u8; 28] = [
+    28, 0, 0, 0, 26, 0, 1, 3, 1, 0, 0, 0, 0, 0, 0, 0, // length 28, RTM_GETROUTE
+    2, 0, 0, 0, 0, 0, 0, 0, 0, 0, 0, 0, // AF_INET
+];
+
+/// A link named in Latin-1, without a NUL and with no other attribute.
+const LATIN: [u8; 40] = [
+    40, 0, 0, 0, 16, 0, 0, 0, 0, 0, 0, 0, 0, 0, 0, 0, // length 40, RTM_NEWLINK
+    0, 0, 1, 0, 0xff, 0xff, 0xff, 0xff, 0, 0, 0, 0, 0, 0, 0, 0, // ARPHRD_ETHER, index -1
+    6, 0, 3, 0, b'c', 0xe9, 0, 0, // IFLA_IFNAME
+];
+
+#[test]
+fn messages_have_lines(rt: HostRuntime) -> Result<(), Fail> {
+    let rows: [(&[u8], &str); 6] = [
+        (
+            &LO,
+            "Set 1: lo@if9: <LOOPBACK,UP,LOWER_UP> mtu 65536 master if5 state 0x7 link/loopback 00:00:00:00:00:fe kind veth\n",
+        ),
+        (
+            &ADDRESS,
+            "Deleted 4: inet 10.0.0.1 peer 10.0.0.2/24 brd 10.0.0.255 scope link abcd\n",
+        ),
+        (
+            &OTHERS,
+            "error -2\nack\ndone -22\ninterrupted\nnoop\noverrun\nerror -22: a b\n",
+        ),
+        (&NEIGHBOURS, "miss\n"),
+        (&REQUEST, "type 26, 28 bytes\n"),
+        (&LATIN, "-1: 63:e9: <> link/ether\n"),
+    ];
+    for (input, lines) in rows {
+        let mut reader = input;
+        let mut output: Vec<u8> = Vec::new(rt.alloc());
+        let ended = run::<Joined<RouteTables>, _, _>(rt.alloc(), &mut reader, &mut output);
+        assert!(rt; ended.is_ok());
+        assert_eq!(rt; output.as_slice(), lines.as_bytes());
+    }
+    Ok(())
+}

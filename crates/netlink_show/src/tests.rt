@@ -1,0 +1,3 @@
+//! The arguments, and how the program ends.
+
+mod endings;

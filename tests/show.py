@@ -1,0 +1,407 @@
+#!/usr/bin/env python3
+"""Runs the built program `netlink_show` on captured datagrams, on frames for which `ip` printed lines, on inputs
+with each error, on every prefix of a stream, on random bytes, on a pipe that stays open, with wrong arguments, and with
+inputs and outputs that fail.
+
+This script computes the expected lines for the captured datagrams itself, with Python's struct and ipaddress and the
+numbers of linux/if.h, if_link.h and if_addr.h. The expected lines for acknowledgements, errors and messages made here
+are written by hand, or are those that `ip` prints (tests/ip_lines.py). The expected error texts are those of
+docs/FORMAT.md.
+"""
+
+import ipaddress
+import os
+import random
+import selectors
+import struct
+import subprocess
+
+from built import TOP, FailingDevices, built, error_of, in_parallel, row, silent, tally
+from ip_lines import ip_errors
+
+CAPTURED = ["links-0", "links-1", "links-2", "addresses-0", "addresses-1", "link-by-name-0"]
+CAPTURED += ["event-0", "event-1", "event-2"]
+
+# Captured answers of one message, an acknowledgement or an error, and the line of each.
+ANSWERS = {
+    "link-mtu-0": b"ack\n",
+    "link-new-bridge-0": b"ack\n",
+    "link-delete-0": b"ack\n",
+    "noop-0": b"ack\n",
+    "link-mtu-refused-0": b"error -22: mtu less than device minimum\n",
+    "link-unknown-0": b"error -19\n",
+    "type-unknown-0": b"error -95\n",
+    "bridge-ports-1": b"done\n",
+}
+
+FLAGS = [(0x8, "LOOPBACK"), (0x2, "BROADCAST"), (0x1000, "MULTICAST"), (0x1, "UP")]
+FLAGS += [(0x10000, "LOWER_UP")]
+STATES = {0: "UNKNOWN", 2: "DOWN", 6: "UP"}
+DEVICES = {1: "ether", 772: "loopback"}
+FAMILIES = {2: "inet", 10: "inet6"}
+SCOPES = {0: "global", 253: "link", 254: "host"}
+
+BAD = "a message is malformed"
+USAGE = (2, b"", "usage: netlink_show < FILE")
+LINE = b"7: a: <> link/[0]\n"
+
+
+def blocks(data, size):
+    """Yields the items of a walk. Each begins with a length field of `size` bytes and is padded to a multiple of 4."""
+    at = 0
+    while at < len(data):
+        length = int.from_bytes(data[at : at + size], "little")
+        yield data[at : at + length]
+        at += (length + 3) & ~3
+
+
+def attributes(data):
+    return {int.from_bytes(it[2:4], "little"): it[4:] for it in blocks(data, 2)}
+
+
+def text(value):
+    return value[:-1].decode()
+
+
+def number(value):
+    return int.from_bytes(value, "little")
+
+
+def link_line(kind, body):
+    _, device, index, flags, _ = struct.unpack_from("<HHiII", body)
+    attrs = attributes(body[16:])
+    names = ",".join(name for bit, name in FLAGS if flags & bit)
+    lower = f"@if{number(attrs[5])}" if 5 in attrs else ""
+    words = [f"{'Deleted ' if kind == 17 else ''}{index}: {text(attrs[3])}{lower}: <{names}>"]
+    words.append(f"mtu {number(attrs[4])}")
+    words += [f"master if{number(attrs[10])}"] if 10 in attrs else []
+    words += [f"state {STATES[attrs[16][0]]}", f"link/{DEVICES[device]} {attrs[1].hex(':')}"]
+    words += [f"kind {text(attributes(attrs[18])[1])}"] if 18 in attrs else []
+    return " ".join(words)
+
+
+def address_line(body):
+    family, prefix, _, scope, index = struct.unpack_from("<BBBBI", body)
+    attrs = attributes(body[8:])
+    address = ipaddress.ip_address(attrs.get(2, attrs[1]))
+    line = f"{index}: {FAMILIES[family]} {address}/{prefix} scope {SCOPES[scope]}"
+    return line + (f" {text(attrs[3])}" if 3 in attrs else "")
+
+
+def line_of(frame):
+    kind, body = number(frame[4:6]), frame[16:]
+    if kind == 3:
+        return "done"
+    return address_line(body) if kind == 20 else link_line(kind, body)
+
+
+def lines_of(data):
+    return "".join(f"{line_of(frame)}\n" for frame in blocks(data, 4)).encode()
+
+
+def frame(kind, body, length=None, flags=0):
+    return struct.pack("<IHHII", 16 + len(body) if length is None else length, kind, flags, 0, 0) + body
+
+
+def attribute(kind, value):
+    return struct.pack("<HH", 4 + len(value), kind) + value + bytes(-len(value) % 4)
+
+
+def link(*attributes, index=7, flags=0):
+    return frame(16, struct.pack("<HHiII", 0, 0, index, 0, 0) + b"".join(attributes), flags=flags)
+
+
+def error(attributes, flags=0x300, code=-22, request=struct.pack("<IHHII", 52, 16, 5, 1, 0)):
+    return frame(2, struct.pack("<i", code) + request + attributes, flags=flags)
+
+
+def padded(data):
+    return data + bytes(-len(data) % 4)
+
+
+NAMED = attribute(3, b"a\0")
+TEXT = attribute(1, b"a b\0")
+DUMP_INTR = 0x12  # NLM_F_DUMP_INTR and NLM_F_MULTI
+FRAME = "failed deserializing NetlinkMessage caused by invalid netlink buffer length caused by "
+FRAME += "invalid netlink buffer: "
+MINIMUM = "netlink packets are at least 16 bytes"
+
+
+def rejected(kind, why):
+    return f"Failed to parse message with type {kind}: {why}"
+
+
+def short(kind, received, expected):
+    return rejected(kind, f"the payload has {received} bytes, fewer than its header of {expected}")
+
+
+def invalid(kind, at, why, policy=0):
+    return rejected(kind, f"at byte {at}, in policy {policy}: {why}")
+
+
+CODE = "invalid {0} length caused by invalid {0}: length is {1} but {0} are at least 4 bytes"
+INTERIOR_NUL = "attribute {} is a string with a NUL before its last byte"
+
+LONGEST = 1 << 20
+
+# The types of control messages and of netlink_route (linux/netlink.h and rtnetlink.h).
+KNOWN = {*range(1, 5), *range(16, 23), *range(24, 27), *range(28, 31), *range(32, 35), 64, 66, 67, *range(88, 91)}
+
+# Bytes that no message starts with that can be read, and the error text for each.
+STOPS = [
+    (b"\0", f"{FRAME}length is 1 but {MINIMUM}"),
+    (link(NAMED)[:39], f"{FRAME}length field says 40 the buffer is 39 bytes long"),
+    (frame(16, bytes(16), 15), f"{FRAME}length field says 15 but {MINIMUM}"),
+    (frame(16, bytes(16), 0), f"{FRAME}length field says 0 but {MINIMUM}"),
+    (frame(16, b"", LONGEST), f"{FRAME}length field says {LONGEST} the buffer is 16 bytes long"),
+    (frame(16, b"", LONGEST + 1), f"a message of {LONGEST + 1} bytes is longer than {LONGEST}"),
+    (frame(16, bytes(64), 0xFFFFFFFF), f"a message of {0xFFFFFFFF} bytes is longer than {LONGEST}"),
+]
+
+# Malformed messages in frames of sound length, and the error text for each.
+MALFORMED = [
+    (frame(18, bytes(5)), short(18, 5, 16)),
+    (frame(28, bytes(11)), short(28, 11, 12)),
+    (frame(16, bytes(15)), short(16, 15, 16)),
+    (frame(20, bytes(7)), short(20, 7, 8)),
+    (frame(2, bytes(3)), f"failed parsing NLMSG_ERROR caused by {CODE.format('ErrorBuffer', 3)}"),
+    (frame(3, bytes(1)), f"failed to parse NLMSG_DONE caused by {CODE.format('DoneBuffer', 1)}"),
+    (link(b"\5\0\3"), invalid(16, 16, "3 bytes are too few for an attribute")),
+    (link(b"\5\0\3\0"), invalid(16, 16, "an attribute of 5 bytes is truncated to 4")),
+    (link(b"\3\0\3\0"), invalid(16, 16, "an attribute has length 3, less than 4")),
+    (link(attribute(3, b"a\0\0")), invalid(16, 16, INTERIOR_NUL.format(3))),
+    *[
+        (link(attribute(4, bytes(n))), invalid(16, 16, f"attribute 4 has a value of {n} bytes instead of 4"))
+        for n in (0, 3, 5)
+    ],
+    (link(attribute(18, attribute(1, b"a\0b"))), invalid(16, 20, INTERIOR_NUL.format(1), 1)),
+    (
+        frame(20, bytes(8) + attribute(2, bytes(5))),
+        invalid(20, 8, "attribute 2 has an address of 5 bytes instead of 4 or 16"),
+    ),
+]
+
+# Messages about links and addresses that have a line, and the line of each: requests with a `struct rtgenmsg` instead of
+# the header, padding in the header, strings without a NUL or of bytes that are not printable, a negative index, and a
+# nest with NLA_F_NESTED.
+LINES = [
+    (frame(18, b"\x11\0\0\0"), b"Get 0: if0: <> link/[0]\n"),
+    (frame(22, b"\2"), b"Get 0: inet scope global\n"),
+    (frame(16, b"\0\1" + bytes(14)), b"0: if0: <> link/[0]\n"),
+    (link(attribute(3, b"")), b"7: : <> link/[0]\n"),
+    (link(attribute(3, b"a")), LINE),
+    (link(attribute(3, b"\xff\0")), b"7: ff: <> link/[0]\n"),
+    (link(NAMED, index=-2), b"-2: a: <> link/[0]\n"),
+    (link(attribute(18, attribute(1, b"veth"))), b"7: if7: <> link/[0] kind veth\n"),
+    (link(attribute(0x8012, attribute(1, b"veth\0"))), b"7: if7: <> link/[0] kind veth\n"),
+]
+
+# Messages of unknown types, requests that `ip` does not print, messages about namespaces without an id, and routes of no
+# family, of MPLS (28) and of multicast routing (128, 129).
+LINES += [(frame(kind, b"abc"), f"type {kind}, 19 bytes\n".encode()) for kind in (0, 5, 15, 36, 40, 65535)]
+LINES += [
+    (frame(kind, bytes(size)), f"type {kind}, {16 + size} bytes\n".encode())
+    for kind, size in ((24, 12), (26, 12), (26, 4), (34, 12), (66, 4), (67, 4), (88, 4), (89, 4), (90, 4))
+]
+LINES += [(frame(25, bytes([family, *bytes(11)])), b"type 25, 28 bytes\n") for family in (28, 128, 129)]
+
+# A route, neighbours, a rule, a neighbour table and ids of namespaces, and the lines that `ip` 6.1 prints for them, that
+# of the table by hand. examples/captured/ip has many more.
+ROUTE = b"\2\0\0\0\xfe\3\0\1" + bytes(4) + attribute(4, b"\3\0\0\0") + attribute(5, b"\n\1\0\2")
+NEIGHBOUR = b"\2\0\0\0\3\0\0\0\4\0\0\1" + attribute(1, b"\n\1\0\4") + attribute(2, b"\2\0\0\0\0\3")
+SHOWN = b"10.1.0.4 dev if3 lladdr 02:00:00:00:00:03 STALE\n"
+LINES += [
+    (frame(24, ROUTE), b"default via 10.1.0.2 dev if3\n"),
+    (frame(25, ROUTE), b"Deleted default via 10.1.0.2 dev if3\n"),
+    (frame(28, NEIGHBOUR), SHOWN),
+    (frame(29, NEIGHBOUR), b"Deleted " + SHOWN),
+    (frame(30, NEIGHBOUR), b"miss " + SHOWN),
+    (frame(28, NEIGHBOUR, flags=DUMP_INTR), b"interrupted\n" + SHOWN),
+    (frame(28, bytes(12)), b"\n"),
+    (frame(30, bytes(12)), b"miss\n"),
+    (frame(32, b"\2\0\0\0\xfe\0\0\1" + bytes(4)), b"0: from all lookup main\n"),
+    (frame(64, b"\2\0\0\0" + attribute(1, b"arp_cache\0")), b"inet arp_cache\n"),
+    (frame(88, bytes(4) + attribute(1, b"\5\0\0\0")), b"nsid 5\n"),
+    (frame(89, bytes(4) + attribute(1, b"\xff\xff\xff\xff")), b"Deleted nsid unassigned\n"),
+]
+LINES += [(frame(40, bytes(LONGEST - 16)), b"type 40, 1048576 bytes\n")]
+
+# A request of 18 bytes and its padding.
+REQUEST = struct.pack("<IHHII", 18, 16, 5, 1, 0) + b"\7\7\0\0"
+
+# Error and done messages and the line of each: a capped request, a whole one, no NLM_F_ACK_TLVS, an acknowledgement with
+# a text, other attributes, a damaged attribute after and before the text, and bytes that are not printable. Then messages
+# with NLM_F_DUMP_INTR.
+LINES += [
+    (error(TEXT), b"error -22: a b\n"),
+    (error(TEXT, flags=0x200, request=REQUEST), b"error -22: a b\n"),
+    (error(TEXT, flags=0x100), b"error -22\n"),
+    (error(TEXT, code=0), b"ack: a b\n"),
+    (error(attribute(2, bytes(4)) + attribute(0x8001, b"c") + TEXT), b"error -22: c\n"),
+    (error(attribute(2, bytes(4))), b"error -22\n"),
+    (error(TEXT + b"\3\0\1\0"), b"error -22: a b\n"),
+    (error(b"\3\0\2\0" + TEXT), b"error -22\n"),
+    (error(attribute(1, b"a\n\0")), b"error -22: 61:0a\n"),
+    (error(attribute(1, b"\xc3\xa9\0")), b"error -22: c3:a9\n"),
+    (error(attribute(1, b"\0")), b"error -22: \n"),
+    (frame(3, struct.pack("<i", -22) + TEXT, flags=0x202), b"done -22: a b\n"),
+    (frame(3, struct.pack("<i", -22) + TEXT, flags=2), b"done -22\n"),
+    (frame(3, bytes(4), flags=DUMP_INTR), b"interrupted\ndone\n"),
+    (link(NAMED, flags=DUMP_INTR), b"interrupted\n" + LINE),
+]
+
+
+def rows():
+    """Yields the runs whose input can be read and whose output can be written."""
+    folder = os.path.join(TOP, "examples", "captured")
+    captured = {it: open(os.path.join(folder, f"{it}.bin"), "rb").read() for it in [*CAPTURED, *ANSWERS]}
+    lines = {**{it: lines_of(captured[it]) for it in CAPTURED}, **ANSWERS}
+    for name, data in captured.items():
+        yield row(name, [], (0, lines[name], ""), data)
+    whole, all_lines = (b"".join(it[name] for name in captured) for it in (captured, lines))
+    yield row("all of them", [], (0, all_lines, ""), whole)
+    yield row("nothing", [], (0, b"", ""))
+    for data, error in STOPS:
+        yield row(data.hex(), [], (1, b"", f"byte 0: {error}"), data)
+        longer = link(NAMED) + data
+        yield row(longer.hex(), [], (1, LINE, f"byte 40: {error}"), longer)
+    for data, error in MALFORMED:
+        yield row(data.hex(), [], (1, f"byte 0: {error}\n".encode(), BAD), data)
+        lines = LINE + f"byte 40: {error}\n".encode() + LINE
+        longer = link(NAMED) + padded(data) + link(NAMED)
+        yield row(longer.hex(), [], (1, lines, BAD), longer)
+        yield row((longer + b"\0").hex(), [], (1, lines, f"byte {len(longer)}: {STOPS[0][1]}"), longer + b"\0")
+    for data, line in LINES:
+        yield row(data[:99].hex(), [], (0, line, ""), data)
+        yield row(data[:99].hex(), [], (0, LINE + line + LINE, ""), link(NAMED) + padded(data) + link(NAMED))
+    for words in (["links"], [""], ["-h"], ["a", "b"], [b"\xff"]):
+        yield row(f"arguments {words}", words, USAGE, link(NAMED))
+
+
+def shown(data):
+    """Returns what the program does with a stream of messages of unknown types: its status, output and error. Returns
+    None if a type is known."""
+    at, lines = 0, []
+    while at < len(data):
+        left, error = len(data) - at, None
+        said = number(data[at : at + 4])
+        if left < 16:
+            error = f"{FRAME}length is {left} but {MINIMUM}"
+        elif said < 16:
+            error = f"{FRAME}length field says {said} but {MINIMUM}"
+        elif said > LONGEST:
+            error = f"a message of {said} bytes is longer than {LONGEST}"
+        elif said > left:
+            error = f"{FRAME}length field says {said} the buffer is {left} bytes long"
+        if error:
+            return 1, "".join(lines).encode(), f"byte {at}: {error}"
+        kind = number(data[at + 4 : at + 6])
+        if kind in KNOWN:
+            return None
+        mark = "interrupted\n" if number(data[at + 6 : at + 8]) & 0x10 else ""
+        lines.append(f"{mark}type {kind}, {said} bytes\n")
+        at += (said + 3) & ~3
+    return 0, "".join(lines).encode(), ""
+
+
+def stream_rows():
+    """Yields every prefix of a stream, streams with a damaged length, and random bytes."""
+    made = random.Random(1)
+    whole = b"".join(padded(frame(kind, made.randbytes(kind % 7))) for kind in range(40, 60))
+    for cut in range(len(whole) + 1):
+        yield row(f"the first {cut} bytes", [], shown(whole[:cut]), whole[:cut])
+    damaged = []
+    while len(damaged) < 200:
+        at = 4 * made.randrange(len(whole) // 4)
+        damaged.append(whole[:at] + made.randbytes(made.choice((1, 2, 4))) + whole[at + 4 :])
+    while len(damaged) < 300:
+        damaged.append(bytes(made.choice((0, 0, 40, made.randrange(256))) for _ in range(made.randrange(80))))
+    for place, data in enumerate(damaged):
+        if wanted := shown(data):
+            yield row(f"damaged stream {place}", [], wanted, data)
+
+
+def failing_rows(devices):
+    """Yields runs whose input cannot be read, whose output cannot be written, or whose standard error is closed.
+
+    The program writes the lines of a message before it reads on, so it reports `write failed` instead of a later error of
+    the input. It writes nothing for no message, so no device can fail then. It checks its arguments before it reads or
+    writes.
+    """
+    data, (rejected, error) = link(NAMED), STOPS[0]
+    yield from devices.unread("netlink_show", [])
+    yield from devices.unwritten("a link", [], data)
+    yield from devices.unwritten("a link and an error", [], data + rejected)
+    yield from devices.unwritten("an error alone", [], rejected, (1, b"", f"byte 0: {error}"))
+    yield from devices.unwritten("nothing", [], b"", (0, b"", ""))
+    yield from devices.unwritten("an argument", ["links"], data, USAGE)
+    yield row("an argument and a closed input", ["links"], USAGE, closed="0<&-")
+    yield silent("a link", [], (0, LINE), data)
+    yield silent("a link and an error", [], (1, LINE), data + rejected)
+    yield silent("an argument", ["links"], USAGE, data)
+    yield row("a directory, no standard error", [], (1, b"", ""), devices.folder, closed="2>&-")
+
+
+def live_error(program):
+    """Writes messages to a pipe that stays open. The lines of each must be there as soon as its last byte was written,
+    and not before. Returns what differs, or None."""
+    messages = [(link(NAMED), LINE), (frame(40, b"abc"), b"type 40, 19 bytes\n"), LINES[0]]
+    messages += [(MALFORMED[0][0], f"byte 80: {MALFORMED[0][1]}\n".encode()), (error(TEXT), b"error -22: a b\n")]
+    at = 0
+    with subprocess.Popen([program], stdin=subprocess.PIPE, stdout=subprocess.PIPE, stderr=subprocess.PIPE) as run:
+        os.set_blocking(run.stdout.fileno(), False)
+        with selectors.DefaultSelector() as ready:
+            ready.register(run.stdout, selectors.EVENT_READ)
+            for data, line in messages:
+                # the padding comes late, with the next message
+                os.write(run.stdin.fileno(), bytes(-at % 4) + data[:-1])
+                if ready.select(0.05):
+                    return f"a line before the last byte of {data.hex()}"
+                os.write(run.stdin.fileno(), data[-1:])
+                if not ready.select(10):
+                    return f"no line after the last byte of {data.hex()}"
+                wrote = os.read(run.stdout.fileno(), 4096)
+                if wrote != line:
+                    return f"{data.hex()} on a pipe: wrote {wrote}, not {line}"
+                at += -at % 4 + len(data)
+        rest = run.communicate(timeout=10)
+    ended = run.returncode, *rest
+    return None if ended == (1, b"", f"{BAD}\n".encode()) else f"an open pipe: ended with {ended}"
+
+
+def closed_error(program):
+    """Closes the output after the first line. Returns what differs, or None."""
+    with subprocess.Popen([program], stdin=subprocess.PIPE, stdout=subprocess.PIPE, stderr=subprocess.PIPE) as run:
+        os.write(run.stdin.fileno(), link(NAMED))
+        wrote = run.stdout.readline()
+        run.stdout.close()
+        os.write(run.stdin.fileno(), link(NAMED))
+        said = run.stderr.read()
+    ended = run.returncode, wrote, said
+    return None if ended == (1, LINE, b"write failed\n") else f"an output that is closed: ended with {ended}"
+
+
+def memory_error(program):
+    """Passes 64 MiB of messages. The program may take 8 MB of memory. Returns what differs, or None."""
+    many = 1024 * link(NAMED, attribute(200, bytes(1000)))
+    with subprocess.Popen([program], stdin=subprocess.PIPE, stdout=subprocess.DEVNULL) as run:
+        for _ in range(64):
+            run.stdin.write(many)
+        run.stdin.flush()
+        with open(f"/proc/{run.pid}/status") as file:
+            peak = next(int(line.split()[1]) for line in file if line.startswith("VmHWM:"))
+    return None if run.returncode == 0 and peak <= 8_000 else f"64 MiB: status {run.returncode}, {peak} kB of memory"
+
+
+def main():
+    program = built("netlink_show", "netlink_show")
+    all_rows = [*rows(), *stream_rows(), *failing_rows(FailingDevices())]
+    errors = [it for it in in_parallel(lambda it: error_of(program, it), all_rows) if it]
+    checks = [live_error, closed_error, memory_error]
+    errors += [it for it in (check(program) for check in checks) if it]
+    from_ip, frames = ip_errors(program)
+    errors += from_ip
+    tally("show", errors, len(all_rows) + len(checks) + frames - len(errors))
+
+
+main()
