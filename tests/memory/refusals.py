@@ -9,6 +9,7 @@ result and allocate nothing after the marker.
 """
 
 import os
+import struct
 import subprocess
 import sys
 import tempfile
@@ -55,7 +56,8 @@ INPUTS = {
     "no bytes": "",
 }
 
-# The inputs of netlink_show: captured datagrams, each with the end of the part that the program gets.
+# The inputs of netlink_show: captured datagrams, each with the end of the part that the program gets; or a message type
+# of examples/captured/ip, and how many of its messages.
 DATAGRAMS = {
     "links": ("links-0.bin", None),
     "links, the last one truncated": ("links-0.bin", -1),
@@ -64,6 +66,8 @@ DATAGRAMS = {
     "neighbours": ("neighbours-0.bin", None),
     "routes": ("routes-0.bin", None),
     "rules": ("rules-0.bin", None),
+    "neighbour tables": (64, 2),
+    "ids of network namespaces": (88, 2),
     "a message of no known type": ("type-unknown-request.bin", None),
     "no bytes": ("links-0.bin", 0),
 }
@@ -174,8 +178,8 @@ def of_show(library):
     early = [SHOW_USAGE] * (allocations - 2) + [OUT_OF_MEMORY] * 2
 
     def sweep_of(name):
-        file, end = DATAGRAMS[name]
-        data = captured(file)[:end]
+        source, end = DATAGRAMS[name]
+        data = messages_of(source, end) if isinstance(source, int) else captured(source)[:end]
         sweep = Sweep(library, f"netlink_show of {name}", [program], data)
         usual = run([program], data)
         lines = usual[1].splitlines(keepends=True)
@@ -188,6 +192,18 @@ def of_show(library):
 def captured(name):
     with open(os.path.join(TOP, "examples", "captured", name), "rb") as file:
         return file.read()
+
+
+def messages_of(message_type, number):
+    """Returns the first messages of a type in the frames for which `ip` printed lines."""
+    frames, found = captured("ip/frames.bin"), []
+    while frames and len(found) < number:
+        length, kind = struct.unpack_from("<IH", frames)
+        size = (length + 3) // 4 * 4
+        if kind == message_type:
+            found.append(frames[:size])
+        frames = frames[size:]
+    return b"".join(found)
 
 
 def bytes_of(digits):
