@@ -15,6 +15,7 @@ import random
 import selectors
 import struct
 import subprocess
+import tempfile
 
 from built import TOP, FailingDevices, built, error_of, in_parallel, row, silent, tally
 from ip_lines import ip_errors
@@ -67,14 +68,19 @@ def number(value):
     return int.from_bytes(value, "little")
 
 
-def link_line(kind, body):
+def link_line(kind, body, known):
+    """Returns the line of a link, and updates the names of links."""
     _, device, index, flags, _ = struct.unpack_from("<HHiII", body)
     attrs = attributes(body[16:])
+    known.pop(index, None)
+    if kind == 16:
+        known[index] = text(attrs[3])
+    lower, master = (known.get(number(attrs[it]), f"if{number(attrs[it])}") if it in attrs else "" for it in (5, 10))
     names = ",".join(name for bit, name in FLAGS if flags & bit)
-    lower = f"@if{number(attrs[5])}" if 5 in attrs else ""
+    lower = f"@{lower}" if lower else ""
     words = [f"{'Deleted ' if kind == 17 else ''}{index}: {text(attrs[3])}{lower}: <{names}>"]
     words.append(f"mtu {number(attrs[4])}")
-    words += [f"master if{number(attrs[10])}"] if 10 in attrs else []
+    words += [f"master {master}"] if master else []
     words += [f"state {STATES[attrs[16][0]]}", f"link/{DEVICES[device]} {attrs[1].hex(':')}"]
     words += [f"kind {text(attributes(attrs[18])[1])}"] if 18 in attrs else []
     return " ".join(words)
@@ -88,15 +94,15 @@ def address_line(body):
     return line + (f" {text(attrs[3])}" if 3 in attrs else "")
 
 
-def line_of(frame):
+def line_of(frame, known):
     kind, body = number(frame[4:6]), frame[16:]
     if kind == 3:
         return "done"
-    return address_line(body) if kind == 20 else link_line(kind, body)
+    return address_line(body) if kind == 20 else link_line(kind, body, known)
 
 
-def lines_of(data):
-    return "".join(f"{line_of(frame)}\n" for frame in blocks(data, 4)).encode()
+def lines_of(data, known):
+    return "".join(f"{line_of(frame, known)}\n" for frame in blocks(data, 4)).encode()
 
 
 def frame(kind, body, length=None, flags=0):
@@ -144,8 +150,8 @@ INTERIOR_NUL = "attribute {} is a string with a NUL before its last byte"
 
 LONGEST = 1 << 20
 
-# The types of control messages and of netlink_route (linux/netlink.h and rtnetlink.h).
-KNOWN = {*range(1, 5), *range(16, 23), *range(24, 27), *range(28, 31), *range(32, 35), 64, 66, 67, *range(88, 91)}
+# The types of control messages, of times (iproute2's libnetlink.h) and of netlink_route (linux/netlink.h, rtnetlink.h).
+KNOWN = {*range(1, 5), *range(15, 23), *range(24, 27), *range(28, 31), *range(32, 35), 64, 66, 67, *range(88, 91)}
 
 # Bytes that no message starts with that can be read, and the error text for each.
 STOPS = [
@@ -161,6 +167,7 @@ STOPS = [
 # Malformed messages in frames of sound length, and the error text for each.
 MALFORMED = [
     (frame(18, bytes(5)), short(18, 5, 16)),
+    *[(frame(15, bytes(n)), rejected(15, f"the payload has {n} bytes instead of 8")) for n in (0, 4, 7, 9, 16)],
     (frame(28, bytes(11)), short(28, 11, 12)),
     (frame(16, bytes(15)), short(16, 15, 16)),
     (frame(20, bytes(7)), short(20, 7, 8)),
@@ -198,7 +205,7 @@ LINES = [
 
 # Messages of unknown types, requests that `ip` does not print, messages about namespaces without an id, and routes of no
 # family, of MPLS (28) and of multicast routing (128, 129).
-LINES += [(frame(kind, b"abc"), f"type {kind}, 19 bytes\n".encode()) for kind in (0, 5, 15, 36, 40, 65535)]
+LINES += [(frame(kind, b"abc"), f"type {kind}, 19 bytes\n".encode()) for kind in (0, 5, 36, 40, 65535)]
 LINES += [
     (frame(kind, bytes(size)), f"type {kind}, {16 + size} bytes\n".encode())
     for kind, size in ((24, 12), (26, 12), (26, 4), (34, 12), (66, 4), (67, 4), (88, 4), (89, 4), (90, 4))
@@ -251,15 +258,61 @@ LINES += [
 ]
 
 
+def time(seconds, micros):
+    return frame(15, struct.pack("<II", seconds, micros))
+
+
+# Streams with times as `rtmon` writes them, and the lines of each: a time precedes the first line of the next message,
+# the later of two counts, and one at the end has no effect.
+STREAMS = [
+    (time(1_700_000_000, 42) + link(NAMED) + link(NAMED), b"[1700000000.000042] " + LINE + LINE),
+    (time(1, 2) + time(3, 999_999) + link(NAMED), b"[3.999999] " + LINE),
+    (link(NAMED) + time(0, 0) + link(NAMED) + time(1, 2), LINE + b"[0.000000] " + LINE),
+    (time(1, 2), b""),
+    (time(1, 2) + link(NAMED, flags=DUMP_INTR), b"[1.000002] interrupted\n" + LINE),
+    (time(1, 1_000_000) + frame(40, bytes(4)), b"[1.1000000] type 40, 20 bytes\n"),
+    (time(0xFFFFFFFF, 10) + frame(3, bytes(4)), b"[4294967295.000010] done\n"),
+    (frame(15, bytes(8), flags=DUMP_INTR) + link(NAMED), b"[0.000000] " + LINE),
+]
+
+# Streams with names of links, and the lines of each: a link has the name of the last message with one until it is
+# deleted. A lower link in another network namespace has none, and neither has one with a name that is too long.
+NAME = link(NAMED, index=3)
+NAMED_LINE = b"3: a: <> link/[0]\n"
+GONE = frame(17, struct.pack("<HHiII", 0, 0, 3, 0, 0))
+BELOW = attribute(5, b"\3\0\0\0")
+STREAMS += [
+    (NAME + frame(24, ROUTE), NAMED_LINE + b"default via 10.1.0.2 dev a\n"),
+    (NAME + frame(28, NEIGHBOUR), NAMED_LINE + SHOWN.replace(b"if3", b"a")),
+    (NAME + GONE + frame(28, NEIGHBOUR), NAMED_LINE + b"Deleted 3: if3: <> link/[0]\n" + SHOWN),
+    (NAME + link(index=3) + frame(28, NEIGHBOUR), NAMED_LINE + b"3: if3: <> link/[0]\n" + SHOWN.replace(b"if3", b"a")),
+    (NAME + link(NAMED, BELOW), NAMED_LINE + b"7: a@a: <> link/[0]\n"),
+    (NAME + link(NAMED, attribute(10, b"\3\0\0\0")), NAMED_LINE + b"7: a: <> master a link/[0]\n"),
+    (NAME + link(NAMED, BELOW, attribute(37, b"\2\0\0\0")), NAMED_LINE + b"7: a@if3: <> link/[0]\n"),
+    (link(NAMED, index=-1) + link(attribute(5, b"\xff\xff\xff\xff")), b"-1: a: <> link/[0]\n7: if7@a: <> link/[0]\n"),
+]
+STREAMS += [
+    (
+        link(attribute(3, name), index=3) + frame(28, NEIGHBOUR),
+        b"3: " + own + b": <> link/[0]\n" + SHOWN.replace(b"if3", shown_name),
+    )
+    for name, own, shown_name in (
+        (b"\xff\0", b"ff", b"ff"),
+        (b"b" * 15, b"b" * 15, b"b" * 15),
+        (b"b" * 16, b"b" * 16, b"if3"),
+    )
+]
+
+
 def rows():
     """Yields the runs whose input can be read and whose output can be written."""
     folder = os.path.join(TOP, "examples", "captured")
     captured = {it: open(os.path.join(folder, f"{it}.bin"), "rb").read() for it in [*CAPTURED, *ANSWERS]}
-    lines = {**{it: lines_of(captured[it]) for it in CAPTURED}, **ANSWERS}
     for name, data in captured.items():
-        yield row(name, [], (0, lines[name], ""), data)
-    whole, all_lines = (b"".join(it[name] for name in captured) for it in (captured, lines))
-    yield row("all of them", [], (0, all_lines, ""), whole)
+        yield row(name, [], (0, ANSWERS.get(name) or lines_of(data, {}), ""), data)
+    known = {}
+    all_lines = b"".join(ANSWERS.get(name) or lines_of(data, known) for name, data in captured.items())
+    yield row("all of them", [], (0, all_lines, ""), b"".join(captured.values()))
     yield row("nothing", [], (0, b"", ""))
     for data, error in STOPS:
         yield row(data.hex(), [], (1, b"", f"byte 0: {error}"), data)
@@ -274,6 +327,10 @@ def rows():
     for data, line in LINES:
         yield row(data[:99].hex(), [], (0, line, ""), data)
         yield row(data[:99].hex(), [], (0, LINE + line + LINE, ""), link(NAMED) + padded(data) + link(NAMED))
+    for data, lines in STREAMS:
+        yield row(data.hex(), [], (0, lines, ""), data)
+    data = time(1, 2) + MALFORMED[0][0]
+    yield row(data.hex(), [], (1, f"[1.000002] byte 24: {MALFORMED[0][1]}\n".encode(), BAD), data)
     for words in (["links"], [""], ["-h"], ["a", "b"], [b"\xff"]):
         yield row(f"arguments {words}", words, USAGE, link(NAMED))
 
@@ -393,11 +450,30 @@ def memory_error(program):
     return None if run.returncode == 0 and peak <= 8_000 else f"64 MiB: status {run.returncode}, {peak} kB of memory"
 
 
+def names_error(program):
+    """Names 65,537 links. The first is then not known any more. The program may take 16 MB of memory. Returns what
+    differs, or None."""
+    by = [frame(24, ROUTE[:12] + attribute(4, struct.pack("<I", index))) for index in (1, 2)]
+    named = [link(NAMED, index=index) for index in range(1, 65_538)]
+    with tempfile.TemporaryFile() as output, subprocess.Popen([program], stdin=subprocess.PIPE, stdout=output) as run:
+        run.stdin.write(b"".join([*named[:-1], by[0], named[-1], *by]))
+        run.stdin.flush()
+        with open(f"/proc/{run.pid}/status") as file:
+            peak = next(int(line.split()[1]) for line in file if line.startswith("VmHWM:"))
+        run.stdin.close()
+        status = run.wait()
+        output.seek(0)
+        wrote = output.read().splitlines()[65_536:]
+    wanted = [b"default dev a", b"65537: a: <> link/[0]", b"default dev if1", b"default dev a"]
+    good = status == 0 and wrote == wanted and peak <= 16_000
+    return None if good else f"65,537 links: status {status}, {peak} kB of memory, {wrote[:4]}"
+
+
 def main():
     program = built("netlink_show", "netlink_show")
     all_rows = [*rows(), *stream_rows(), *failing_rows(FailingDevices())]
     errors = [it for it in in_parallel(lambda it: error_of(program, it), all_rows) if it]
-    checks = [live_error, closed_error, memory_error]
+    checks = [live_error, closed_error, memory_error, names_error]
     errors += [it for it in (check(program) for check in checks) if it]
     from_ip, frames = ip_errors(program)
     errors += from_ip

@@ -1,5 +1,5 @@
 -- An input shows one list of messages and ends in one way.
-use Rattle.std.proofs.Common.{◌≡◌, ◌∙◌, ◌-◌, ap, arith, refl, sym, subst, ℕ, List, [], length, Option, ap}
+use Rattle.std.proofs.Common.{◌≡◌, ◌∙◌, ap, arith, refl, sym, subst, ℕ, List, [], Option, ap}
 use Rattle.std.specs.Option.{option_map}
 use Rattle.std.specs.Prelude.{true, false}
 use Rattle.netlink_packet_core.specs.Attribute.{Attribute}
@@ -7,38 +7,37 @@ use Rattle.netlink_packet_core.specs.DecodeError.{DecodeError}
 use Rattle.netlink_packet_core.specs.DecodeError.TheVariants.{FrameShort, FrameCut, FrameLength}
 use Rattle.netlink_packet_core.specs.FrameStartLaws.{no_frame_starts, starts_frame-fault, starts_frame-field}
 use Rattle.netlink_packet_core.specs.FrameWalkLaws.{starts_frame_once}
-use Rattle.netlink_packet_core.specs.Header.{header_of}
 use Rattle.netlink_packet_core.specs.Refusal.{IsFrameFault}
 use Rattle.netlink_packet_core.specs.WalkLaws.{walk_once}
 use Rattle.netlink_packet_core.specs.Walks.{StepLaws, walks_once}
 use Rattle.netlink_replies.specs.AckValues.{first_value, without_nul}
 use Rattle.netlink_replies.specs.Meaning.{meaning}
-use Rattle.netlink_lines.specs.Ack.{IsText, marked_if}
-use Rattle.netlink_lines.specs.Messages.{Check, HasLines, Lines, item_lines}
-use Rattle.netlink_lines.specs.Stream.{IsCause, IsStop, Shows, StartsLines}
+use Rattle.netlink_lines.specs.Ack.{IsText, ack_attributes}
+use Rattle.netlink_lines.specs.Messages.{Seen}
+use Rattle.netlink_lines.specs.Stream.{IsCause, IsStop, Shows, StartsSeen}
 use Rattle.netlink_lines.specs.declared.stream.Cause.{Cause}
 use Rattle.netlink_lines.specs.declared.stream.Cause.TheVariants.{Damaged, TooLong}
 use Rattle.netlink_lines.specs.declared.stream.Stop.{Stop}
 
--- ---- a frame has one list of lines
+-- ---- bytes start with one message
 
 text_once : (attributes : List ℕ) (s t : Option (List ℕ)) → IsText attributes s → IsText attributes t → s ≡ t
 text_once attributes s t (all, fault, walk, is) (more, other, also, that) =
     is ∙ ap (λ (a : List Attribute). option_map without_nul (first_value 1 a)) (walk_once _ all more fault other walk also).0 ∙ sym that
 
-lines_once : (check : Check) (at : ℕ) (frame : List ℕ) (lines more : Lines) → HasLines check at frame lines
-    → HasLines check at frame more → lines ≡ more
-lines_once check at frame lines more (text, has, is) (other, also, that) =
-    is ∙ ap (λ (t : Option (List ℕ)). marked_if (header_of frame).flags (item_lines check at frame t (meaning frame)))
-    (text_once _ text other has also) ∙ sym that
+seen_once : (a b : Seen) → a.at ≡ b.at → a.frame ≡ b.frame → a.text ≡ b.text → a ≡ b
+seen_once a b at frame text =
+    ap (λ (n : ℕ). record { at = n; frame = a.frame; text = a.text }) at
+    ∙ ap (λ (f : List ℕ). record { at = b.at; frame = f; text = a.text }) frame
+    ∙ ap (λ (t : Option (List ℕ)). record { at = b.at; frame = b.frame; text = t }) text
 
-step_once : (check : Check) (input bytes : List ℕ) (lines more : Lines) (rest other : List ℕ)
-    → StartsLines check input bytes lines rest → StartsLines check input bytes more other
-    → (lines ≡ more) × (rest ≡ other)
-step_once check input bytes lines more rest other first second =
-    let same = starts_frame_once bytes first.frame second.frame rest other first.starts second.starts in (
-      lines_once check (length input - length bytes) second.frame lines more
-          (subst (λ (f : List ℕ). HasLines check (length input - length bytes) f lines) same.0 first.shown) second.shown,
+step_once : (input bytes : List ℕ) (a b : Seen) (rest other : List ℕ) → StartsSeen input bytes a rest
+    → StartsSeen input bytes b other → (a ≡ b) × (rest ≡ other)
+step_once input bytes a b rest other first second =
+    let same = starts_frame_once bytes a.frame b.frame rest other first.starts second.starts in (
+      seen_once a b (first.place ∙ sym second.place) same.0
+          (text_once (ack_attributes (meaning b.frame)) a.text b.text
+          (subst (λ (f : List ℕ). IsText (ack_attributes (meaning f)) a.text) same.0 first.text) second.text),
       same.1,
     )
 
@@ -50,18 +49,18 @@ without bytes (FrameCut said size within) is = (FrameCut said size false, (is.0,
 without bytes (FrameLength said within) is = (FrameLength said false, (is.0, is.1, is.2, refl))
 without bytes _ is = absurd is
 
-no_cause_of : (check : Check) (input bytes : List ℕ) (lines : Lines) (rest : List ℕ) (cause : Cause)
-    → StartsLines check input bytes lines rest → IsCause bytes cause → ⊥
-no_cause_of check input bytes lines rest (Damaged error) starts (is, most) =
+no_cause_of : (input bytes : List ℕ) (seen : Seen) (rest : List ℕ) (cause : Cause)
+    → StartsSeen input bytes seen rest → IsCause bytes cause → ⊥
+no_cause_of input bytes seen rest (Damaged error) starts (is, most) =
     let fault = without bytes error is in
-    starts_frame-fault bytes starts.frame rest fault.0 starts.starts fault.1
-no_cause_of check input bytes lines rest (TooLong said) starts (long, is, high) =
-    omega (arith, is, high, starts.most, starts_frame-field bytes starts.frame rest starts.starts)
+    starts_frame-fault bytes seen.frame rest fault.0 starts.starts fault.1
+no_cause_of input bytes seen rest (TooLong said) starts (long, is, high) =
+    omega (arith, is, high, starts.most, starts_frame-field bytes seen.frame rest starts.starts)
 
-no_cause : (check : Check) (input bytes : List ℕ) (lines : Lines) (rest : List ℕ) (stop : Stop)
-    → StartsLines check input bytes lines rest → IsStop input bytes stop → ⊥
-no_cause check input bytes lines rest stop starts is =
-    no_cause_of check input bytes lines rest stop.cause starts is.cause
+no_cause : (input bytes : List ℕ) (seen : Seen) (rest : List ℕ) (stop : Stop)
+    → StartsSeen input bytes seen rest → IsStop input bytes stop → ⊥
+no_cause input bytes seen rest stop starts is =
+    no_cause_of input bytes seen rest stop.cause starts is.cause
 
 fault_once : (bytes : List ℕ) (e f : DecodeError) → IsFrameFault true bytes e → IsFrameFault true bytes f → e ≡ f
 fault_once bytes (FrameShort m i) (FrameShort n j) p q = cc
@@ -97,18 +96,18 @@ stop_once input bytes r s first second =
 
 -- ---- an input shows one list
 
-nothing_starts : (check : Check) (input bytes : List ℕ) (lines : Lines) (rest : List ℕ) → bytes ≡ []
-    → StartsLines check input bytes lines rest → ⊥
-nothing_starts check input bytes lines rest none starts = no_frame_starts bytes starts.frame rest none starts.starts
+nothing_starts : (input bytes : List ℕ) (seen : Seen) (rest : List ℕ) → bytes ≡ []
+    → StartsSeen input bytes seen rest → ⊥
+nothing_starts input bytes seen rest none starts = no_frame_starts bytes seen.frame rest none starts.starts
 
-pub step_laws : (check : Check) (input : List ℕ) → StepLaws (StartsLines check input) (IsStop input)
-step_laws check input = record {
-  once = step_once check input;
-  nothing = nothing_starts check input;
-  fault = λ bytes lines rest stop. no_cause check input bytes lines rest stop;
+pub step_laws : (input : List ℕ) → StepLaws (StartsSeen input) (IsStop input)
+step_laws input = record {
+  once = step_once input;
+  nothing = nothing_starts input;
+  fault = λ bytes seen rest stop. no_cause input bytes seen rest stop;
   fault_once = stop_once input;
 }
 
-pub once : (check : Check) (input : List ℕ) (all more : List Lines) (s t : Option Stop) → Shows check input all s
-    → Shows check input more t → (all ≡ more) × (s ≡ t)
-once check input = walks_once (step_laws check input) input
+pub once : (input : List ℕ) (all more : List Seen) (s t : Option Stop) → Shows input all s
+    → Shows input more t → (all ≡ more) × (s ≡ t)
+once input = walks_once (step_laws input) input

@@ -1,30 +1,101 @@
 -- The lines of a message, from those of its parts.
-use Rattle.std.proofs.Common.{◌≡◌, ◌∙◌, refl, ap, subst, ℕ, List, Option, IfOk, Result, Ok, Err, string_bytes}
+use Rattle.std.proofs.Common.{◌≡◌, ◌∙◌, refl, ap, sym, subst, ℕ, List, [], Option, Some, None, IfOk, Result, Ok, Err, string_bytes}
+use Rattle.std.proofs.lemmas.Bool.{eqb-true}
+use Rattle.std.specs.Prelude.{Bool, true, false, nat_eq, ◌==◌, if◌then◌else◌}
 use Rattle.netlink_family.specs.ErrorTexts.{error_text}
 use Rattle.netlink_family.specs.declared.error.FamilyError.{FamilyError}
 use Rattle.netlink_family.specs.declared.error.FamilyError.TheVariants.{UnknownType}
-use Rattle.netlink_packet_core.specs.Header.{header_of}
+use Rattle.netlink_packet_core.specs.Header.{header_of, payload_of}
 use Rattle.netlink_packet_core.specs.Refusal.{refusal_text}
-use Rattle.netlink_replies.specs.Meaning.{Item, meaning}
+use Rattle.netlink_packet_core.specs.declared.constants.TheConstants.{NLMSG_DONE, NLMSG_ERROR, NLMSG_NOOP, NLMSG_OVERRUN}
+use Rattle.netlink_replies.specs.Meaning.{Item, done_item, error_item, meaning}
+use Rattle.netlink_replies.specs.declared.reply.Reply.TheVariants.{Message, Overrun}
 use Rattle.netlink_lines.specs.Ack.{IsText, ack_attributes, marked_if}
-use Rattle.netlink_lines.specs.Messages.{Check, HasLines, Lines, bad, error_lines, item_lines}
+use Rattle.netlink_lines.specs.Messages.{Check, HasLines, Lines, Memory, Tells, bad, error_lines, frame_lines, good, item_lines, known_after, timed, unless_time}
+use Rattle.netlink_lines.specs.Time.{time_in, time_of}
+use Rattle.netlink_lines.specs.declared.device.Known.{Known}
 use Rattle.netlink_lines.specs.declared.messages.Shown.{Shown}
+use Rattle.netlink_lines.specs.declared.time.Time.{Time}
 
-pub has_lines : {E : Type 0} (check : Check) (at : ℕ) (frame : List ℕ) (text : Option (List ℕ)) (item : Option Item)
+pub has_lines : {E : Type 0} (check : Check) (known : List Known) (at : ℕ) (frame : List ℕ) (text : Option (List ℕ)) (item : Option Item)
     (flags : ℕ) (shown : Lines) (r : Result Shown E) → item ≡ meaning frame → IsText (ack_attributes item) text
-    → flags ≡ (header_of frame).flags → shown ≡ item_lines check at frame text item
+    → flags ≡ (header_of frame).flags → shown ≡ item_lines check known at frame text item
     → IfOk r (λ s. ◌≡◌ {A = Lines} (string_bytes s.text, s.is_malformed) (marked_if flags shown))
-    → IfOk r (λ s. HasLines check at frame (string_bytes s.text, s.is_malformed))
-has_lines check at frame text item flags shown (Ok s) same is flag lines marked = (
+    → IfOk r (λ s. HasLines check known at frame (string_bytes s.text, s.is_malformed))
+has_lines check known at frame text item flags shown (Ok s) same is flag lines marked = (
   text,
   subst (λ (i : Option Item). IsText (ack_attributes i) text) same is,
   marked ∙ ap (λ (n : ℕ). marked_if n shown) flag
-      ∙ ap (marked_if (header_of frame).flags) (lines ∙ ap (item_lines check at frame text) same),
+      ∙ ap (marked_if (header_of frame).flags) (lines ∙ ap (item_lines check known at frame text) same),
 )
-has_lines check at frame text item flags shown (Err e) same is flag lines marked = tt
+has_lines check known at frame text item flags shown (Err e) same is flag lines marked = tt
 
 -- an error other than an unknown type is the line of a malformed message
 pub malformed_lines : (at t size : ℕ) (e : FamilyError) → ((n : ℕ) → e ≡ UnknownType n → ⊥)
     → error_lines at t size e ≡ bad at (refusal_text t (error_text e))
 malformed_lines at t size (UnknownType n) not = absurd (not n refl)
 malformed_lines at t size e not = refl
+
+-- ---- after other messages
+
+-- a message with a time has the type 15
+chosen : (b : Bool) (o : Option Time) (time : Time) → Some time ≡ (if b then o else None) → b ≡ true
+chosen true o time is = refl
+chosen false o time is = absurd cc
+
+time_type : (frame : List ℕ) (time : Time) → Some time ≡ time_in frame → (header_of frame).message_type ≡ 15
+unfolding time_in
+time_type frame time is =
+    eqb-true (header_of frame).message_type 15
+    (chosen ((header_of frame).message_type == 15) (time_of (payload_of frame)) time is)
+
+-- so it is not one with the kernel's text
+time_attributes : (frame : List ℕ) (time : Time) → Some time ≡ time_in frame → ack_attributes (meaning frame) ≡ []
+time_attributes frame time is =
+    ap (λ (t : ℕ).
+    ack_attributes
+    (if nat_eq t NLMSG_NOOP then None
+    else if nat_eq t NLMSG_ERROR then Some (error_item (header_of frame).flags (payload_of frame))
+    else if nat_eq t NLMSG_DONE then Some (done_item (header_of frame).flags (payload_of frame))
+    else if nat_eq t NLMSG_OVERRUN then Some (Ok Overrun)
+    else Some (Ok (Message frame)))) (time_type frame time is)
+
+no_text : IsText [] None
+no_text = ([], None, refl, refl)
+
+-- what a message leaves, by its time and the names after it
+leaves_these : (check : Check) (frame : List ℕ) (memory : Memory) (time : Option Time) (known : List Known)
+    → time ≡ time_in frame → known ≡ known_after check frame memory.known
+    → ◌≡◌ {A = Memory} (record { time = time; known = known })
+    (record { time = time_in frame; known = known_after check frame memory.known })
+leaves_these check frame memory time known same names = cc
+
+-- a time leaves itself, and has no line
+pub tells_time : (check : Check) (at : ℕ) (frame : List ℕ) (memory : Memory) (lines : Lines) (result : Option Time)
+    (known : List Known) (time : Time) → result ≡ time_in frame → known ≡ known_after check frame memory.known
+    → Some time ≡ time_in frame → lines ≡ good []
+    → Tells check at frame memory lines (record { time = result; known = known })
+tells_time check at frame memory lines result known time same names is none =
+    let after : List Known = known_after check frame memory.known in (
+      None,
+      subst (λ (a : List ℕ). IsText a None) (sym (time_attributes frame time is)) no_text,
+      none ∙ ap (λ (t : Option Time). unless_time t (timed memory.time (frame_lines check after at frame None))) is,
+      leaves_these check frame memory result known same names,
+    )
+
+-- any other message has its lines after the time so far, by the names after it
+pub tells_lines : {E : Type 0} (check : Check) (at : ℕ) (frame : List ℕ) (memory : Memory) (shown : Lines)
+    (result : Option Time) (known view : List Known) (r : Result Shown E)
+    → result ≡ time_in frame → known ≡ known_after check frame memory.known → None ≡ time_in frame → view ≡ known
+    → HasLines check view at frame shown
+    → IfOk r (λ s. ◌≡◌ {A = Lines} (string_bytes s.text, s.is_malformed) (timed memory.time shown))
+    → IfOk r (λ s. Tells check at frame memory (string_bytes s.text, s.is_malformed) (record { time = result; known = known }))
+tells_lines check at frame memory shown result known view (Ok s) same names is seen (text, has, lines) timely =
+    let after : List Known = known_after check frame memory.known in (
+      text,
+      has,
+      timely ∙ ap (timed memory.time) (lines ∙ ap (λ (k : List Known). frame_lines check k at frame text) (seen ∙ names))
+          ∙ ap (λ (t : Option Time). unless_time t (timed memory.time (frame_lines check after at frame text))) is,
+      leaves_these check frame memory result known same names,
+    )
+tells_lines check at frame memory shown result known view (Err e) same names is seen has timely = tt

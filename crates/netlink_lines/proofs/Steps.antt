@@ -3,6 +3,7 @@ use Rattle.std.proofs.Common.{◌≡◌, ◌≢◌, ◌<◌, ◌≤◌, ◌+◌,
 use Rattle.std.proofs.KnownBytes.{Consumes-trans}
 use Rattle.std.proofs.lemmas.Bool.{cases_lt}
 use Rattle.std.proofs.lemmas.List.{drop_all, drop_at, length-take-le, take-append-le, take_all, take_at}
+use Rattle.std.proofs.lemmas.List.Sums.{fold-append}
 use Rattle.std.specs.Io.KnownBytes.{Consumes, IsAtEnd}
 use Rattle.std.specs.Prelude.{true}
 use borrow.Rule.Slice.PartMut.{post_of, put_mid}
@@ -12,10 +13,12 @@ use Rattle.netlink_packet_core.specs.FrameWalk.{IsWholeFrame, StartsFrame}
 use Rattle.netlink_packet_core.specs.Header.{HoldsFrame, field}
 use Rattle.netlink_packet_core.specs.Numbers.{number_le}
 use Rattle.netlink_packet_core.specs.Walks.{Passed, passed_ends, passed_faults, passed_push}
-use Rattle.netlink_lines.specs.Messages.{Check, HasLines, Lines}
+use Rattle.netlink_replies.specs.Meaning.{meaning}
+use Rattle.netlink_lines.specs.Ack.{IsText, ack_attributes}
+use Rattle.netlink_lines.specs.Messages.{Check, Seen}
 use Rattle.netlink_lines.specs.Reading.{Skips, SkipsPart, Tries}
 use Rattle.netlink_lines.specs.Run.{NoneLost, ShowsFirst}
-use Rattle.netlink_lines.specs.Stream.{IsCause, IsStop, Shows, StartsLines, longest, output_of}
+use Rattle.netlink_lines.specs.Stream.{IsCause, IsStop, Shows, StartsSeen, longest, tell, told_nothing, told_of}
 use Rattle.netlink_lines.specs.declared.stream.Cause.{Cause}
 use Rattle.netlink_lines.specs.declared.stream.Cause.TheVariants.{Damaged, TooLong}
 
@@ -113,22 +116,22 @@ whole_frame head body said size is whole =
 -- ---- the messages so far
 
 -- the messages that were shown, and what is then left in the reader, from this offset on
-abbrev pub PassedKnown : Check → Option (List ℕ) → List Lines → Option (List ℕ) → ℕ → Type 0
-PassedKnown check None done now at = Unit {0}
-PassedKnown check (Some input) done None at = ⊥
-PassedKnown check (Some input) done (Some rest) at =
-    Passed (StartsLines check input) input done rest × (at + length rest ≡ length input)
+abbrev pub PassedKnown : Option (List ℕ) → List Seen → Option (List ℕ) → ℕ → Type 0
+PassedKnown None done now at = Unit {0}
+PassedKnown (Some input) done None at = ⊥
+PassedKnown (Some input) done (Some rest) at =
+    Passed (StartsSeen input) input done rest × (at + length rest ≡ length input)
 
 -- the same after a frame whose padding was not yet read
-abbrev pub PassedFrame : Check → Option (List ℕ) → List Lines → Option (List ℕ) → ℕ → ℕ → Type 0
-PassedFrame check None done now missing at = Unit {0}
-PassedFrame check (Some input) done None missing at = ⊥
-PassedFrame check (Some input) done (Some left) missing at =
-    Passed (StartsLines check input) input done (drop missing left) × (at + length left ≡ length input)
+abbrev pub PassedFrame : Option (List ℕ) → List Seen → Option (List ℕ) → ℕ → ℕ → Type 0
+PassedFrame None done now missing at = Unit {0}
+PassedFrame (Some input) done None missing at = ⊥
+PassedFrame (Some input) done (Some left) missing at =
+    Passed (StartsSeen input) input done (drop missing left) × (at + length left ≡ length input)
 
-pub passed_nothing : (check : Check) (old : Option (List ℕ)) → PassedKnown check old [] old 0
-passed_nothing check None = tt
-passed_nothing check (Some input) = (refl, omega arith)
+pub passed_nothing : (old : Option (List ℕ)) → PassedKnown old [] old 0
+passed_nothing None = tt
+passed_nothing (Some input) = (refl, omega arith)
 
 -- a frame and then other bytes start with the frame
 starts_whole : (bytes frame left : List ℕ) → bytes ≡ frame ++ left → IsWholeFrame frame
@@ -149,32 +152,33 @@ starts_whole bytes frame left is whole =
       ];
     }
 
-pub passes_frame : (check : Check) (old now left : Option (List ℕ)) (done : List Lines) (at : ℕ) (frame : List ℕ)
-    (lines : Lines) → PassedKnown check old done now at → Consumes now left frame → IsWholeFrame frame
-    → length frame ≤ longest → HasLines check at frame lines
-    → PassedFrame check old (done ++ (lines ∷ [])) left (padding (length frame)) (at + length frame)
-passes_frame check None now left done at frame lines passed took whole most has = tt
-passes_frame check (Some input) None left done at frame lines passed took whole most has = absurd passed
-passes_frame check (Some input) (Some rest) None done at frame lines passed took whole most has = absurd took
-passes_frame check (Some input) (Some rest) (Some after) done at frame lines (passed, place) took whole most has =
+pub passes_frame : (old now left : Option (List ℕ)) (done : List Seen) (at : ℕ) (frame : List ℕ)
+    (text : Option (List ℕ)) → PassedKnown old done now at → Consumes now left frame → IsWholeFrame frame
+    → length frame ≤ longest → IsText (ack_attributes (meaning frame)) text
+    → PassedFrame old (done ++ (record { at = at; frame = frame; text = text } ∷ [])) left (padding (length frame)) (at + length frame)
+passes_frame None now left done at frame text passed took whole most is = tt
+passes_frame (Some input) None left done at frame text passed took whole most is = absurd passed
+passes_frame (Some input) (Some rest) None done at frame text passed took whole most is = absurd took
+passes_frame (Some input) (Some rest) (Some after) done at frame text (passed, place) took whole most is =
     let here : at ≡ length input - length rest = omega (arith, place) in
-    let long : length rest ≡ length frame + length after = ap length took ∙ length-append frame after in (
-      passed_push (StartsLines check input) input done rest lines (drop (padding (length frame)) after) passed (record {
-        frame = frame;
+    let long : length rest ≡ length frame + length after = ap length took ∙ length-append frame after in
+    let seen : Seen = record { at = at; frame = frame; text = text } in (
+      passed_push (StartsSeen input) input done rest seen (drop (padding (length frame)) after) passed (record {
         starts = starts_whole rest frame after took whole;
         most = most;
-        shown = subst (λ (n : ℕ). HasLines check n frame lines) here has;
+        place = here;
+        text = is;
       }),
       omega (arith, place, long),
     )
 
-pub passes_padding : (check : Check) (old now left : Option (List ℕ)) (done : List Lines) (missing at n : ℕ)
-    → PassedFrame check old done now missing at → Skips now left missing n → PassedKnown check old done left (at + n)
-passes_padding check None now left done missing at n passed skips = tt
-passes_padding check (Some input) None left done missing at n passed skips = absurd passed
-passes_padding check (Some input) (Some rest) None done missing at n passed skips = absurd skips
-passes_padding check (Some input) (Some rest) (Some after) done missing at n (passed, place) (is, size) =
-    (subst (Passed (StartsLines check input) input done) (sym is) passed, omega (arith, place, size))
+pub passes_padding : (old now left : Option (List ℕ)) (done : List Seen) (missing at n : ℕ)
+    → PassedFrame old done now missing at → Skips now left missing n → PassedKnown old done left (at + n)
+passes_padding None now left done missing at n passed skips = tt
+passes_padding (Some input) None left done missing at n passed skips = absurd passed
+passes_padding (Some input) (Some rest) None done missing at n passed skips = absurd skips
+passes_padding (Some input) (Some rest) (Some after) done missing at n (passed, place) (is, size) =
+    (subst (Passed (StartsSeen input) input done) (sym is) passed, omega (arith, place, size))
 
 -- the padding that was read
 pub skips_filled : (old new : Option (List ℕ)) (gap : List ℕ) (most n : ℕ) → Consumes old new gap
@@ -192,53 +196,53 @@ skips_filled (Some xs) (Some ys) gap most n took size few end =
 
 -- ---- what a run showed when it ends
 
-pub ends_here : (check : Check) (old now : Option (List ℕ)) (done : List Lines) (at : ℕ)
-    → PassedKnown check old done now at → IsAtEnd now → IfSome old (λ input. Shows check input done None)
-ends_here check None now done at passed end = tt
-ends_here check (Some input) None done at passed end = absurd passed
-ends_here check (Some input) (Some rest) done at (passed, place) end =
-    passed_ends (StartsLines check input) (IsStop input) input done rest passed end
+pub ends_here : (old now : Option (List ℕ)) (done : List Seen) (at : ℕ)
+    → PassedKnown old done now at → IsAtEnd now → IfSome old (λ input. Shows input done None)
+ends_here None now done at passed end = tt
+ends_here (Some input) None done at passed end = absurd passed
+ends_here (Some input) (Some rest) done at (passed, place) end =
+    passed_ends (StartsSeen input) (IsStop input) input done rest passed end
 
-pub stops_here : (check : Check) (old now : Option (List ℕ)) (done : List Lines) (at : ℕ) (cause : Cause)
-    → PassedKnown check old done now at → IfSome now (λ rest. (rest ≢ []) × IsCause rest cause)
-    → IfSome old (λ input. Shows check input done (Some (record { at = at; cause = cause })))
-stops_here check None now done at cause passed is = tt
-stops_here check (Some input) None done at cause passed is = absurd passed
-stops_here check (Some input) (Some rest) done at cause (passed, place) is =
-    passed_faults (StartsLines check input) (IsStop input) input done rest (record { at = at; cause = cause }) passed
+pub stops_here : (old now : Option (List ℕ)) (done : List Seen) (at : ℕ) (cause : Cause)
+    → PassedKnown old done now at → IfSome now (λ rest. (rest ≢ []) × IsCause rest cause)
+    → IfSome old (λ input. Shows input done (Some (record { at = at; cause = cause })))
+stops_here None now done at cause passed is = tt
+stops_here (Some input) None done at cause passed is = absurd passed
+stops_here (Some input) (Some rest) done at cause (passed, place) is =
+    passed_faults (StartsSeen input) (IsStop input) input done rest (record { at = at; cause = cause }) passed
     is.0 (record { place = place; cause = is.1 })
 
-pub first_shown : (check : Check) (old now : Option (List ℕ)) (done : List Lines) (at : ℕ)
-    → PassedKnown check old done now at → IfSome old (λ input. ShowsFirst check input done)
-first_shown check None now done at passed = tt
-first_shown check (Some input) None done at passed = absurd passed
-first_shown check (Some input) (Some rest) done at (passed, place) = (rest, passed)
+pub first_shown : (old now : Option (List ℕ)) (done : List Seen) (at : ℕ)
+    → PassedKnown old done now at → IfSome old (λ input. ShowsFirst input done)
+first_shown None now done at passed = tt
+first_shown (Some input) None done at passed = absurd passed
+first_shown (Some input) (Some rest) done at (passed, place) = (rest, passed)
 
-pub frame_shown : (check : Check) (old now : Option (List ℕ)) (done : List Lines) (missing at : ℕ)
-    → PassedFrame check old done now missing at → IfSome old (λ input. ShowsFirst check input done)
-frame_shown check None now done missing at passed = tt
-frame_shown check (Some input) None done missing at passed = absurd passed
-frame_shown check (Some input) (Some left) done missing at (passed, place) = (drop missing left, passed)
+pub frame_shown : (old now : Option (List ℕ)) (done : List Seen) (missing at : ℕ)
+    → PassedFrame old done now missing at → IfSome old (λ input. ShowsFirst input done)
+frame_shown None now done missing at passed = tt
+frame_shown (Some input) None done missing at passed = absurd passed
+frame_shown (Some input) (Some left) done missing at (passed, place) = (drop missing left, passed)
 
-pub none_lost : (check : Check) (old now new : Option (List ℕ)) (done : List Lines) (at : ℕ)
-    → PassedKnown check old done now at → Tries now new → IfSome old (λ input. NoneLost check input done new)
-none_lost check None now new done at passed tries = tt
-none_lost check (Some input) None new done at passed tries = absurd passed
-none_lost check (Some input) (Some rest) None done at passed (front, took, torn) = absurd took
-none_lost check (Some input) (Some rest) (Some left) done at (passed, place) (front, took, torn) =
+pub none_lost : (old now new : Option (List ℕ)) (done : List Seen) (at : ℕ)
+    → PassedKnown old done now at → Tries now new → IfSome old (λ input. NoneLost input done new)
+none_lost None now new done at passed tries = tt
+none_lost (Some input) None new done at passed tries = absurd passed
+none_lost (Some input) (Some rest) None done at passed (front, took, torn) = absurd took
+none_lost (Some input) (Some rest) (Some left) done at (passed, place) (front, took, torn) =
     let long : length rest ≡ length front + length left = ap length took ∙ length-append front left in
     let read : take (length rest - length left) rest ≡ front =
     ap (λ (l : List ℕ). take (length rest - length left) l) took
     ∙ take_at front left (length rest - length left) (omega (arith, long)) in
     (rest, passed, λ holds. torn (subst HoldsFrame read holds))
 
-pub none_lost_between : (check : Check) (old now new : Option (List ℕ)) (done : List Lines) (missing at : ℕ)
-    → PassedFrame check old done now missing at → SkipsPart now new missing
-    → IfSome old (λ input. NoneLost check input done new)
-none_lost_between check None now new done missing at passed part = tt
-none_lost_between check (Some input) None new done missing at passed part = absurd passed
-none_lost_between check (Some input) (Some rest) None done missing at passed (front, took, few) = absurd took
-none_lost_between check (Some input) (Some rest) (Some left) done missing at (passed, place) (front, took, few) =
+pub none_lost_between : (old now new : Option (List ℕ)) (done : List Seen) (missing at : ℕ)
+    → PassedFrame old done now missing at → SkipsPart now new missing
+    → IfSome old (λ input. NoneLost input done new)
+none_lost_between None now new done missing at passed part = tt
+none_lost_between (Some input) None new done missing at passed part = absurd passed
+none_lost_between (Some input) (Some rest) None done missing at passed (front, took, few) = absurd took
+none_lost_between (Some input) (Some rest) (Some left) done missing at (passed, place) (front, took, few) =
     let long : length rest ≡ length front + length left = ap length took ∙ length-append front left in
     let later : length (drop missing rest) ≡ length rest - missing = length-drop missing rest in
     let none : length (drop missing rest) - length left ≡ 0 = omega (arith, long, later, few) in (
@@ -251,10 +255,9 @@ none_lost_between check (Some input) (Some rest) (Some left) done missing at (pa
 
 -- ---- what a run wrote
 
-pub output_push : (done : List Lines) (lines : Lines) → output_of (done ++ (lines ∷ [])) ≡ output_of done ++ lines.0
-output_push [] lines = append-nil lines.0
-output_push (first ∷ done) lines =
-    ap (λ (x : List ℕ). first.0 ++ x) (output_push done lines) ∙ sym (append_assoc first.0 (output_of done) lines.0)
+pub told_push : (check : Check) (done : List Seen) (seen : Seen)
+    → told_of check (done ++ (seen ∷ [])) ≡ tell check (told_of check done) seen
+told_push check done seen = fold-append (tell check) told_nothing done (seen ∷ [])
 
 -- ---- a header, and then the rest of its frame in place
 

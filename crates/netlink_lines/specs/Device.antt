@@ -8,7 +8,7 @@ use Rattle.netlink_lines.specs.declared.device.Known.{Known}
 unfoldable pub name_of : List Known → ℕ → Option (List ℕ)
 name_of [] index = None
 name_of (link ∷ known) index =
-    if link.index == index then Some link.name.now else name_of known index
+    if link.index == index then Some link.name else name_of known index
 
 abbrev pub name_or_index : ℕ → Option (List ℕ) → List ℕ
 name_or_index index None = codes "if" ++ decimal index

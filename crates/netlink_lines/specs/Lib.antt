@@ -2,6 +2,7 @@ pub mod Ack
 pub mod Address
 pub mod Device
 pub mod Flags
+pub mod Known
 pub mod Lines
 pub mod Link
 pub mod Messages
@@ -21,3 +22,4 @@ pub mod RuleParts
 pub mod Run
 pub mod Stream
 pub mod Text
+pub mod Time

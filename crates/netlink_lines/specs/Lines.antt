@@ -5,12 +5,14 @@ use Rattle.std.specs.Ordering.{int_eq}
 use Rattle.netlink_family.specs.Shapes.{has_type}
 use Rattle.netlink_lines.specs.Ack.{text_words}
 use Rattle.netlink_lines.specs.Address.{address_line}
+use Rattle.netlink_lines.specs.Known.{link_known}
 use Rattle.netlink_lines.specs.Link.{link_line}
 use Rattle.netlink_lines.specs.Namespace.{namespace_line}
 use Rattle.netlink_lines.specs.Neighbour.{neighbour_line}
 use Rattle.netlink_lines.specs.NeighbourTable.{neighbour_table_line}
 use Rattle.netlink_lines.specs.Route.{route_entry_line}
 use Rattle.netlink_lines.specs.Rule.{rule_line}
+use Rattle.netlink_lines.specs.declared.device.Known.{Known}
 
 -- a code other than 0
 abbrev pub code_words : ℤ → List ℕ
@@ -50,23 +52,27 @@ abbrev pub namespace_types : List ℕ
 namespace_types = 88 ∷ 89 ∷ 90 ∷ []
 
 -- the line of a message that is about a rule, a neighbour table or an id of a namespace
-abbrev pub later_line : ℕ → List ℕ → Option (List ℕ)
-later_line t payload =
+abbrev pub later_line : List Known → ℕ → List ℕ → Option (List ℕ)
+later_line known t payload =
     if has_type rule_types t then rule_line t payload
-    else if has_type neighbour_table_types t then neighbour_table_line [] t payload
+    else if has_type neighbour_table_types t then neighbour_table_line known t payload
     else if has_type namespace_types t then namespace_line t payload
     else None
 
--- the line of a message that is about neither a link nor an address; no link has a known name
-abbrev pub other_line : ℕ → List ℕ → Option (List ℕ)
-other_line t payload =
-    if has_type neighbour_types t then Some (neighbour_line [] t payload)
-    else if has_type route_types t then route_entry_line [] t payload
-    else later_line t payload
+-- the line of a message that is about neither a link nor an address
+abbrev pub other_line : List Known → ℕ → List ℕ → Option (List ℕ)
+other_line known t payload =
+    if has_type neighbour_types t then Some (neighbour_line known t payload)
+    else if has_type route_types t then route_entry_line known t payload
+    else later_line known t payload
 
--- the line of a message type and a payload, if it has one
-unfoldable pub route_line : ℕ × List ℕ → Option (List ℕ)
-route_line (t, payload) =
-    if has_type link_types t then Some (link_line t payload)
+-- the line of a message type and a payload, if it has one, by the known names of links
+unfoldable pub route_line : List Known → ℕ × List ℕ → Option (List ℕ)
+route_line known (t, payload) =
+    if has_type link_types t then Some (link_line known t payload)
     else if has_type address_types t then Some (address_line t payload)
-    else other_line t payload
+    else other_line known t payload
+
+-- the names of links after a message of this type and payload
+unfoldable pub known_by : ℕ × List ℕ → List Known → List Known
+known_by (t, payload) known = if has_type link_types t then link_known t payload known else known

@@ -1,5 +1,5 @@
 -- What a message is shown as.
-use Rattle.std.specs.Prelude.{ℕ, ◌≡◌, Bool, true, false, List, ◌++◌, length, Option, Some, None, Ok, Err, codes, decimal, pos}
+use Rattle.std.specs.Prelude.{ℕ, ◌≡◌, ◌==◌, ◌||◌, Bool, true, false, List, [], ◌++◌, length, Option, Some, None, Ok, Err, codes, decimal, pos, if◌then◌else◌}
 use Rattle.netlink_family.specs.ErrorTexts.{error_text}
 use Rattle.netlink_family.specs.declared.error.FamilyError.{FamilyError}
 use Rattle.netlink_family.specs.declared.error.FamilyError.TheVariants.{UnknownType}
@@ -9,7 +9,11 @@ use Rattle.netlink_packet_core.specs.Refusal.{refusal_text}
 use Rattle.netlink_replies.specs.Meaning.{Item, meaning}
 use Rattle.netlink_replies.specs.declared.reply.Reply.TheVariants.{Message, Done, Acknowledged, Rejected, Overrun, Other}
 use Rattle.netlink_lines.specs.Ack.{IsText, ack_attributes, marked_if}
-use Rattle.netlink_lines.specs.Lines.{done_line, error_line, route_line}
+use Rattle.netlink_lines.specs.Lines.{done_line, error_line, known_by, route_line}
+use Rattle.netlink_lines.specs.Time.{time_in, time_text}
+use Rattle.netlink_lines.specs.declared.device.Known.{Known}
+use Rattle.netlink_lines.specs.declared.state.State.{State}
+use Rattle.netlink_lines.specs.declared.time.Time.{Time}
 
 -- the error of a payload, if it has one, by its message type
 abbrev pub Check : Type 0
@@ -40,29 +44,111 @@ abbrev pub error_lines : ℕ → ℕ → ℕ → FamilyError → Lines
 error_lines at t size (UnknownType other) = good (type_line t size)
 error_lines at t size error = bad at (refusal_text t (error_text error))
 
--- a message of a family, by its offset, type, size and payload, and by the payload's error
-abbrev pub family_lines : ℕ → ℕ → ℕ → List ℕ → Option FamilyError → Lines
-family_lines at t size payload None = good (line_or_type t size (route_line (t, payload)))
-family_lines at t size payload (Some error) = error_lines at t size error
+-- a message of a family, by the known names of links, its offset, type, size and payload, and by the
+-- payload's error
+abbrev pub family_lines : List Known → ℕ → ℕ → ℕ → List ℕ → Option FamilyError → Lines
+family_lines known at t size payload None = good (line_or_type t size (route_line known (t, payload)))
+family_lines known at t size payload (Some error) = error_lines at t size error
 
-abbrev pub own_lines : Check → ℕ → List ℕ → Lines
-own_lines check at frame =
-    family_lines at (header_of frame).message_type (length frame) (payload_of frame)
+-- a message of type 15 at this offset, whose payload is no time
+abbrev pub wrong_time : ℕ → List ℕ → Lines
+wrong_time at payload =
+    bad at (refusal_text 15
+    (codes "the payload has " ++ (decimal (length payload) ++ codes " bytes instead of 8")))
+
+abbrev pub own_lines : Check → List Known → ℕ → List ℕ → Lines
+own_lines check known at frame =
+    if (header_of frame).message_type == 15 then wrong_time at (payload_of frame)
+    else family_lines known at (header_of frame).message_type (length frame) (payload_of frame)
     (check (header_of frame).message_type (payload_of frame))
 
 -- a frame by what it means, and by the kernel's text in it
-abbrev pub item_lines : Check → ℕ → List ℕ → Option (List ℕ) → Option Item → Lines
-item_lines check at frame text None = good (codes "noop\n")
-item_lines check at frame text (Some (Err error)) = bad at (cause_text error)
-item_lines check at frame text (Some (Ok (Done code attributes))) = good (done_line code text)
-item_lines check at frame text (Some (Ok (Acknowledged attributes))) = good (error_line (pos 0) text)
-item_lines check at frame text (Some (Ok (Rejected code request attributes))) = good (error_line code text)
-item_lines check at frame text (Some (Ok Overrun)) = good (codes "overrun\n")
-item_lines check at frame text (Some (Ok (Message whole))) = own_lines check at frame
-item_lines check at frame text (Some (Ok (Other whole))) = own_lines check at frame
+abbrev pub item_lines : Check → List Known → ℕ → List ℕ → Option (List ℕ) → Option Item → Lines
+item_lines check known at frame text None = good (codes "noop\n")
+item_lines check known at frame text (Some (Err error)) = bad at (cause_text error)
+item_lines check known at frame text (Some (Ok (Done code attributes))) = good (done_line code text)
+item_lines check known at frame text (Some (Ok (Acknowledged attributes))) = good (error_line (pos 0) text)
+item_lines check known at frame text (Some (Ok (Rejected code request attributes))) = good (error_line code text)
+item_lines check known at frame text (Some (Ok Overrun)) = good (codes "overrun\n")
+item_lines check known at frame text (Some (Ok (Message whole))) = own_lines check known at frame
+item_lines check known at frame text (Some (Ok (Other whole))) = own_lines check known at frame
+
+-- the lines of the frame of a message at this offset, by the known names of links and the kernel's
+-- text in it
+abbrev pub frame_lines : Check → List Known → ℕ → List ℕ → Option (List ℕ) → Lines
+frame_lines check known at frame text =
+    marked_if (header_of frame).flags (item_lines check known at frame text (meaning frame))
 
 -- the frame of a message at this offset has these lines
-abbrev pub HasLines : Check → ℕ → List ℕ → Lines → Type 0
-HasLines check at frame lines =
+abbrev pub HasLines : Check → List Known → ℕ → List ℕ → Lines → Type 0
+HasLines check known at frame lines =
     (text : Option (List ℕ)) × IsText (ack_attributes (meaning frame)) text
-    × (lines ≡ marked_if (header_of frame).flags (item_lines check at frame text (meaning frame)))
+    × (lines ≡ frame_lines check known at frame text)
+
+-- ---- what the messages so far leave to the next
+
+-- the time that precedes the next line, and the names of links
+pub record Memory : Type 0 where
+  pub time : Option Time
+  pub known : List Known
+
+abbrev pub memory_of : State → Memory
+memory_of state = record { time = state.time; known = state.known.items }
+
+-- no message so far
+abbrev pub no_memory : Memory
+no_memory = record { time = None; known = [] }
+
+-- messages of this type tell the names of links
+abbrev pub is_named : ℕ → Bool
+is_named t = t == 16 || t == 17
+
+-- the names of links after a message of this type and payload, by the payload's error
+abbrev pub known_if : Option FamilyError → ℕ → List ℕ → List Known → List Known
+known_if None t payload known = known_by (t, payload) known
+known_if (Some error) t payload known = known
+
+-- the names of links after the message in a frame
+unfoldable pub known_after : Check → List ℕ → List Known → List Known
+known_after check frame known =
+    if is_named (header_of frame).message_type
+    then known_if (check (header_of frame).message_type (payload_of frame))
+    (header_of frame).message_type (payload_of frame) known
+    else known
+
+-- lines after a time, if there is one
+abbrev pub timed : Option Time → Lines → Lines
+timed None lines = lines
+timed (Some time) (text, malformed) = (time_text time ++ text, malformed)
+
+-- a time has no line
+abbrev pub unless_time : Option Time → Lines → Lines
+unless_time None lines = lines
+unless_time (Some time) lines = good []
+
+-- ---- a message after others
+
+-- a message as it is in the input: its offset, its frame and the kernel's text in it
+pub record Seen : Type 0 where
+  pub at : ℕ
+  pub frame : List ℕ
+  pub text : Option (List ℕ)
+
+-- its lines, by what the messages before it leave; the names of links are those after it
+abbrev pub seen_lines : Check → Memory → Seen → Lines
+seen_lines check memory seen =
+    unless_time (time_in seen.frame)
+    (timed memory.time
+    (frame_lines check (known_after check seen.frame memory.known) seen.at seen.frame seen.text))
+
+-- what it leaves: a time is for the next message alone
+abbrev pub memory_after : Check → Memory → Seen → Memory
+memory_after check memory seen =
+    record { time = time_in seen.frame; known = known_after check seen.frame memory.known }
+
+-- the frame of a message at this offset has these lines after others, and leaves this
+abbrev pub Tells : Check → ℕ → List ℕ → Memory → Lines → Memory → Type 0
+Tells check at frame memory lines after =
+    (text : Option (List ℕ)) × IsText (ack_attributes (meaning frame)) text
+    × (lines ≡ seen_lines check memory (record { at = at; frame = frame; text = text }))
+    × (after ≡ memory_after check memory (record { at = at; frame = frame; text = text }))

@@ -5,31 +5,32 @@ use Rattle.netlink_packet_core.specs.Header.{HoldsFrame}
 use Rattle.netlink_packet_core.specs.Walks.{Passed}
 use Rattle.netlink_program.specs.declared.reading.ReadFault.{ReadFault}
 use Rattle.netlink_program.specs.declared.reading.ReadFault.TheVariants as read
-use Rattle.netlink_lines.specs.Messages.{Check, Lines}
-use Rattle.netlink_lines.specs.Stream.{Shows, StartsLines, any_malformed, output_of, stop_text}
-use Rattle.netlink_lines.specs.declared.run.Fault.{Fault}
-use Rattle.netlink_lines.specs.declared.run.Fault.TheVariants as fault
+use Rattle.netlink_lines.specs.Messages.{Check, Seen}
+use Rattle.netlink_lines.specs.Stream.{Shows, StartsSeen, stop_text, told_of}
+use Rattle.netlink_lines.specs.declared.runs.Fault.{Fault}
+use Rattle.netlink_lines.specs.declared.runs.Fault.TheVariants as fault
 
--- the input starts with messages that have these lines
-abbrev pub ShowsFirst : Check → List ℕ → List Lines → Type 0
-ShowsFirst check input all = (rest : List ℕ) × Passed (StartsLines check input) input all rest
+-- the input starts with these messages
+abbrev pub ShowsFirst : List ℕ → List Seen → Type 0
+ShowsFirst input all = (rest : List ℕ) × Passed (StartsSeen input) input all rest
 
 -- of what follows the messages, the reader did not give a whole message before it failed
-abbrev pub NoneLost : Check → List ℕ → List Lines → Option (List ℕ) → Type 0
-NoneLost check input all None = ⊥
-NoneLost check input all (Some left) =
-    (rest : List ℕ) × Passed (StartsLines check input) input all rest
+abbrev pub NoneLost : List ℕ → List Seen → Option (List ℕ) → Type 0
+NoneLost input all None = ⊥
+NoneLost input all (Some left) =
+    (rest : List ℕ) × Passed (StartsSeen input) input all rest
     × (HoldsFrame (take (length rest - length left) rest) → ⊥)
 
 -- the messages that a run over the input showed, by how it ended, and what is left in the reader
-abbrev pub Reads : {A : Type 0} → Check → List ℕ → Option (List ℕ) → List Lines → Result A Fault
+abbrev pub Reads : {A : Type 0} → Check → List ℕ → Option (List ℕ) → List Seen → Result A Fault
     → Type 0
-Reads check input left all (Ok done) = Shows check input all None × (any_malformed all ≡ false)
+Reads check input left all (Ok done) =
+    Shows input all None × ((told_of check all).malformed ≡ false)
 Reads check input left all (Err fault.Malformed) =
-    Shows check input all None × (any_malformed all ≡ true)
-Reads check input left all (Err (fault.Stopped stop)) = Shows check input all (Some stop)
-Reads check input left all (Err fault.Read) = NoneLost check input all left
-Reads check input left all (Err other) = ShowsFirst check input all
+    Shows input all None × ((told_of check all).malformed ≡ true)
+Reads check input left all (Err (fault.Stopped stop)) = Shows input all (Some stop)
+Reads check input left all (Err fault.Read) = NoneLost input all left
+Reads check input left all (Err other) = ShowsFirst input all
 
 -- the writer was given the lines, or a part of them if it failed
 abbrev pub Writes : {A : Type 0} → Option (List ℕ) → Option (List ℕ) → List ℕ → Result A Fault
@@ -42,8 +43,8 @@ Writes old new lines other = Appends old new lines
 abbrev pub RunsAs : {A : Type 0} → Check → List ℕ → Option (List ℕ) → Option (List ℕ)
     → Option (List ℕ) → Result A Fault → Type 0
 RunsAs check input left old new result =
-    (all : List Lines) × Reads check input left all result
-    × Writes old new (output_of all) result
+    (all : List Seen) × Reads check input left all result
+    × Writes old new (told_of check all).text result
 
 -- how a run ends at the end of its input, by whether a message was malformed
 abbrev pub end_of : Bool → Result ⊤ Fault

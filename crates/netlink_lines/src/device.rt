@@ -5,22 +5,23 @@ ghost use Rattle.std.specs.Option.{option_copied};
 ghost use Rattle.netlink_lines.specs.Device.{device_part, device_text, name_of};
 ghost use Rattle.netlink_lines.specs.Parts.{with_part};
 
+use crate::name::Name;
 use crate::parts::push_keyed;
 use crate::text::name_text;
 use std::alloc::{AllocError, Global};
 
 /// A link whose name is known, for example from a message before.
-#[derive(Clone, Copy)]
-pub struct Known<'a> {
+#[derive(Drop)]
+pub struct Known {
     /// The index of the link.
     pub index: u32,
     /// Its name.
-    pub name: &'a [u8],
+    pub name: Name,
 }
 
 /// Returns the name of a link, `if` and its index if the name is not known, or `*` for the index 0. Returns `AllocError` if an allocation fails.
 #[tactic(auto, unfolding(crate::specs::Device::device_text))]
-pub fn device_text(alloc: Global, known: &[Known<'_>], index: u32) -> Result<String, AllocError>
+pub fn device_text(alloc: Global, known: &[Known], index: u32) -> Result<String, AllocError>
     ensures { IfOk result (λ text. string_bytes text ≡ device_text known.now index) }
 {
     if index == 0 {
@@ -37,7 +38,7 @@ pub fn device_text(alloc: Global, known: &[Known<'_>], index: u32) -> Result<Str
 pub(crate) fn push_device(
     alloc: Global,
     text: &mut String,
-    known: &[Known<'_>],
+    known: &[Known],
     key: &str,
     index: Option<u32>,
 ) -> Result<(), AllocError>
@@ -52,12 +53,12 @@ pub(crate) fn push_device(
 
 /// Returns the name of the first known link with this index.
 #[tactic(auto, unfolding(crate::specs::Device::name_of))]
-fn name_of<'a>(known: &[Known<'a>], index: u32) -> Option<&'a [u8]>
+pub(crate) fn name_of<'a>(known: &'a [Known], index: u32) -> Option<&'a [u8]>
     ensures { option_copied result ≡ name_of known.now index }
 {
     for link in known {
         if link.index == index {
-            return Some(link.name);
+            return Some(link.name.bytes());
         }
     }
     None

@@ -1,11 +1,13 @@
 //! The lines of messages.
 
-ghost use Rattle.std.specs.Prelude.{◌≡◌, IfOk, string_bytes};
+ghost use Rattle.std.specs.Prelude.{◌≡◌, IfOk, OnOk, string_bytes};
 ghost use Rattle.std.specs.Option.{option_copied, option_map};
-ghost use Rattle.netlink_lines.specs.Lines.{code_words, done_line, error_line, later_line, other_line, route_line};
+ghost use Rattle.netlink_lines.specs.Lines.{code_words, done_line, error_line, known_by, later_line, other_line, route_line};
 
 use crate::ack::text_words;
 use crate::address::address_text;
+use crate::device::Known;
+use crate::known::learn_link;
 use crate::link::link_text;
 use crate::namespace::namespace_text;
 use crate::neighbour::neighbour_text;
@@ -18,10 +20,23 @@ use std::alloc::{AllocError, Global};
 
 /// A family whose messages may have lines.
 pub trait Line: Family {
-    /// Returns the line of a message, if it has one.
-    fn line(alloc: Global, message: &MessageView<'_, Self>) -> Result<Option<String>, AllocError>
+    /// Returns the line of a message, if it has one. Known links are printed by their names.
+    fn line(
+        alloc: Global,
+        known: &[Known],
+        message: &MessageView<'_, Self>,
+    ) -> Result<Option<String>, AllocError>
         ensures line { IfOk result (λ text. option_map string_bytes text
-            ≡ route_line (message.now.message_type, message.now.payload.now)) };
+            ≡ route_line known.now (message.now.message_type, message.now.payload.now)) };
+
+    /// Updates the names of links by a message.
+    fn learn(
+        alloc: Global,
+        known: &mut Vec<Known>,
+        message: &MessageView<'_, Self>,
+    ) -> Result<(), AllocError>
+        ensures learned { OnOk result (known.new.items
+            ≡ known_by (message.now.message_type, message.now.payload.now) known.old.items) };
 }
 
 impl Line for Joined<RouteTables> {
@@ -30,14 +45,27 @@ impl Line for Joined<RouteTables> {
     #[tactic(auto, unfolding(crate::specs::Lines::route_line))]
     fn line(
         alloc: Global,
+        known: &[Known],
         message: &MessageView<'_, Joined<RouteTables>>,
     ) -> Result<Option<String>, AllocError> {
         match message.tables().split() {
-            Ok(link) => Ok(Some(link_text(alloc, &link)?)),
+            Ok(link) => Ok(Some(link_text(alloc, known, &link)?)),
             Err(other) => match other.split() {
                 Ok(address) => Ok(Some(address_text(alloc, &address)?)),
-                Err(other) => other_line(alloc, &other),
+                Err(other) => other_line(alloc, known, &other),
             },
+        }
+    }
+
+    #[tactic(auto, unfolding(crate::specs::Lines::known_by))]
+    fn learn(
+        alloc: Global,
+        known: &mut Vec<Known>,
+        message: &MessageView<'_, Joined<RouteTables>>,
+    ) -> Result<(), AllocError> {
+        match message.tables().split() {
+            Ok(link) => learn_link(alloc, known, &link),
+            Err(_) => Ok(()),
         }
     }
 }
@@ -50,16 +78,17 @@ type LaterTables = Both<Rules, Both<NeighbourTables, Namespaces>>;
 /// Returns the line of a message about neither a link nor an address, if it has one.
 fn other_line(
     alloc: Global,
+    known: &[Known],
     message: &MessageView<'_, OtherTables>,
 ) -> Result<Option<String>, AllocError>
     ensures { IfOk result (λ text. option_map string_bytes text
-        ≡ other_line message.now.message_type message.now.payload.now) }
+        ≡ other_line known.now message.now.message_type message.now.payload.now) }
 {
     match message.split() {
-        Ok(neighbour) => Ok(Some(neighbour_text(alloc, &[], &neighbour)?)),
+        Ok(neighbour) => Ok(Some(neighbour_text(alloc, known, &neighbour)?)),
         Err(other) => match other.split() {
-            Ok(route) => route_text(alloc, &[], &route),
-            Err(other) => later_line(alloc, &other),
+            Ok(route) => route_text(alloc, known, &route),
+            Err(other) => later_line(alloc, known, &other),
         },
     }
 }
@@ -67,15 +96,16 @@ fn other_line(
 /// Returns the line of a message about a rule, a neighbour table or an id of a namespace.
 fn later_line(
     alloc: Global,
+    known: &[Known],
     message: &MessageView<'_, LaterTables>,
 ) -> Result<Option<String>, AllocError>
     ensures { IfOk result (λ text. option_map string_bytes text
-        ≡ later_line message.now.message_type message.now.payload.now) }
+        ≡ later_line known.now message.now.message_type message.now.payload.now) }
 {
     match message.split() {
         Ok(rule) => rule_text(alloc, &rule),
         Err(other) => match other.split() {
-            Ok(table) => neighbour_table_text(alloc, &[], &table),
+            Ok(table) => neighbour_table_text(alloc, known, &table),
             Err(namespace) => namespace_text(alloc, &namespace),
         },
     }

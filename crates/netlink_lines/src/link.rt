@@ -3,9 +3,10 @@
 ghost use Rattle.std.specs.Prelude.{◌≡◌, IfOk, slice_index, string_bytes};
 ghost use Rattle.std.specs.Option.{option_copied, option_map};
 ghost use Rattle.netlink_route.specs.declared.links.TheConstants.{IFLA_IFNAME, IFLA_LINK, IFLA_MASTER, IFLA_MTU, IFLA_OPERSTATE};
-ghost use Rattle.netlink_lines.specs.Link.{below_words, hardware_words, kind_words, link_bytes, link_front, link_kind, link_line, link_name, link_number, link_string, master_words, mtu_words, state_words};
+ghost use Rattle.netlink_lines.specs.Link.{below_name, below_words, hardware_words, kind_words, link_bytes, link_front, link_kind, link_line, link_name, link_number, link_peer, link_string, master_words, mtu_words, state_words};
 ghost use Rattle.netlink_lines.specs.Names.{link_verb_text};
 
+use crate::device::{Known, device_text};
 use crate::flags::flags_text;
 use crate::names::{hardware_text, state_text};
 use crate::text::{bytes_text, name_text};
@@ -13,21 +14,27 @@ use netlink_family::MessageView;
 use netlink_route::Links;
 use netlink_route::links::{
     IFI_FLAGS, IFI_INDEX, IFI_TYPE, IFLA_ADDRESS, IFLA_IFNAME, IFLA_INFO_KIND, IFLA_LINK,
-    IFLA_LINKINFO, IFLA_MASTER, IFLA_MTU, IFLA_OPERSTATE, RTM_DELLINK, RTM_GETLINK, RTM_SETLINK,
+    IFLA_LINK_NETNSID, IFLA_LINKINFO, IFLA_MASTER, IFLA_MTU, IFLA_OPERSTATE, RTM_DELLINK,
+    RTM_GETLINK, RTM_SETLINK,
 };
 use std::alloc::{AllocError, Global};
 
 /// Returns the line of a message about a link, in the order of `ip -o link`: the verb, the index,
 /// the name and the lower link, the flags, the MTU, the master, the state, the type of the device
-/// and its address, and the kind of link. Parts without an attribute are left out.
+/// and its address, and the kind of link. Parts without an attribute are left out. A known link is
+/// printed by its name, and another one as `if` and its index.
 #[tactic(auto, unfolding(crate::specs::Link::link_line))]
-pub fn link_text(alloc: Global, link: &MessageView<'_, Links>) -> Result<String, AllocError>
+pub fn link_text(
+    alloc: Global,
+    known: &[Known],
+    link: &MessageView<'_, Links>,
+) -> Result<String, AllocError>
     ensures line { IfOk result (λ text. string_bytes text
-        ≡ link_line link.now.message_type link.now.payload.now) }
+        ≡ link_line known.now link.now.message_type link.now.payload.now) }
 {
-    let front = front_text(alloc, link)?;
+    let front = front_text(alloc, known, link)?;
     let mtu = mtu_words(alloc, link)?;
-    let master = master_words(alloc, link)?;
+    let master = master_words(alloc, known, link)?;
     let state = state_words(alloc, link)?;
     let hardware = hardware_words(alloc, link)?;
     let kind = kind_words(alloc, link)?;
@@ -36,14 +43,18 @@ pub fn link_text(alloc: Global, link: &MessageView<'_, Links>) -> Result<String,
 
 /// Returns the verb, the index, the name and the lower link, and the flags.
 #[tactic(auto, unfolding(crate::specs::Link::link_front))]
-fn front_text(alloc: Global, link: &MessageView<'_, Links>) -> Result<String, AllocError>
+fn front_text(
+    alloc: Global,
+    known: &[Known],
+    link: &MessageView<'_, Links>,
+) -> Result<String, AllocError>
     ensures { IfOk result (λ text. string_bytes text
-        ≡ link_front link.now.message_type link.now.payload.now) }
+        ≡ link_front known.now link.now.message_type link.now.payload.now) }
 {
     let verb = verb_text(link.message_type);
     let index = link.header().i32(IFI_INDEX);
     let name = link_name(alloc, index, link)?;
-    let below = below_words(alloc, link)?;
+    let below = below_words(alloc, known, link)?;
     let flags = flags_text(alloc, link.header().u32(IFI_FLAGS))?;
     format!(in alloc; "{verb}{index}: {name}{below}: <{flags}>")
 }
@@ -72,14 +83,37 @@ fn link_name(alloc: Global, index: i32, link: &MessageView<'_, Links>) -> Result
 }
 
 /// Returns the lower link.
-fn below_words(alloc: Global, link: &MessageView<'_, Links>) -> Result<String, AllocError>
-    ensures { IfOk result (λ text. string_bytes text
-        ≡ below_words (link_number link.now.payload.now IFLA_LINK)) }
+fn below_words(
+    alloc: Global,
+    known: &[Known],
+    link: &MessageView<'_, Links>,
+) -> Result<String, AllocError>
+    ensures { IfOk result (λ text. string_bytes text ≡ below_words known.now
+        (link_peer link.now.payload.now) (link_number link.now.payload.now IFLA_LINK)) }
 {
     match link.view().u32(IFLA_LINK) {
         Some(0) => String::from_str(alloc, "@NONE"),
-        Some(index) => format!(in alloc; "@if{index}"),
+        Some(index) => {
+            let name = below_name(alloc, known, link.view().i32(IFLA_LINK_NETNSID), index)?;
+            format!(in alloc; "@{name}")
+        }
         None => Ok(String::new(alloc)),
+    }
+}
+
+/// Returns the name of a lower link. One in another network namespace, which has an id here, is not
+/// among the known links.
+fn below_name(
+    alloc: Global,
+    known: &[Known],
+    namespace: Option<i32>,
+    index: u32,
+) -> Result<String, AllocError>
+    ensures { IfOk result (λ text. string_bytes text ≡ below_name known.now namespace index) }
+{
+    match namespace {
+        Some(_) => device_text(alloc, &[], index),
+        None => device_text(alloc, known, index),
     }
 }
 
@@ -95,12 +129,19 @@ fn mtu_words(alloc: Global, link: &MessageView<'_, Links>) -> Result<String, All
 }
 
 /// Returns the master.
-fn master_words(alloc: Global, link: &MessageView<'_, Links>) -> Result<String, AllocError>
+fn master_words(
+    alloc: Global,
+    known: &[Known],
+    link: &MessageView<'_, Links>,
+) -> Result<String, AllocError>
     ensures { IfOk result (λ text. string_bytes text
-        ≡ master_words (link_number link.now.payload.now IFLA_MASTER)) }
+        ≡ master_words known.now (link_number link.now.payload.now IFLA_MASTER)) }
 {
     match link.view().u32(IFLA_MASTER) {
-        Some(index) => format!(in alloc; " master if{index}"),
+        Some(index) => {
+            let name = device_text(alloc, known, index)?;
+            format!(in alloc; " master {name}")
+        }
         None => Ok(String::new(alloc)),
     }
 }

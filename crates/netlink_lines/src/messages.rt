@@ -1,18 +1,22 @@
 //! What a message is shown as.
 
-ghost use Rattle.std.specs.Prelude.{◌≡◌, false, IfOk, string_bytes};
+ghost use Rattle.std.specs.Prelude.{◌≡◌, false, IfOk, OnOk, string_bytes};
 ghost use Rattle.std.specs.Option.{option_copied};
 ghost use Rattle.netlink_family.specs.Errors.{family_error};
 ghost use Rattle.netlink_packet_core.specs.FrameWalk.{IsWholeFrame};
 ghost use Rattle.netlink_replies.specs.Meaning.{shown_item};
 ghost use Rattle.netlink_lines.specs.Ack.{marked_if};
-ghost use Rattle.netlink_lines.specs.Messages.{HasLines, Lines, bad, error_lines, good, item_lines, own_lines, type_line};
+ghost use Rattle.netlink_lines.specs.Messages.{HasLines, Lines, Tells, bad, error_lines, good, is_named, item_lines, known_after, memory_of, own_lines, timed, type_line, wrong_time};
 
 use crate::ack::{is_interrupted, kernel_text, meaning_of};
+use crate::device::Known;
 use crate::line::{Line, done_line, error_line};
+use crate::state::State;
+use crate::time::{NLMSG_TSTAMP, Time, time_in, time_text};
 use netlink_family::{FamilyError, MessageView};
 use netlink_packet_core::{DecodeError, NetlinkBuffer};
 use netlink_replies::Reply;
+use netlink_route::links::{RTM_DELLINK, RTM_NEWLINK};
 use std::alloc::{AllocError, Global};
 
 /// The lines of a message.
@@ -24,22 +28,97 @@ pub(crate) struct Shown {
     pub(crate) is_malformed: bool,
 }
 
-/// Returns the lines of the message in a frame at this offset of the input. Requires that the bytes
-/// are one frame.
+/// Returns the lines of the message in a frame at this offset of the input, after the messages that
+/// left this state, and updates the state. Requires that the bytes are one frame.
+///
+/// Links are printed by the names that the messages so far told, this one included. A time has no
+/// line. It precedes the first line of the next message, unless that is a time too. Returns
+/// `AllocError` if an allocation fails.
+pub(crate) fn next_lines<F: Line>(
+    alloc: Global,
+    state: &mut State,
+    at: u64,
+    frame: &[u8],
+) -> Result<Shown, AllocError>
+    requires whole { IsWholeFrame frame.now }
+    ensures tells { IfOk result (λ s. Tells (family_error F.types F.short F.header_len F.rows) at frame.now
+        (memory_of state.old) (string_bytes s.text, s.is_malformed) (memory_of state.new)) }
+{
+    learn::<F>(alloc, &mut state.known, frame)?;
+    let before = state.time;
+    let time = time_in(frame);
+    state.time = time;
+    match time {
+        Some(_) => Ok(well_formed(String::new(alloc))),
+        None => {
+            let shown = lines_of::<F>(alloc, &state.known, at, frame)?;
+            timed(alloc, before, shown)
+        }
+    }
+}
+
+/// Updates the names of links by the message in a frame. A malformed message changes nothing.
+#[tactic(auto, unfolding(crate::specs::Messages::known_after))]
+fn learn<F: Line>(alloc: Global, known: &mut Vec<Known>, frame: &[u8]) -> Result<(), AllocError>
+    requires whole { IsWholeFrame frame.now }
+    ensures { OnOk result (known.new.items ≡ known_after (family_error F.types F.short F.header_len F.rows)
+        frame.now known.old.items) }
+{
+    let view = NetlinkBuffer::new(frame);
+    let message_type = view.message_type();
+    if !is_named(message_type) {
+        return Ok(());
+    }
+    match MessageView::<F>::new(message_type, view.payload()) {
+        Ok(message) => F::learn(alloc, known, &message),
+        Err(_) => Ok(()),
+    }
+}
+
+/// Returns whether messages of this type tell the names of links.
+fn is_named(message_type: u16) -> bool
+    ensures { result ≡ is_named message_type }
+{
+    (message_type == RTM_NEWLINK) | (message_type == RTM_DELLINK)
+}
+
+/// Returns lines with a time before them, if there is one.
+fn timed(alloc: Global, time: Option<Time>, shown: Shown) -> Result<Shown, AllocError>
+    ensures { IfOk result (λ s. (string_bytes s.text, s.is_malformed)
+        ≡ timed time (string_bytes shown.text, shown.is_malformed)) }
+{
+    match time {
+        None => Ok(shown),
+        Some(time) => {
+            let Shown { text, is_malformed } = shown;
+            let before = time_text(alloc, time)?;
+            let text = format!(in alloc; "{before}{text}")?;
+            Ok(Shown { text, is_malformed })
+        }
+    }
+}
+
+/// Returns the lines of the message in a frame at this offset of the input, by the known names of
+/// links. Requires that the bytes are one frame.
 ///
 /// The line of a message of a known type is that of the family or, if the family has none, its type
 /// and size, as for an unknown type. Control messages are `done`, with its code if that is not 0;
 /// `error` and its code, a negative errno, or `ack` if it is 0; `noop`; `overrun`. The kernel's text
 /// follows the code. The line of a malformed message is its error. A line `interrupted` comes first
 /// if the flags have `NLM_F_DUMP_INTR`. Returns `AllocError` if an allocation fails.
-pub(crate) fn lines_of<F: Line>(alloc: Global, at: u64, frame: &[u8]) -> Result<Shown, AllocError>
+fn lines_of<F: Line>(
+    alloc: Global,
+    known: &[Known],
+    at: u64,
+    frame: &[u8],
+) -> Result<Shown, AllocError>
     requires whole { IsWholeFrame frame.now }
-    ensures lines { IfOk result (λ s. HasLines (family_error F.types F.short F.header_len F.rows) at frame.now
-        (string_bytes s.text, s.is_malformed)) }
+    ensures lines { IfOk result (λ s. HasLines (family_error F.types F.short F.header_len F.rows) known.now at
+        frame.now (string_bytes s.text, s.is_malformed)) }
 {
     let item = meaning_of(frame);
     let text = kernel_text(&item);
-    let shown = item_shown::<F>(alloc, at, frame, text, item)?;
+    let shown = item_shown::<F>(alloc, known, at, frame, text, item)?;
     marked(alloc, NetlinkBuffer::new(frame).flags(), shown)
 }
 
@@ -60,6 +139,7 @@ fn marked(alloc: Global, flags: u16, shown: Shown) -> Result<Shown, AllocError>
 /// Returns the lines of a frame by what it means, and by the kernel's text in it.
 fn item_shown<F: Line>(
     alloc: Global,
+    known: &[Known],
     at: u64,
     frame: &[u8],
     text: Option<&[u8]>,
@@ -67,8 +147,8 @@ fn item_shown<F: Line>(
 ) -> Result<Shown, AllocError>
     requires whole { IsWholeFrame frame.now }
     ensures { IfOk result (λ s. (string_bytes s.text, s.is_malformed)
-        ≡ item_lines (family_error F.types F.short F.header_len F.rows) at frame.now (option_copied text.entry)
-        (shown_item item.entry)) }
+        ≡ item_lines (family_error F.types F.short F.header_len F.rows) known.now at frame.now
+        (option_copied text.entry) (shown_item item.entry)) }
 {
     let line = match item {
         None => String::from_str(alloc, "noop\n")?,
@@ -77,22 +157,30 @@ fn item_shown<F: Line>(
         Some(Ok(Reply::Acknowledged { .. })) => error_line(alloc, 0, text)?,
         Some(Ok(Reply::Rejected { code, .. })) => error_line(alloc, code, text)?,
         Some(Ok(Reply::Overrun)) => String::from_str(alloc, "overrun\n")?,
-        Some(Ok(Reply::Message(_))) => return own_shown::<F>(alloc, at, frame),
-        Some(Ok(Reply::Other(_))) => return own_shown::<F>(alloc, at, frame),
+        Some(Ok(Reply::Message(_))) => return own_shown::<F>(alloc, known, at, frame),
+        Some(Ok(Reply::Other(_))) => return own_shown::<F>(alloc, known, at, frame),
     };
     Ok(well_formed(line))
 }
 
 /// Returns the lines of a message that is not a control message.
-fn own_shown<F: Line>(alloc: Global, at: u64, frame: &[u8]) -> Result<Shown, AllocError>
+fn own_shown<F: Line>(
+    alloc: Global,
+    known: &[Known],
+    at: u64,
+    frame: &[u8],
+) -> Result<Shown, AllocError>
     requires whole { IsWholeFrame frame.now }
     ensures { IfOk result (λ s. (string_bytes s.text, s.is_malformed)
-        ≡ own_lines (family_error F.types F.short F.header_len F.rows) at frame.now) }
+        ≡ own_lines (family_error F.types F.short F.header_len F.rows) known.now at frame.now) }
 {
     let view = NetlinkBuffer::new(frame);
     let message_type = view.message_type();
+    if message_type == NLMSG_TSTAMP {
+        return wrong_time(alloc, at, view.payload());
+    }
     match MessageView::<F>::new(message_type, view.payload()) {
-        Ok(message) => match F::line(alloc, &message)? {
+        Ok(message) => match F::line(alloc, known, &message)? {
             Some(line) => Ok(well_formed(line)),
             None => Ok(well_formed(type_line(alloc, message_type, frame.len())?)),
         },
@@ -123,6 +211,18 @@ fn rejected(
             malformed(alloc, at, why.as_str())
         }
     }
+}
+
+/// Returns the line of a message with the type of a time, whose payload is none.
+fn wrong_time(alloc: Global, at: u64, payload: &[u8]) -> Result<Shown, AllocError>
+    ensures { IfOk result (λ s. (string_bytes s.text, s.is_malformed) ≡ wrong_time at payload.now) }
+{
+    let message_type = NLMSG_TSTAMP;
+    let size = payload.len();
+    let why = format!(in alloc;
+        "Failed to parse message with type {message_type}: the payload has {size} bytes instead of 8"
+    )?;
+    malformed(alloc, at, why.as_str())
 }
 
 /// Returns the line of a message without a line of its own, by its type and its size in bytes.

@@ -40,7 +40,7 @@ const ORDER: [u16; 8] = [0x01, 0x02, 0x04, 0x08, 0x10, 0x20, 0x40, 0x80];
 #[tactic(auto, unfolding(crate::specs::Neighbour::neighbour_line))]
 pub fn neighbour_text(
     alloc: Global,
-    known: &[Known<'_>],
+    known: &[Known],
     neighbour: &MessageView<'_, Neighbours>,
 ) -> Result<String, AllocError>
     ensures line { IfOk result (λ text. string_bytes text
@@ -61,7 +61,7 @@ pub fn neighbour_text(
 fn push_front(
     alloc: Global,
     text: &mut String,
-    known: &[Known<'_>],
+    known: &[Known],
     neighbour: &MessageView<'_, Neighbours>,
 ) -> Result<(), AllocError>
     ensures { OnOk result (string_bytes text.new ≡ with_parts (string_bytes text.old)
@@ -102,7 +102,7 @@ fn index_in(header: &[u8], index: i32) -> u32
 fn push_link(
     alloc: Global,
     text: &mut String,
-    known: &[Known<'_>],
+    known: &[Known],
     index: u32,
 ) -> Result<(), AllocError>
     ensures { OnOk result

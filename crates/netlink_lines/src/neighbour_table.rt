@@ -28,7 +28,7 @@ use std::alloc::{AllocError, Global};
 #[tactic(auto, unfolding(crate::specs::NeighbourTable::neighbour_table_line))]
 pub fn neighbour_table_text(
     alloc: Global,
-    known: &[Known<'_>],
+    known: &[Known],
     table: &MessageView<'_, NeighbourTables>,
 ) -> Result<Option<String>, AllocError>
     ensures line { IfOk result (λ text. option_map string_bytes text
@@ -46,7 +46,7 @@ pub fn neighbour_table_text(
 #[tactic(auto, unfolding(crate::specs::NeighbourTable::table_text), using(crate::proofs::Joined::with_parts_append))]
 fn table_text(
     alloc: Global,
-    known: &[Known<'_>],
+    known: &[Known],
     table: &MessageView<'_, NeighbourTables>,
 ) -> Result<String, AllocError>
     ensures { IfOk result (λ text. string_bytes text ≡ table_text known.now table.now.payload.now) }
@@ -65,7 +65,7 @@ fn table_text(
 fn push_parms(
     alloc: Global,
     text: &mut String,
-    known: &[Known<'_>],
+    known: &[Known],
     parms: &BlockView<'_>,
 ) -> Result<(), AllocError>
     requires rows { rows_in parms.now.rows.now ≡ ⟦<NeighbourTables as Table>⟧.rows 64 }

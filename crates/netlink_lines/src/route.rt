@@ -42,7 +42,7 @@ const RTPROT_BOOT: u8 = 3;
 #[tactic(auto, unfolding(crate::specs::Route::route_entry_line))]
 pub fn route_text(
     alloc: Global,
-    known: &[Known<'_>],
+    known: &[Known],
     route: &MessageView<'_, Routes>,
 ) -> Result<Option<String>, AllocError>
     ensures line { IfOk result (λ text. option_map string_bytes text
@@ -61,7 +61,7 @@ pub fn route_text(
 #[tactic(auto, unfolding(crate::specs::Route::route_words))]
 fn route_words(
     alloc: Global,
-    known: &[Known<'_>],
+    known: &[Known],
     route: &MessageView<'_, Routes>,
 ) -> Result<String, AllocError>
     ensures { IfOk result (λ text. string_bytes text
@@ -156,7 +156,7 @@ fn source_of<'a>(route: &MessageView<'a, Routes>) -> &'a [u8]
 fn push_link(
     alloc: Global,
     text: &mut String,
-    known: &[Known<'_>],
+    known: &[Known],
     route: &MessageView<'_, Routes>,
 ) -> Result<(), AllocError>
     ensures { OnOk result (string_bytes text.new
@@ -277,7 +277,7 @@ fn preferred_of<'a>(route: &MessageView<'a, Routes>) -> &'a [u8]
 fn push_rest(
     alloc: Global,
     text: &mut String,
-    known: &[Known<'_>],
+    known: &[Known],
     route: &MessageView<'_, Routes>,
 ) -> Result<(), AllocError>
     ensures { OnOk result (string_bytes text.new
@@ -332,7 +332,7 @@ fn mark_text(alloc: Global, mark: Option<u32>) -> Result<String, AllocError>
 fn push_last(
     alloc: Global,
     text: &mut String,
-    known: &[Known<'_>],
+    known: &[Known],
     route: &MessageView<'_, Routes>,
 ) -> Result<(), AllocError>
     ensures { OnOk result (string_bytes text.new

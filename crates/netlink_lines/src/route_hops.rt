@@ -27,7 +27,7 @@ use std::alloc::{AllocError, Global};
 pub(crate) fn push_hops(
     alloc: Global,
     text: &mut String,
-    known: &[Known<'_>],
+    known: &[Known],
     route: &MessageView<'_, Routes>,
 ) -> Result<(), AllocError>
     ensures { OnOk result (string_bytes text.new ≡ hops_text known.now (string_bytes text.old)
@@ -43,7 +43,7 @@ pub(crate) fn push_hops(
 fn push_list(
     alloc: Global,
     text: &mut String,
-    known: &[Known<'_>],
+    known: &[Known],
     hops: &BlockView<'_>,
 ) -> Result<(), AllocError>
     requires { IsHops (⟦<Routes as Table>⟧.rows 24) hops.now }
@@ -60,7 +60,7 @@ fn push_list(
 fn push_hop(
     alloc: Global,
     text: &mut String,
-    known: &[Known<'_>],
+    known: &[Known],
     word: u16,
     value: Value<'_>,
 ) -> Result<(), AllocError>
@@ -81,7 +81,7 @@ fn push_hop(
 fn push_hop_parts(
     alloc: Global,
     text: &mut String,
-    known: &[Known<'_>],
+    known: &[Known],
     word: u16,
     header: &[u8],
     attributes: &BlockView<'_>,

@@ -5,7 +5,7 @@ ghost use Rattle.netlink_packet_core.specs.Attribute.{padding};
 ghost use Rattle.netlink_lines.specs.Reading.{GivesNext, Skips, SkipsPart, Tries};
 ghost use Rattle.netlink_lines.specs.Stream.{longest, stop_text};
 
-use crate::run::Fault;
+use crate::runs::Fault;
 use netlink_packet_core::{DecodeError, NETLINK_HEADER_LEN, nlmsg_align, u32_at};
 use netlink_program::fill;
 use std::fmt;

@@ -1,9 +1,11 @@
 //! Lines of messages that are made by hand, runs, and texts of numbers and bytes.
 
 mod lines;
+mod names;
 mod neighbour_lines;
 mod other_lines;
 mod route_lines;
 mod rule_lines;
 mod runs;
+mod times;
 mod words;

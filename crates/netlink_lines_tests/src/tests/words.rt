@@ -1,8 +1,8 @@
 //! The texts of numbers and bytes, after linux/if.h, if_arp.h and rtnetlink.h.
 
 use netlink_lines::{
-    Known, device_text, family_text, flags_text, hardware_text, ip_words, name_text, scope_text,
-    sentence_text, state_text,
+    Known, Name, device_text, family_text, flags_text, hardware_text, ip_words, name_text,
+    scope_text, sentence_text, state_text,
 };
 use std::test::Fail;
 
@@ -46,18 +46,19 @@ fn numbers_have_names(rt: HostRuntime) -> Result<(), Fail> {
 /// The first known link of an index has its name, and any other is `if` and its index.
 #[test]
 fn links_have_names(rt: HostRuntime) -> Result<(), Fail> {
+    let alloc = rt.alloc();
     let known = [
         Known {
             index: 3,
-            name: "eth0".as_bytes(),
+            name: Name::new(alloc, "eth0".as_bytes())?,
         },
         Known {
             index: 3,
-            name: "eth1".as_bytes(),
+            name: Name::new(alloc, "eth1".as_bytes())?,
         },
         Known {
             index: 4,
-            name: "a b".as_bytes(),
+            name: Name::new(alloc, "a b".as_bytes())?,
         },
     ];
     for (index, text) in [(0, "*"), (1, "if1"), (3, "eth0"), (4, "61:20:62")] {

@@ -5,7 +5,8 @@ ghost use Rattle.netlink_family.specs.Errors.{family_error};
 ghost use Rattle.netlink_lines.specs.Run.{RunsAs, end_of, fault_text, read_fault};
 
 use crate::line::Line;
-use crate::messages::lines_of;
+use crate::messages::next_lines;
+use crate::state::State;
 use crate::stream::{Next, Stop, read_frame, skip_padding};
 use netlink_program::{ReadFault, WriteFault, write_through};
 use std::alloc::{AllocError, Global};
@@ -53,7 +54,7 @@ impl From<ReadFault> for Fault {
 }
 
 impl From<WriteFault> for Fault {
-    ghost use Rattle.netlink_lines.specs.declared.run.Fault.TheVariants.{Write};
+    ghost use Rattle.netlink_lines.specs.declared.runs.Fault.TheVariants.{Write};
 
     ghost from_gives = { λ _ fault. fault ≡ Write };
 
@@ -63,7 +64,7 @@ impl From<WriteFault> for Fault {
 }
 
 impl From<AllocError> for Fault {
-    ghost use Rattle.netlink_lines.specs.declared.run.Fault.TheVariants.{OutOfMemory};
+    ghost use Rattle.netlink_lines.specs.declared.runs.Fault.TheVariants.{OutOfMemory};
 
     ghost from_gives = { λ _ fault. fault ≡ OutOfMemory };
 
@@ -73,7 +74,7 @@ impl From<AllocError> for Fault {
 }
 
 /// Reads one message after another, and writes the lines of each, and flushes the writer, before it
-/// reads another byte. Keeps one frame in memory.
+/// reads another byte. Keeps one frame in memory, and the names of at most 65,536 links.
 ///
 /// Reads to the end of the input, or up to a message that cannot be read, and then returns
 /// `Stopped`. Returns `Malformed` at the end if a message was malformed. Returns `Read` if the
@@ -90,6 +91,7 @@ pub fn run<F: Line, R: Read, W: Write>(
         (W.contents writer.old) (W.contents writer.new) result) }
 {
     let mut frame = Vec::new(alloc);
+    let mut state = State::new(alloc);
     let mut at: u64 = 0;
     let mut is_malformed = false;
     for _ in 0..u64::MAX {
@@ -98,7 +100,7 @@ pub fn run<F: Line, R: Read, W: Write>(
             Next::End => return end_of(is_malformed),
             Next::Stop(cause) => return Err(Fault::Stopped(Stop { at, cause })),
         }
-        let message = lines_of::<F>(alloc, at, &frame)?;
+        let message = next_lines::<F>(alloc, &mut state, at, &frame)?;
         write_through(writer, message.text.as_bytes())?;
         is_malformed = is_malformed || message.is_malformed;
         let padding = skip_padding(reader, frame.len())?;

@@ -1,0 +1,7 @@
+use Rattle.std.proofs.Common.{rules}
+use Rattle.netlink_lines.specs.Address.{address_line}
+use Rattle.netlink_lines.proofs.address.address_text.Goals as goal
+
+pub returns : goal.returns
+unfolding address_line
+returns c = search rules

@@ -1,0 +1,29 @@
+//! What the messages so far leave to the next.
+
+ghost use Rattle.std.specs.Prelude.{◌≡◌};
+ghost use Rattle.netlink_lines.specs.Messages.{memory_of, no_memory};
+
+use crate::device::Known;
+use crate::time::Time;
+use std::alloc::Global;
+
+/// What the lines of the next message depend on.
+#[derive(Drop)]
+pub struct State {
+    /// The time that precedes them.
+    pub time: Option<Time>,
+    /// The names of links, the oldest first.
+    pub known: Vec<Known>,
+}
+
+impl State {
+    /// Returns the state before the first message. Does not allocate.
+    pub(crate) fn new(alloc: Global) -> State
+        ensures { memory_of result ≡ no_memory }
+    {
+        State {
+            time: None,
+            known: Vec::new(alloc),
+        }
+    }
+}
