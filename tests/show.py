@@ -41,10 +41,14 @@ STATES = {0: "UNKNOWN", 2: "DOWN", 6: "UP"}
 DEVICES = {1: "ether", 772: "loopback"}
 FAMILIES = {2: "inet", 10: "inet6"}
 SCOPES = {0: "global", 253: "link", 254: "host"}
+MODES = {0: "DEFAULT"}
+GROUPS = {0: "default"}
+# The flags of the captured addresses, in the order of `ip`. All of these are permanent.
+ADDRESS_FLAGS = [(0x2, "nodad"), (0x40, "tentative")]
 
 BAD = "a message is malformed"
 USAGE = (2, b"", "usage: netlink_show < FILE")
-LINE = b"7: a: <> link/[0]\n"
+LINE = b"7: a: <> link/netrom\n"
 
 
 def blocks(data, size):
@@ -68,37 +72,55 @@ def number(value):
     return int.from_bytes(value, "little")
 
 
+def name_of(index, known):
+    return known.get(index, f"if{index}")
+
+
+def words(key, kind, attrs, value):
+    """Returns a key and the value of an attribute, if there is one."""
+    return [f"{key} {value(attrs[kind])}"] if kind in attrs else []
+
+
 def link_line(kind, body, known):
-    """Returns the line of a link, and updates the names of links."""
+    """Returns the line of a link, as `ip -o link` prints it, and its kind; updates the names of links."""
     _, device, index, flags, _ = struct.unpack_from("<HHiII", body)
     attrs = attributes(body[16:])
     known.pop(index, None)
     if kind == 16:
         known[index] = text(attrs[3])
-    lower, master = (known.get(number(attrs[it]), f"if{number(attrs[it])}") if it in attrs else "" for it in (5, 10))
     names = ",".join(name for bit, name in FLAGS if flags & bit)
-    lower = f"@{lower}" if lower else ""
-    words = [f"{'Deleted ' if kind == 17 else ''}{index}: {text(attrs[3])}{lower}: <{names}>"]
-    words.append(f"mtu {number(attrs[4])}")
-    words += [f"master {master}"] if master else []
-    words += [f"state {STATES[attrs[16][0]]}", f"link/{DEVICES[device]} {attrs[1].hex(':')}"]
-    words += [f"kind {text(attributes(attrs[18])[1])}"] if 18 in attrs else []
-    return " ".join(words)
+    lower = f"@{name_of(number(attrs[5]), known)}" if 5 in attrs else ""
+    line = [f"{'Deleted ' if kind == 17 else ''}{index}: {text(attrs[3])}{lower}: <{names}>"]
+    line += words("mtu", 4, attrs, number) + words("qdisc", 6, attrs, text)
+    line += words("master", 10, attrs, lambda it: name_of(number(it), known))
+    line += words("state", 16, attrs, lambda it: STATES[it[0]]) + words("mode", 17, attrs, lambda it: MODES[it[0]])
+    line += words("group", 27, attrs, lambda it: GROUPS[number(it)]) + words("qlen", 13, attrs, number)
+    line += [f"link/{DEVICES[device]} {attrs[1].hex(':')}"] + words("brd", 2, attrs, lambda it: it.hex(":"))
+    line += words("alias", 20, attrs, text)
+    line += [f"kind {text(attributes(attrs[18])[1])}"] if 18 in attrs else []
+    return " ".join(line)
 
 
-def address_line(body):
+def address_line(body, known):
+    """Returns the line of an address, as `ip -o addr` prints it."""
     family, prefix, _, scope, index = struct.unpack_from("<BBBBI", body)
     attrs = attributes(body[8:])
-    address = ipaddress.ip_address(attrs.get(2, attrs[1]))
-    line = f"{index}: {FAMILIES[family]} {address}/{prefix} scope {SCOPES[scope]}"
-    return line + (f" {text(attrs[3])}" if 3 in attrs else "")
+    address, flags = ipaddress.ip_address(attrs.get(2, attrs[1])), number(attrs[8])
+    line = [f"{index}: {name_of(index, known)} {FAMILIES[family]} {address}/{prefix}", f"scope {SCOPES[scope]}"]
+    line += [name for bit, name in ADDRESS_FLAGS if flags & bit] + ([text(attrs[3])] if 3 in attrs else [])
+    preferred, valid = (time_of(it) for it in struct.unpack_from("<II", attrs[6]))
+    return " ".join([*line, f"valid_lft {valid} preferred_lft {preferred}"])
+
+
+def time_of(seconds):
+    return "forever" if seconds == 0xFFFFFFFF else f"{seconds}sec"
 
 
 def line_of(frame, known):
     kind, body = number(frame[4:6]), frame[16:]
     if kind == 3:
         return "done"
-    return address_line(body) if kind == 20 else link_line(kind, body, known)
+    return address_line(body, known) if kind == 20 else link_line(kind, body, known)
 
 
 def lines_of(data, known):
@@ -192,15 +214,15 @@ MALFORMED = [
 # the header, padding in the header, strings without a NUL or of bytes that are not printable, a negative index, and a
 # nest with NLA_F_NESTED.
 LINES = [
-    (frame(18, b"\x11\0\0\0"), b"Get 0: if0: <> link/[0]\n"),
-    (frame(22, b"\2"), b"Get 0: inet scope global\n"),
-    (frame(16, b"\0\1" + bytes(14)), b"0: if0: <> link/[0]\n"),
-    (link(attribute(3, b"")), b"7: : <> link/[0]\n"),
+    (frame(18, b"\x11\0\0\0"), b"Get 0: if0: <> link/netrom\n"),
+    (frame(22, b"\2"), b"Get 0: * inet scope global dynamic\n"),
+    (frame(16, b"\0\1" + bytes(14)), b"0: if0: <> link/netrom\n"),
+    (link(attribute(3, b"")), b"7: : <> link/netrom\n"),
     (link(attribute(3, b"a")), LINE),
-    (link(attribute(3, b"\xff\0")), b"7: ff: <> link/[0]\n"),
-    (link(NAMED, index=-2), b"-2: a: <> link/[0]\n"),
-    (link(attribute(18, attribute(1, b"veth"))), b"7: if7: <> link/[0] kind veth\n"),
-    (link(attribute(0x8012, attribute(1, b"veth\0"))), b"7: if7: <> link/[0] kind veth\n"),
+    (link(attribute(3, b"\xff\0")), b"7: \\xff: <> link/netrom\n"),
+    (link(NAMED, index=-2), b"-2: a: <> link/netrom\n"),
+    (link(attribute(18, attribute(1, b"veth"))), b"7: if7: <> link/netrom kind veth\n"),
+    (link(attribute(0x8012, attribute(1, b"veth\0"))), b"7: if7: <> link/netrom kind veth\n"),
 ]
 
 # Messages of unknown types, requests that `ip` does not print, messages about namespaces without an id, and routes of no
@@ -248,8 +270,8 @@ LINES += [
     (error(attribute(2, bytes(4))), b"error -22\n"),
     (error(TEXT + b"\3\0\1\0"), b"error -22: a b\n"),
     (error(b"\3\0\2\0" + TEXT), b"error -22\n"),
-    (error(attribute(1, b"a\n\0")), b"error -22: 61:0a\n"),
-    (error(attribute(1, b"\xc3\xa9\0")), b"error -22: c3:a9\n"),
+    (error(attribute(1, b"a\n\0")), b"error -22: a\\x0a\n"),
+    (error(attribute(1, b"\xc3\xa9\0")), b"error -22: \\xc3\\xa9\n"),
     (error(attribute(1, b"\0")), b"error -22: \n"),
     (frame(3, struct.pack("<i", -22) + TEXT, flags=0x202), b"done -22: a b\n"),
     (frame(3, struct.pack("<i", -22) + TEXT, flags=2), b"done -22\n"),
@@ -278,26 +300,26 @@ STREAMS = [
 # Streams with names of links, and the lines of each: a link has the name of the last message with one until it is
 # deleted. A lower link in another network namespace has none, and neither has one with a name that is too long.
 NAME = link(NAMED, index=3)
-NAMED_LINE = b"3: a: <> link/[0]\n"
+NAMED_LINE = b"3: a: <> link/netrom\n"
 GONE = frame(17, struct.pack("<HHiII", 0, 0, 3, 0, 0))
 BELOW = attribute(5, b"\3\0\0\0")
 STREAMS += [
     (NAME + frame(24, ROUTE), NAMED_LINE + b"default via 10.1.0.2 dev a\n"),
     (NAME + frame(28, NEIGHBOUR), NAMED_LINE + SHOWN.replace(b"if3", b"a")),
-    (NAME + GONE + frame(28, NEIGHBOUR), NAMED_LINE + b"Deleted 3: if3: <> link/[0]\n" + SHOWN),
-    (NAME + link(index=3) + frame(28, NEIGHBOUR), NAMED_LINE + b"3: if3: <> link/[0]\n" + SHOWN.replace(b"if3", b"a")),
-    (NAME + link(NAMED, BELOW), NAMED_LINE + b"7: a@a: <> link/[0]\n"),
-    (NAME + link(NAMED, attribute(10, b"\3\0\0\0")), NAMED_LINE + b"7: a: <> master a link/[0]\n"),
-    (NAME + link(NAMED, BELOW, attribute(37, b"\2\0\0\0")), NAMED_LINE + b"7: a@if3: <> link/[0]\n"),
-    (link(NAMED, index=-1) + link(attribute(5, b"\xff\xff\xff\xff")), b"-1: a: <> link/[0]\n7: if7@a: <> link/[0]\n"),
+    (NAME + GONE + frame(28, NEIGHBOUR), NAMED_LINE + b"Deleted 3: if3: <> link/netrom\n" + SHOWN),
+    (NAME + link(index=3) + frame(28, NEIGHBOUR), NAMED_LINE + b"3: if3: <> link/netrom\n" + SHOWN.replace(b"if3", b"a")),
+    (NAME + link(NAMED, BELOW), NAMED_LINE + b"7: a@a: <> link/netrom\n"),
+    (NAME + link(NAMED, attribute(10, b"\3\0\0\0")), NAMED_LINE + b"7: a: <> master a link/netrom\n"),
+    (NAME + link(NAMED, BELOW, attribute(37, b"\2\0\0\0")), NAMED_LINE + b"7: a@if3: <> link/netrom link-netnsid 2\n"),
+    (link(NAMED, index=-1) + link(attribute(5, b"\xff\xff\xff\xff")), b"-1: a: <> link/netrom\n7: if7@a: <> link/netrom\n"),
 ]
 STREAMS += [
     (
         link(attribute(3, name), index=3) + frame(28, NEIGHBOUR),
-        b"3: " + own + b": <> link/[0]\n" + SHOWN.replace(b"if3", shown_name),
+        b"3: " + own + b": <> link/netrom\n" + SHOWN.replace(b"if3", shown_name),
     )
     for name, own, shown_name in (
-        (b"\xff\0", b"ff", b"ff"),
+        (b"\xff\0", b"\\xff", b"\\xff"),
         (b"b" * 15, b"b" * 15, b"b" * 15),
         (b"b" * 16, b"b" * 16, b"if3"),
     )
@@ -464,7 +486,7 @@ def names_error(program):
         status = run.wait()
         output.seek(0)
         wrote = output.read().splitlines()[65_536:]
-    wanted = [b"default dev a", b"65537: a: <> link/[0]", b"default dev if1", b"default dev a"]
+    wanted = [b"default dev a", b"65537: a: <> link/netrom", b"default dev if1", b"default dev a"]
     good = status == 0 and wrote == wanted and peak <= 16_000
     return None if good else f"65,537 links: status {status}, {peak} kB of memory, {wrote[:4]}"
 

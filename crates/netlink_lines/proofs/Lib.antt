@@ -2,6 +2,7 @@ pub mod Frames
 pub mod Hops
 pub mod Joined
 pub mod Once
+pub mod Properties
 pub mod Running
 pub mod Shown
 pub mod Signed

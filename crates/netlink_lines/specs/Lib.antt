@@ -1,10 +1,15 @@
 pub mod Ack
 pub mod Address
+pub mod AddressFlags
 pub mod Device
 pub mod Flags
+pub mod Hardware
 pub mod Known
 pub mod Lines
 pub mod Link
+pub mod LinkAddress
+pub mod LinkNames
+pub mod LinkParts
 pub mod Messages
 pub mod Names
 pub mod Namespace

@@ -70,7 +70,7 @@ other_line known t payload =
 unfoldable pub route_line : List Known → ℕ × List ℕ → Option (List ℕ)
 route_line known (t, payload) =
     if has_type link_types t then Some (link_line known t payload)
-    else if has_type address_types t then Some (address_line t payload)
+    else if has_type address_types t then Some (address_line known t payload)
     else other_line known t payload
 
 -- the names of links after a message of this type and payload

@@ -15,25 +15,14 @@ state_text n =
     else if n == 6 then codes "UP"
     else codes "0x" ++ digits 16 false n
 
--- ARPHRD_* of linux/if_arp.h
-abbrev pub hardware_text : ℕ → List ℕ
-hardware_text n =
-    if n == 1 then codes "ether"
-    else if n == 32 then codes "infiniband"
-    else if n == 512 then codes "ppp"
-    else if n == 768 then codes "ipip"
-    else if n == 769 then codes "tunnel6"
-    else if n == 772 then codes "loopback"
-    else if n == 776 then codes "sit"
-    else if n == 778 then codes "gre"
-    else if n == 65534 then codes "none"
-    else codes "[" ++ (decimal n ++ codes "]")
-
 -- AF_* of linux/socket.h
 abbrev pub family_text : ℕ → List ℕ
 family_text n =
     if n == 2 then codes "inet"
+    else if n == 7 then codes "bridge"
     else if n == 10 then codes "inet6"
+    else if n == 17 then codes "link"
+    else if n == 28 then codes "mpls"
     else codes "family " ++ decimal n
 
 -- RT_SCOPE_* of linux/rtnetlink.h

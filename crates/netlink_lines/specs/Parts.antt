@@ -3,7 +3,7 @@ use Rattle.std.specs.Prelude.{ℕ, ◌==◌, ◌/◌, ◌%◌, false, Bool, List
 use Rattle.std.specs.Fmt.{digits}
 use Rattle.std.specs.List.{fold}
 use Rattle.netlink_packet_core.specs.Text.{hex_pair}
-use Rattle.netlink_lines.specs.Text.{ip_words, separated}
+use Rattle.netlink_lines.specs.Text.{ip_words, name_text, sentence_text, separated}
 
 -- a text, followed by a part; an empty part changes nothing
 unfoldable pub with_part : List ℕ → List ℕ → List ℕ
@@ -27,6 +27,15 @@ keyed key (b ∷ word) = key ++ (codes " " ++ (b ∷ word))
 unfoldable pub number_part : List ℕ → Option ℕ → List ℕ
 number_part key None = []
 number_part key (Some n) = key ++ (codes " " ++ decimal n)
+
+-- a key and a name, and a key and a sentence, unless they are empty
+unfoldable pub string_part : List ℕ → Option (List ℕ) → List ℕ
+string_part key None = []
+string_part key (Some name) = keyed key (name_text name)
+
+unfoldable pub words_part : List ℕ → Option (List ℕ) → List ℕ
+words_part key None = []
+words_part key (Some words) = keyed key (sentence_text words)
 
 -- a number in hexadecimal
 unfoldable pub hex_part : ℕ → List ℕ

@@ -1,15 +1,9 @@
 -- Bytes as text.
-use Rattle.std.specs.Prelude.{ℕ, ◌≡◌, ◌<◌, true, ◌==◌, ◌&&◌, Bool, List, [], ◌∷◌, ◌++◌, codes, length, nat_le, nat_lt, if◌then◌else◌}
-use Rattle.std.specs.List.{fold, list_all}
+use Rattle.std.specs.Prelude.{ℕ, ◌==◌, ◌&&◌, ◌||◌, not, Bool, List, [], ◌∷◌, ◌++◌, bytes_eq, codes, drop, length, nat_le, nat_lt, take, if◌then◌else◌}
+use Rattle.std.specs.List.{fold}
 use Rattle.std.specs.Net.Addr.{segments_of}
 use Rattle.std.specs.Net.Text.{ipv4_text, ipv6_text}
-use Rattle.std.specs.Str.{IsUtf8}
 use Rattle.netlink_packet_core.specs.Text.{hex_pair}
-use Rattle.std.proofs.Common.{All, arith}
-use Rattle.std.proofs.lemmas.Bool.{and_parts, ltb-true}
-use Rattle.std.proofs.lemmas.List.Elements.{All-cons, All-nil}
-use Rattle.std.proofs.lemmas.Str.{IsUtf8-from_ascii}
-use Rattle.std.proofs.lemmas.Str.Ascii.{IsAscii-from_all}
 
 -- a word after a text, separated if the text is not empty
 abbrev pub separated : List ℕ → List ℕ → List ℕ → List ℕ
@@ -23,14 +17,19 @@ with_byte text byte = separated (codes ":") text (hex_pair byte)
 abbrev pub bytes_text : List ℕ → List ℕ
 bytes_text bytes = fold with_byte [] bytes
 
--- printable ASCII, from a least byte on
-abbrev pub is_printable : ℕ → ℕ → Bool
-is_printable least byte = nat_le least byte && nat_lt byte 127
+-- a byte as it is, if it is printable ASCII from a least one on and no backslash, or `\x` and two
+-- digits
+abbrev pub byte_text : ℕ → ℕ → List ℕ
+byte_text least byte =
+    if nat_lt byte least || nat_le 127 byte || byte == 92 then codes "\\x" ++ hex_pair byte
+    else byte ∷ []
 
--- bytes as they are, if all are printable, or as hexadecimal digits
+abbrev pub with_printable : ℕ → List ℕ → ℕ → List ℕ
+with_printable least text byte = text ++ byte_text least byte
+
+-- each byte of a list in this way
 unfoldable pub printable_text : ℕ → List ℕ → List ℕ
-printable_text least bytes =
-    if list_all (is_printable least) bytes then bytes else bytes_text bytes
+printable_text least bytes = fold (with_printable least) [] bytes
 
 -- a name has no spaces, and a sentence may have some
 abbrev pub name_text : List ℕ → List ℕ
@@ -39,23 +38,21 @@ name_text name = printable_text 33 name
 abbrev pub sentence_text : List ℕ → List ℕ
 sentence_text sentence = printable_text 32 sentence
 
+-- 16 bytes of which 12 are zero, and not the two after them
+abbrev pub is_compatible : List ℕ → Bool
+is_compatible bytes =
+    length bytes == 16
+    && (bytes_eq (take 12 bytes) (0 ∷ 0 ∷ 0 ∷ 0 ∷ 0 ∷ 0 ∷ 0 ∷ 0 ∷ 0 ∷ 0 ∷ 0 ∷ 0 ∷ [])
+    && not (bytes_eq (take 2 (drop 12 bytes)) (0 ∷ 0 ∷ [])))
+
 -- an address of 4 bytes, or of 16 (RFC 5952)
-abbrev pub ip_words : List ℕ → List ℕ
-ip_words bytes =
+abbrev pub plain_words : List ℕ → List ℕ
+plain_words bytes =
     if length bytes == 4 then ipv4_text bytes
     else if length bytes == 16 then ipv6_text (segments_of bytes)
     else []
 
--- printable bytes are UTF-8
-printable_small : (least : ℕ) (bytes : List ℕ) → list_all (is_printable least) bytes ≡ true
-    → All (λ b. b < 128) bytes
-printable_small least [] each = All-nil (λ b. b < 128)
-printable_small least (b ∷ bytes) each =
-    let parts = and_parts (is_printable least b) (list_all (is_printable least) bytes) each in
-    let small = ltb-true b 127 (and_parts (nat_le least b) (nat_lt b 127) parts.0).1 in
-    All-cons (λ x. x < 128) b bytes (omega (arith, small)) (printable_small least bytes parts.1)
-
-pub printable_utf8 : (least : ℕ) (bytes : List ℕ) → list_all (is_printable least) bytes ≡ true
-    → IsUtf8 bytes
-printable_utf8 least bytes each =
-    IsUtf8-from_ascii bytes (IsAscii-from_all bytes (printable_small least bytes each))
+-- an address; an IPv4-compatible one has its IPv4 address at the end
+abbrev pub ip_words : List ℕ → List ℕ
+ip_words bytes =
+    if is_compatible bytes then codes "::" ++ ipv4_text (drop 12 bytes) else plain_words bytes

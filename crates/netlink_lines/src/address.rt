@@ -1,57 +1,129 @@
 //! The line of an address.
 
-ghost use Rattle.std.specs.Prelude.{◌≡◌, IfOk, string_bytes};
-ghost use Rattle.std.specs.Option.{option_copied, option_map};
-ghost use Rattle.netlink_family.specs.Finding.{first_at};
-ghost use Rattle.netlink_family.specs.Strings.{until_nul};
-ghost use Rattle.netlink_route.specs.declared.addresses.TheConstants.{IFA_ADDRESS, IFA_BROADCAST, IFA_LABEL, IFA_LOCAL};
-ghost use Rattle.netlink_lines.specs.Address.{address_front, address_ip, address_line, broadcast_words, label_words, or_empty, own_words, peer_words};
+ghost use Rattle.std.specs.Prelude.{◌≡◌, IfOk, OnOk, string_bytes};
+ghost use Rattle.std.specs.Option.{option_copied};
+ghost use Rattle.netlink_route.specs.declared.addresses.TheConstants.{IFA_ADDRESS, IFA_ANYCAST, IFA_BROADCAST, IFA_LOCAL};
+ghost use Rattle.netlink_lines.specs.Address.{address_flags, address_front, address_ip, address_line, label_part, metric_part, or_byte, or_empty, own_text, peer_words, place_parts};
 ghost use Rattle.netlink_lines.specs.Names.{address_verb_text};
+ghost use Rattle.netlink_lines.specs.Parts.{with_part, with_parts};
 
+use crate::address_flags::{push_flags, push_lifetimes};
+use crate::device::{Known, device_text};
 use crate::names::{family_text, scope_text};
+use crate::parts::{push_keyed, push_number, push_part};
 use crate::text::{ip_words, name_text};
 use netlink_family::MessageView;
 use netlink_route::Addresses;
 use netlink_route::addresses::{
-    IFA_ADDRESS, IFA_BROADCAST, IFA_FAMILY, IFA_INDEX, IFA_LABEL, IFA_LOCAL, IFA_PREFIXLEN,
-    IFA_SCOPE, RTM_DELADDR, RTM_GETADDR,
+    IFA_ADDRESS, IFA_ANYCAST, IFA_BROADCAST, IFA_CACHEINFO, IFA_FAMILY, IFA_FLAGS, IFA_INDEX,
+    IFA_LABEL, IFA_LOCAL, IFA_LOW_FLAGS, IFA_PREFIXLEN, IFA_RT_PRIORITY, IFA_SCOPE, RTM_DELADDR,
+    RTM_GETADDR,
 };
 use std::alloc::{AllocError, Global};
 
-/// Returns the line of a message about an address, in the order of `ip -o addr`: the verb, the index
-/// of the link, the family, the link's own address, the peer's address if it is another one, the
-/// length of the prefix, the broadcast address, the scope and the label. Parts without an attribute
-/// are left out.
+/// Returns the line of a message about an address, as `ip -o addr` prints it, with one space
+/// between its parts: the verb, the index and the name of the link, the family, the link's own
+/// address, the peer's address if it is another one, the length of the prefix, the metric, the
+/// broadcast and the anycast address, the scope, the flags, the label and the lifetimes. Parts
+/// without an attribute are left out. A known link is printed by its name, and another one as `if` and its index.
 #[tactic(auto, unfolding(crate::specs::Address::address_line))]
 pub fn address_text(
     alloc: Global,
+    known: &[Known],
     address: &MessageView<'_, Addresses>,
 ) -> Result<String, AllocError>
     ensures line { IfOk result (λ text. string_bytes text
-        ≡ address_line address.now.message_type address.now.payload.now) }
+        ≡ address_line known.now address.now.message_type address.now.payload.now) }
 {
-    let front = front_text(alloc, address)?;
-    let own = own_words(
-        alloc,
-        local_ip(address),
-        far_ip(address),
-        address.header().u8(IFA_PREFIXLEN),
-    )?;
-    let broadcast = broadcast_words(alloc, broadcast_ip(address))?;
-    let scope = scope_text(alloc, address.header().u8(IFA_SCOPE))?;
-    let label = label_words(alloc, address)?;
-    format!(in alloc; "{front}{own}{broadcast} scope {scope}{label}\n")
+    let mut text = front_text(alloc, known, address)?;
+    push_places(alloc, &mut text, address)?;
+    let flags = flags_of(address);
+    push_flags(alloc, &mut text, address.header().u8(IFA_FAMILY), flags)?;
+    push_label(alloc, &mut text, address.view().str_bytes(IFA_LABEL))?;
+    push_lifetimes(alloc, &mut text, flags, address.view().bytes(IFA_CACHEINFO))?;
+    text.push_str("\n")?;
+    Ok(text)
 }
 
-/// Returns the verb, the index of the link, and the family.
-fn front_text(alloc: Global, address: &MessageView<'_, Addresses>) -> Result<String, AllocError>
+/// Returns the verb, the index and the name of the link, and the family.
+#[tactic(auto, unfolding(crate::specs::Address::address_front))]
+fn front_text(
+    alloc: Global,
+    known: &[Known],
+    address: &MessageView<'_, Addresses>,
+) -> Result<String, AllocError>
     ensures { IfOk result (λ text. string_bytes text
-        ≡ address_front address.now.message_type address.now.payload.now) }
+        ≡ address_front known.now address.now.message_type address.now.payload.now) }
 {
     let verb = verb_text(address.message_type);
     let index = address.header().u32(IFA_INDEX);
+    let name = device_text(alloc, known, index)?;
     let family = family_text(alloc, address.header().u8(IFA_FAMILY))?;
-    format!(in alloc; "{verb}{index}: {family}")
+    format!(in alloc; "{verb}{index}: {name} {family}")
+}
+
+/// Appends the addresses, the length of the prefix, the metric and the scope.
+#[tactic(auto, unfolding(crate::specs::Address::place_parts))]
+fn push_places(
+    alloc: Global,
+    text: &mut String,
+    address: &MessageView<'_, Addresses>,
+) -> Result<(), AllocError>
+    ensures { OnOk result (string_bytes text.new
+        ≡ with_parts (string_bytes text.old) (place_parts address.now.payload.now)) }
+{
+    let prefix = address.header().u8(IFA_PREFIXLEN);
+    let own = own_text(alloc, local_ip(address), far_ip(address), prefix)?;
+    push_part(text, own.as_str())?;
+    push_metric(
+        alloc,
+        text,
+        own.as_str(),
+        address.view().u32(IFA_RT_PRIORITY),
+    )?;
+    push_keyed(
+        alloc,
+        text,
+        "brd",
+        ip_words(alloc, broadcast_ip(address))?.as_str(),
+    )?;
+    push_keyed(
+        alloc,
+        text,
+        "any",
+        ip_words(alloc, anycast_ip(address))?.as_str(),
+    )?;
+    let scope = scope_text(alloc, address.header().u8(IFA_SCOPE))?;
+    push_keyed(alloc, text, "scope", scope.as_str())
+}
+
+/// Appends the label.
+#[tactic(auto, unfolding(crate::specs::Parts::with_part))]
+fn push_label(alloc: Global, text: &mut String, label: Option<&[u8]>) -> Result<(), AllocError>
+    ensures { OnOk result (string_bytes text.new
+        ≡ with_part (string_bytes text.old) (label_part (option_copied label.entry))) }
+{
+    match label {
+        Some(label) => push_part(text, name_text(alloc, label)?.as_str()),
+        None => Ok(()),
+    }
+}
+
+/// Appends the metric, unless the text of the address is empty.
+#[tactic(auto, unfolding(crate::specs::Address::metric_part, crate::specs::Parts::with_part))]
+fn push_metric(
+    alloc: Global,
+    text: &mut String,
+    own: &str,
+    metric: Option<u32>,
+) -> Result<(), AllocError>
+    ensures { OnOk result
+        (string_bytes text.new ≡ with_part (string_bytes text.old) (metric_part own.now metric)) }
+{
+    if own.is_empty() {
+        return Ok(());
+    }
+    push_number(alloc, text, "metric", metric)
 }
 
 /// Returns the verb of a message type.
@@ -86,6 +158,33 @@ fn broadcast_ip<'a>(address: &MessageView<'a, Addresses>) -> &'a [u8]
     or_empty(address.view().ip(IFA_BROADCAST))
 }
 
+/// Returns the anycast address; empty if there is none.
+fn anycast_ip<'a>(address: &MessageView<'a, Addresses>) -> &'a [u8]
+    ensures { result.now ≡ address_ip address.now.payload.now IFA_ANYCAST }
+{
+    or_empty(address.view().ip(IFA_ANYCAST))
+}
+
+/// Returns the flags: those of the attribute, or those of the header if there is none.
+fn flags_of(address: &MessageView<'_, Addresses>) -> u32
+    ensures { result ≡ address_flags address.now.payload.now }
+{
+    or_byte(
+        address.view().u32(IFA_FLAGS),
+        address.header().u8(IFA_LOW_FLAGS),
+    )
+}
+
+/// Returns a number, or a byte if there is none.
+fn or_byte(number: Option<u32>, byte: u8) -> u32
+    ensures { result ≡ or_byte number byte }
+{
+    match number {
+        Some(number) => number,
+        None => byte as u32,
+    }
+}
+
 /// Returns the bytes, or none.
 pub(crate) fn or_empty<'a>(found: Option<&'a [u8]>) -> &'a [u8]
     ensures { result.now ≡ or_empty (option_copied found.entry) }
@@ -97,19 +196,19 @@ pub(crate) fn or_empty<'a>(found: Option<&'a [u8]>) -> &'a [u8]
 }
 
 /// Returns the link's own address, the peer's address, and the length of the prefix in bits.
-fn own_words(alloc: Global, local: &[u8], far: &[u8], prefix: u8) -> Result<String, AllocError>
-    ensures { IfOk result (λ text. string_bytes text ≡ own_words local.now far.now prefix) }
+fn own_text(alloc: Global, local: &[u8], far: &[u8], prefix: u8) -> Result<String, AllocError>
+    ensures { IfOk result (λ text. string_bytes text ≡ own_text local.now far.now prefix) }
 {
     if far.is_empty() && local.is_empty() {
         return Ok(String::new(alloc));
     }
     if local.is_empty() {
         let own = ip_words(alloc, far)?;
-        return format!(in alloc; " {own}/{prefix}");
+        return format!(in alloc; "{own}/{prefix}");
     }
     let own = ip_words(alloc, local)?;
     let peer = peer_words(alloc, local, far)?;
-    format!(in alloc; " {own}{peer}/{prefix}")
+    format!(in alloc; "{own}{peer}/{prefix}")
 }
 
 /// Returns the peer's address, if it is another one.
@@ -121,29 +220,4 @@ fn peer_words(alloc: Global, local: &[u8], far: &[u8]) -> Result<String, AllocEr
     }
     let peer = ip_words(alloc, far)?;
     format!(in alloc; " peer {peer}")
-}
-
-/// Returns the broadcast address.
-fn broadcast_words(alloc: Global, bytes: &[u8]) -> Result<String, AllocError>
-    ensures { IfOk result (λ text. string_bytes text ≡ broadcast_words bytes.now) }
-{
-    if bytes.is_empty() {
-        return Ok(String::new(alloc));
-    }
-    let broadcast = ip_words(alloc, bytes)?;
-    format!(in alloc; " brd {broadcast}")
-}
-
-/// Returns the label.
-fn label_words(alloc: Global, address: &MessageView<'_, Addresses>) -> Result<String, AllocError>
-    ensures { IfOk result (λ text. string_bytes text
-        ≡ label_words (option_map until_nul (first_at 8 address.now.payload.now IFA_LABEL))) }
-{
-    match address.view().str_bytes(IFA_LABEL) {
-        Some(label) => {
-            let name = name_text(alloc, label)?;
-            format!(in alloc; " {name}")
-        }
-        None => Ok(String::new(alloc)),
-    }
 }

@@ -51,7 +51,7 @@ impl Line for Joined<RouteTables> {
         match message.tables().split() {
             Ok(link) => Ok(Some(link_text(alloc, known, &link)?)),
             Err(other) => match other.split() {
-                Ok(address) => Ok(Some(address_text(alloc, &address)?)),
+                Ok(address) => Ok(Some(address_text(alloc, known, &address)?)),
                 Err(other) => other_line(alloc, known, &other),
             },
         }

@@ -1,7 +1,7 @@
 //! The names of numbers.
 
 ghost use Rattle.std.specs.Prelude.{◌≡◌, IfOk, string_bytes};
-ghost use Rattle.netlink_lines.specs.Names.{family_text, hardware_text, protocol_text, route_type_text, scope_text, state_text, table_text};
+ghost use Rattle.netlink_lines.specs.Names.{family_text, protocol_text, route_type_text, scope_text, state_text, table_text};
 
 use netlink_route::{RouteProtocol, RouteType};
 use std::alloc::{AllocError, Global};
@@ -24,26 +24,6 @@ pub fn state_text(alloc: Global, state: u8) -> Result<String, AllocError>
     String::from_str(alloc, name)
 }
 
-/// Returns the name of a device type, an `ARPHRD_*` of linux/if_arp.h; for any other number, the
-/// number in brackets. Returns `AllocError` if an allocation fails.
-pub fn hardware_text(alloc: Global, layer_type: u16) -> Result<String, AllocError>
-    ensures { IfOk result (λ text. string_bytes text ≡ hardware_text layer_type) }
-{
-    let name = match layer_type {
-        1 => "ether",
-        32 => "infiniband",
-        512 => "ppp",
-        768 => "ipip",
-        769 => "tunnel6",
-        772 => "loopback",
-        776 => "sit",
-        778 => "gre",
-        65534 => "none",
-        _ => return format!(in alloc; "[{layer_type}]"),
-    };
-    String::from_str(alloc, name)
-}
-
 /// Returns the name of an address family, an `AF_*` of linux/socket.h; for any other number,
 /// `family` and the number. Returns `AllocError` if an allocation fails.
 pub fn family_text(alloc: Global, family: u8) -> Result<String, AllocError>
@@ -51,7 +31,10 @@ pub fn family_text(alloc: Global, family: u8) -> Result<String, AllocError>
 {
     let name = match family {
         2 => "inet",
+        7 => "bridge",
         10 => "inet6",
+        17 => "link",
+        28 => "mpls",
         _ => return format!(in alloc; "family {family}"),
     };
     String::from_str(alloc, name)

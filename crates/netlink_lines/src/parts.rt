@@ -1,9 +1,10 @@
 //! Parts of a line, with one space between them.
 
 ghost use Rattle.std.specs.Prelude.{◌≡◌, IfOk, OnOk, string_bytes};
-ghost use Rattle.netlink_lines.specs.Parts.{hex_part, host_length, keyed, number_part, or_zero, prefix_text, realm_text, realms_part, tos_part, when, with_part};
+ghost use Rattle.std.specs.Option.{option_copied};
+ghost use Rattle.netlink_lines.specs.Parts.{hex_part, host_length, keyed, number_part, or_zero, prefix_of, prefix_text, realm_text, realms_part, string_part, tos_part, when, with_part, words_part};
 
-use crate::text::{ip_words, push_separated};
+use crate::text::{ip_words, name_text, push_separated, sentence_text};
 use netlink_packet_core::hex_pair;
 use std::alloc::{AllocError, Global};
 
@@ -64,6 +65,40 @@ pub(crate) fn push_number(
     }
 }
 
+/// Appends a key and a name, if there is one that is not empty.
+#[tactic(auto, unfolding(crate::specs::Parts::string_part, crate::specs::Parts::with_part))]
+pub(crate) fn push_string(
+    alloc: Global,
+    text: &mut String,
+    key: &str,
+    name: Option<&[u8]>,
+) -> Result<(), AllocError>
+    ensures { OnOk result (string_bytes text.new
+        ≡ with_part (string_bytes text.old) (string_part key.now (option_copied name.entry))) }
+{
+    match name {
+        Some(name) => push_keyed(alloc, text, key, name_text(alloc, name)?.as_str()),
+        None => Ok(()),
+    }
+}
+
+/// Appends a key and a sentence, if there is one that is not empty.
+#[tactic(auto, unfolding(crate::specs::Parts::words_part, crate::specs::Parts::with_part))]
+pub(crate) fn push_words(
+    alloc: Global,
+    text: &mut String,
+    key: &str,
+    words: Option<&[u8]>,
+) -> Result<(), AllocError>
+    ensures { OnOk result (string_bytes text.new
+        ≡ with_part (string_bytes text.old) (words_part key.now (option_copied words.entry))) }
+{
+    match words {
+        Some(words) => push_keyed(alloc, text, key, sentence_text(alloc, words)?.as_str()),
+        None => Ok(()),
+    }
+}
+
 /// Returns a number in hexadecimal with `0x` before it, or `0`.
 #[tactic(auto, unfolding(crate::specs::Parts::hex_part))]
 pub(crate) fn hex_text(alloc: Global, number: u32) -> Result<String, AllocError>
@@ -77,7 +112,7 @@ pub(crate) fn hex_text(alloc: Global, number: u32) -> Result<String, AllocError>
 
 /// Returns an address and, unless its prefix is as long as the address, the length of the prefix in
 /// bits. Without an address it is `0` and the length, and empty if that is 0.
-#[tactic(auto, unfolding(crate::specs::Parts::prefix_text, crate::specs::Parts::prefix_of))]
+#[tactic(auto, unfolding(crate::specs::Parts::prefix_text))]
 pub(crate) fn prefix_text(
     alloc: Global,
     bytes: &[u8],
@@ -86,7 +121,14 @@ pub(crate) fn prefix_text(
 ) -> Result<String, AllocError>
     ensures { IfOk result (λ text. string_bytes text ≡ prefix_text bytes.now length whole) }
 {
-    let ip = ip_words(alloc, bytes)?;
+    prefix_of(alloc, ip_words(alloc, bytes)?, length, whole)
+}
+
+/// Returns the text of an address and the length of its prefix in the same way.
+#[tactic(auto, unfolding(crate::specs::Parts::prefix_of))]
+fn prefix_of(alloc: Global, ip: String, length: u8, whole: u8) -> Result<String, AllocError>
+    ensures { IfOk result (λ text. string_bytes text ≡ prefix_of (string_bytes ip) length whole) }
+{
     if ip.is_empty() {
         if length == 0 {
             return Ok(ip);

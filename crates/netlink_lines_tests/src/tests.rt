@@ -1,6 +1,7 @@
 //! Lines of messages that are made by hand, runs, and texts of numbers and bytes.
 
 mod lines;
+mod link_lines;
 mod names;
 mod neighbour_lines;
 mod other_lines;

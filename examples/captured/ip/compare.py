@@ -6,6 +6,7 @@ Run it in namespaces without links and without lists of names, for example:
 unshare -rnm sh -c 'mount -t tmpfs none /etc/iproute2; mount --bind /dev/null /etc/protocols; ./compare.py'
 
 `ip monitor file` prints neither neighbour tables nor routes that were looked up for a request. The script skips these.
+Of links, it prints neither the mode nor the length of the queue nor the alias, which `ip link` prints.
 """
 
 import os
@@ -18,7 +19,8 @@ import tempfile
 FOLDER = os.path.dirname(os.path.abspath(__file__))
 
 NEIGHBOUR_TABLE = 64
-ROUTES, RULES = (24, 25), (32, 33)
+LINKS, ADDRESSES, ROUTES, RULES = (16, 17), (20, 21), (24, 25), (32, 33)
+IFLA_IFALIAS = 20
 RTM_F_CLONED = 0x200
 
 
@@ -40,8 +42,30 @@ def is_printed(frame):
     return kind_of(frame) != NEIGHBOUR_TABLE
 
 
+def alias_of(frame):
+    at = 32
+    while at < len(frame):
+        length, kind = struct.unpack_from("<HH", frame, at)
+        if kind == IFLA_IFALIAS:
+            return frame[at + 4 : at + length].split(b"\0")[0].decode("latin-1")
+        at += (length + 3) & ~3
+    return ""
+
+
+def monitored(frame, line):
+    """Returns a line of lines.txt without what only `ip link` prints."""
+    if kind_of(frame) not in LINKS:
+        return line
+    line = re.sub(r" (mode \S+|qlen -?\d+)(?= )", "", line)
+    return line.replace(f" alias {alias_of(frame)}", "", 1) if alias_of(frame) else line
+
+
 def normalized(frame, line):
     """Returns a line of `ip` as it is in lines.txt."""
+    if kind_of(frame) in LINKS + ADDRESSES:
+        line = re.sub(r"\\( {4})", r"\1", line)
+        line = re.sub(r" (state 0x[0-9a-f]+?)(group|event) ", r" \1 \2 ", line)
+        return re.sub(" +", " ", line).strip(" ")
     line = " ".join(line.replace("\\", " ").split())
     return line if kind_of(frame) in RULES else re.sub(r"\b(dev|iif) lo\b", r"\1 if1", line)
 
@@ -49,21 +73,21 @@ def normalized(frame, line):
 def main():
     with open(os.path.join(FOLDER, "frames.bin"), "rb") as file:
         frames = list(frames_in(file.read()))
-    with open(os.path.join(FOLDER, "lines.txt"), encoding="ascii") as file:
-        lines = file.read().splitlines()
+    with open(os.path.join(FOLDER, "lines.txt"), "rb") as file:
+        lines = file.read().decode("latin-1").split("\n")[:-1]
     rows = [(place, *row) for place, row in enumerate(zip(frames, lines), 1) if is_printed(row[0])]
     with tempfile.NamedTemporaryFile() as file:
         file.write(b"".join(frame for _, frame, _ in rows))
         file.flush()
         words = ["ip", "-o", "monitor", "file", file.name]
-        printed = subprocess.run(words, stdout=subprocess.PIPE, check=True).stdout.decode("ascii").splitlines()
+        printed = subprocess.run(words, stdout=subprocess.PIPE, check=True).stdout.decode("latin-1").split("\n")[:-1]
     if (len(frames), len(printed)) != (len(lines), len(rows)):
         sys.exit(f"{len(frames)} frames and {len(lines)} lines; ip printed {len(printed)} lines instead of {len(rows)}")
     different = 0
     for (place, frame, line), own in zip(rows, printed):
-        if normalized(frame, own) != line:
+        if normalized(frame, own) != monitored(frame, line):
             different += 1
-            print(f"line {place}: ip prints {normalized(frame, own)!r}, not {line!r}")
+            print(f"line {place}: ip prints {normalized(frame, own)!r}, not {monitored(frame, line)!r}")
     print(f"{len(rows) - different} lines are equal, {different} differ, {len(lines) - len(rows)} skipped")
     sys.exit(1 if different else 0)
 

@@ -70,7 +70,7 @@ fn messages_have_lines(rt: HostRuntime) -> Result<(), Fail> {
         ),
         (
             &ADDRESS,
-            "Deleted 4: inet 10.0.0.1 peer 10.0.0.2/24 brd 10.0.0.255 scope link abcd\n",
+            "Deleted 4: if4 inet 10.0.0.1 peer 10.0.0.2/24 brd 10.0.0.255 scope link dynamic abcd\n",
         ),
         (
             &OTHERS,
@@ -78,7 +78,7 @@ fn messages_have_lines(rt: HostRuntime) -> Result<(), Fail> {
         ),
         (&NEIGHBOURS, "miss\n"),
         (&REQUEST, "type 26, 28 bytes\n"),
-        (&LATIN, "-1: 63:e9: <> link/ether\n"),
+        (&LATIN, "-1: c\\xe9: <> link/ether\n"),
     ];
     for (input, lines) in rows {
         let mut reader = input;

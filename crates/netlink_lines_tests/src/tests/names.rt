@@ -70,7 +70,7 @@ fn links_have_the_names_told_before(rt: HostRuntime) -> Result<(), Fail> {
             16,
             8,
             &ABROAD,
-            "8: v@if7: <> link/ether\ndefault dev eth0\n",
+            "8: v@if7: <> link/ether link-netnsid 2\ndefault dev eth0\n",
         ),
         (16, 7, &[], "7: if7: <> link/ether\ndefault dev eth0\n"),
         (

@@ -9,7 +9,8 @@ use std::io;
 use std::io::{Read, Write};
 use std::test::Fail;
 
-const LINE: &str = "Deleted 4: inet 10.0.0.1 peer 10.0.0.2/24 brd 10.0.0.255 scope link abcd\n";
+const LINE: &str =
+    "Deleted 4: if4 inet 10.0.0.1 peer 10.0.0.2/24 brd 10.0.0.255 scope link dynamic abcd\n";
 
 /// A link whose payload is one byte shorter than its header.
 const SHORT: [u8; 31] = [

@@ -7,7 +7,8 @@ use netlink_route::RouteTables;
 use std::alloc::{AllocError, Global};
 use std::test::Fail;
 
-const LINE: &str = "Deleted 4: inet 10.0.0.1 peer 10.0.0.2/24 brd 10.0.0.255 scope link abcd\n";
+const LINE: &str =
+    "Deleted 4: if4 inet 10.0.0.1 peer 10.0.0.2/24 brd 10.0.0.255 scope link dynamic abcd\n";
 
 /// 1,700,000,000 seconds and 42 microseconds; with the flag NLM_F_DUMP_INTR, which has no effect.
 const FIRST: [u8; 24] = [

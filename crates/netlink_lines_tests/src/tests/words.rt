@@ -31,10 +31,10 @@ fn numbers_have_names(rt: HostRuntime) -> Result<(), Fail> {
     for (state, text) in [(0, "UNKNOWN"), (2, "DOWN"), (6, "UP"), (200, "0xc8")] {
         assert_eq!(rt; state_text(alloc, state)?.as_str(), text);
     }
-    for (number, text) in [(1, "ether"), (772, "loopback"), (65534, "none"), (2, "[2]")] {
+    for (number, text) in [(1, "ether"), (772, "loopback"), (823, "gre6"), (16, "[16]")] {
         assert_eq!(rt; hardware_text(alloc, number)?.as_str(), text);
     }
-    for (number, text) in [(2, "inet"), (10, "inet6"), (7, "family 7")] {
+    for (number, text) in [(2, "inet"), (10, "inet6"), (3, "family 3")] {
         assert_eq!(rt; family_text(alloc, number)?.as_str(), text);
     }
     for (number, text) in [(0, "global"), (253, "link"), (254, "host"), (9, "9")] {
@@ -61,26 +61,31 @@ fn links_have_names(rt: HostRuntime) -> Result<(), Fail> {
             name: Name::new(alloc, "a b".as_bytes())?,
         },
     ];
-    for (index, text) in [(0, "*"), (1, "if1"), (3, "eth0"), (4, "61:20:62")] {
+    for (index, text) in [(0, "*"), (1, "if1"), (3, "eth0"), (4, "a\\x20b")] {
         assert_eq!(rt; device_text(rt.alloc(), &known, index)?.as_str(), text);
     }
     Ok(())
 }
 
-/// A name or a sentence that would break its line is written by its bytes; texts of addresses are
-/// those of RFC 5952.
+/// A byte that would break its line, and a backslash, are written as `\x` and their digits; texts
+/// of addresses are those of `inet_ntop`.
 #[test]
 fn bytes_have_texts(rt: HostRuntime) -> Result<(), Fail> {
     let alloc = rt.alloc();
     for (name, text) in [
         ("eth0.5", "eth0.5"),
-        ("a\n", "61:0a"),
-        (" ", "20"),
+        ("a\n", "a\\x0a"),
+        (" ", "\\x20"),
+        ("\\~\x7f\x1f", "\\x5c~\\x7f\\x1f"),
         ("", ""),
     ] {
         assert_eq!(rt; name_text(alloc, name.as_bytes())?.as_str(), text);
     }
-    for (sentence, text) in [("a b~", "a b~"), ("a\u{e9}", "61:c3:a9")] {
+    for (sentence, text) in [
+        ("a b~", "a b~"),
+        ("a\u{e9}", "a\\xc3\\xa9"),
+        ("\t\\", "\\x09\\x5c"),
+    ] {
         assert_eq!(rt; sentence_text(alloc, sentence.as_bytes())?.as_str(), text);
     }
     let mut address = [0; 16];
@@ -88,6 +93,14 @@ fn bytes_have_texts(rt: HostRuntime) -> Result<(), Fail> {
     address[1] = 0x01;
     address[15] = 0x0a;
     assert_eq!(rt; ip_words(alloc, &address)?.as_str(), "2001::a");
+    address[0] = 0;
+    address[1] = 0;
+    assert_eq!(rt; ip_words(alloc, &address)?.as_str(), "::a");
+    address[13] = 1;
+    assert_eq!(rt; ip_words(alloc, &address)?.as_str(), "::0.1.0.10");
+    address[10] = 0xff;
+    address[11] = 0xff;
+    assert_eq!(rt; ip_words(alloc, &address)?.as_str(), "::ffff:0.1.0.10");
     assert_eq!(rt; ip_words(alloc, &[192, 0, 2, 1])?.as_str(), "192.0.2.1");
     assert_eq!(rt; ip_words(alloc, &[1])?.as_str(), "");
     Ok(())

@@ -1,0 +1,124 @@
+//! The type of a device and its addresses.
+
+ghost use Rattle.std.specs.Prelude.{◌≡◌, IfOk, OnOk, string_bytes};
+ghost use Rattle.netlink_lines.specs.LinkAddress.{broadcast_key, hardware_parts, ip_size, link_address, link_own, permanent_part};
+ghost use Rattle.netlink_lines.specs.Parts.{with_part, with_parts};
+ghost use Rattle.netlink_route.specs.declared.links.TheConstants.{IFLA_ADDRESS, IFLA_BROADCAST, IFLA_PERM_ADDRESS};
+
+use crate::address::or_empty;
+use crate::hardware::hardware_text;
+use crate::parts::{push_keyed, push_part};
+use crate::text::{bytes_text, ip_words};
+use netlink_family::MessageView;
+use netlink_route::Links;
+use netlink_route::links::{IFI_FLAGS, IFI_TYPE, IFLA_ADDRESS, IFLA_BROADCAST, IFLA_PERM_ADDRESS};
+use std::alloc::{AllocError, Global};
+
+const IFF_POINTOPOINT: u32 = 0x10;
+
+/// Appends the type of the device, its address, the broadcast address or that of the peer, and the
+/// permanent address if it is another one.
+#[tactic(auto, unfolding(crate::specs::LinkAddress::hardware_parts))]
+pub(crate) fn push_hardware(
+    alloc: Global,
+    text: &mut String,
+    link: &MessageView<'_, Links>,
+) -> Result<(), AllocError>
+    ensures { OnOk result (string_bytes text.new ≡ with_parts (string_bytes text.old)
+        (hardware_parts link.now.payload.now)) }
+{
+    let layer = link.header().u16(IFI_TYPE);
+    let hardware = hardware_text(alloc, layer)?;
+    push_part(text, format!(in alloc; "link/{hardware}")?.as_str())?;
+    push_part(text, link_address(alloc, layer, own_of(link))?.as_str())?;
+    let broadcast = link_address(alloc, layer, broadcast_of(link))?;
+    push_keyed(
+        alloc,
+        text,
+        broadcast_key(link.header().u32(IFI_FLAGS)),
+        broadcast.as_str(),
+    )?;
+    push_permanent(alloc, text, layer, own_of(link), permanent_of(link))
+}
+
+/// Returns the address of the device; empty if there is none.
+fn own_of<'a>(link: &MessageView<'a, Links>) -> &'a [u8]
+    ensures { result.now ≡ link_own link.now.payload.now IFLA_ADDRESS }
+{
+    or_empty(link.view().bytes(IFLA_ADDRESS))
+}
+
+/// Returns the broadcast address, or that of the peer; empty if there is none.
+fn broadcast_of<'a>(link: &MessageView<'a, Links>) -> &'a [u8]
+    ensures { result.now ≡ link_own link.now.payload.now IFLA_BROADCAST }
+{
+    or_empty(link.view().bytes(IFLA_BROADCAST))
+}
+
+/// Returns the permanent address; empty if there is none.
+fn permanent_of<'a>(link: &MessageView<'a, Links>) -> &'a [u8]
+    ensures { result.now ≡ link_own link.now.payload.now IFLA_PERM_ADDRESS }
+{
+    or_empty(link.view().bytes(IFLA_PERM_ADDRESS))
+}
+
+/// Returns the key before the broadcast address, which is that of the peer if a link has one.
+fn broadcast_key(flags: u32) -> &'static str
+    ensures { result.now ≡ broadcast_key flags }
+{
+    if flags & IFF_POINTOPOINT == 0 {
+        "brd"
+    } else {
+        "peer"
+    }
+}
+
+/// Returns an address of a device: that of a tunnel as an IP address, and any other in hexadecimal.
+#[tactic(auto, unfolding(crate::specs::LinkAddress::link_address))]
+fn link_address(alloc: Global, layer: u16, bytes: &[u8]) -> Result<String, AllocError>
+    ensures { IfOk result (λ text. string_bytes text ≡ link_address layer bytes.now) }
+{
+    if bytes.len() == ip_size(layer) {
+        return ip_words(alloc, bytes);
+    }
+    bytes_text(alloc, bytes)
+}
+
+/// Returns the size of the IP addresses of a type of tunnel (`ARPHRD_*` of linux/if_arp.h); 0 for
+/// any other type.
+#[tactic(auto, unfolding(crate::specs::LinkAddress::ip_size))]
+fn ip_size(layer: u16) -> usize
+    ensures { result ≡ ip_size layer }
+{
+    match layer {
+        768 => 4,
+        776 => 4,
+        778 => 4,
+        769 => 16,
+        823 => 16,
+        _ => 0,
+    }
+}
+
+/// Appends a permanent address, if it is another one than the own address.
+#[tactic(auto, unfolding(crate::specs::LinkAddress::permanent_part, crate::specs::Parts::with_part))]
+fn push_permanent(
+    alloc: Global,
+    text: &mut String,
+    layer: u16,
+    own: &[u8],
+    permanent: &[u8],
+) -> Result<(), AllocError>
+    ensures { OnOk result (string_bytes text.new
+        ≡ with_part (string_bytes text.old) (permanent_part layer own.now permanent.now)) }
+{
+    if permanent == own {
+        return Ok(());
+    }
+    push_keyed(
+        alloc,
+        text,
+        "permaddr",
+        link_address(alloc, layer, permanent)?.as_str(),
+    )
+}
