@@ -1,7 +1,7 @@
 #!/usr/bin/env python3
 """Runs the built program `netlink_show` on captured datagrams, on frames for which `ip` printed lines, on inputs
-with each error, on every prefix of a stream, on random bytes, on a pipe that stays open, with wrong arguments, and with
-inputs and outputs that fail.
+with each error, on every prefix of a stream, on random bytes, on pcap files, on pipes that stay open, with wrong
+arguments, and with inputs and outputs that fail.
 
 This script computes the expected lines for the captured datagrams itself, with Python's struct and ipaddress and the
 numbers of linux/if.h, if_link.h and if_addr.h. The expected lines for acknowledgements, errors and messages made here
@@ -12,13 +12,16 @@ docs/FORMAT.md.
 import ipaddress
 import os
 import random
-import selectors
 import struct
 import subprocess
 import tempfile
 
 from built import TOP, FailingDevices, built, error_of, in_parallel, row, silent, tally
 from ip_lines import ip_errors
+from live import closed_error, live_error, memory_error
+from pcap_rows import header as pcap_header
+from pcap_rows import packet as pcap_packet
+from pcap_rows import pcap_rows, tshark_errors
 
 CAPTURED = ["links-0", "links-1", "links-2", "addresses-0", "addresses-1", "link-by-name-0"]
 CAPTURED += ["event-0", "event-1", "event-2"]
@@ -326,15 +329,31 @@ STREAMS += [
 ]
 
 
-def rows():
-    """Yields the runs whose input can be read and whose output can be written."""
+def captured_lines():
+    """Returns the captured datagrams by their names, each with its lines after those before it."""
     folder = os.path.join(TOP, "examples", "captured")
     captured = {it: open(os.path.join(folder, f"{it}.bin"), "rb").read() for it in [*CAPTURED, *ANSWERS]}
-    for name, data in captured.items():
-        yield row(name, [], (0, ANSWERS.get(name) or lines_of(data, {}), ""), data)
     known = {}
-    all_lines = b"".join(ANSWERS.get(name) or lines_of(data, known) for name, data in captured.items())
-    yield row("all of them", [], (0, all_lines, ""), b"".join(captured.values()))
+    return {name: (data, ANSWERS.get(name) or lines_of(data, known)) for name, data in captured.items()}
+
+
+def in_packets(data):
+    """Returns a pcap file with each message of a stream in a packet of its own."""
+    parts = [pcap_header()]
+    while data:
+        size = number(data[:4])
+        parts.append(pcap_packet(data[:size]))
+        data = data[size + -size % 4 :]
+    return b"".join(parts)
+
+
+def rows():
+    """Yields the runs whose input can be read and whose output can be written."""
+    captured = captured_lines()
+    for name, (data, _) in captured.items():
+        yield row(name, [], (0, ANSWERS.get(name) or lines_of(data, {}), ""), data)
+    whole, all_lines = (b"".join(it) for it in zip(*captured.values()))
+    yield row("all of them", [], (0, all_lines, ""), whole)
     yield row("nothing", [], (0, b"", ""))
     for data, error in STOPS:
         yield row(data.hex(), [], (1, b"", f"byte 0: {error}"), data)
@@ -351,15 +370,19 @@ def rows():
         yield row(data[:99].hex(), [], (0, LINE + line + LINE, ""), link(NAMED) + padded(data) + link(NAMED))
     for data, lines in STREAMS:
         yield row(data.hex(), [], (0, lines, ""), data)
+        yield row(f"{data.hex()} in packets", [], (0, lines, ""), in_packets(data))
+    lines = b"netlink family 16, 0 bytes\n[1.000002] " + LINE
+    data = in_packets(time(1, 2)) + pcap_packet(b"", family=16) + pcap_packet(link(NAMED))
+    yield row(data.hex(), [], (0, lines, ""), data)
     data = time(1, 2) + MALFORMED[0][0]
     yield row(data.hex(), [], (1, f"[1.000002] byte 24: {MALFORMED[0][1]}\n".encode(), BAD), data)
     for words in (["links"], [""], ["-h"], ["a", "b"], [b"\xff"]):
         yield row(f"arguments {words}", words, USAGE, link(NAMED))
 
 
-def shown(data):
-    """Returns what the program does with a stream of messages of unknown types: its status, output and error. Returns
-    None if a type is known."""
+def shown(data, offset=0):
+    """Returns what the program does with a stream of messages of unknown types, at an offset of its input: its status,
+    output and error. Returns None if a type is known."""
     at, lines = 0, []
     while at < len(data):
         left, error = len(data) - at, None
@@ -373,7 +396,7 @@ def shown(data):
         elif said > left:
             error = f"{FRAME}length field says {said} the buffer is {left} bytes long"
         if error:
-            return 1, "".join(lines).encode(), f"byte {at}: {error}"
+            return 1, "".join(lines).encode(), f"byte {offset + at}: {error}"
         kind = number(data[at + 4 : at + 6])
         if kind in KNOWN:
             return None
@@ -421,55 +444,24 @@ def failing_rows(devices):
     yield row("a directory, no standard error", [], (1, b"", ""), devices.folder, closed="2>&-")
 
 
-def live_error(program):
-    """Writes messages to a pipe that stays open. The lines of each must be there as soon as its last byte was written,
-    and not before. Returns what differs, or None."""
+def live_checks(program):
+    """Yields what differs on pipes that stay open, that are closed early, or that carry many messages, or None. Padding
+    comes late, with the next message; a packet is whole before its lines appear."""
     messages = [(link(NAMED), LINE), (frame(40, b"abc"), b"type 40, 19 bytes\n"), LINES[0]]
     messages += [(MALFORMED[0][0], f"byte 80: {MALFORMED[0][1]}\n".encode()), (error(TEXT), b"error -22: a b\n")]
-    at = 0
-    with subprocess.Popen([program], stdin=subprocess.PIPE, stdout=subprocess.PIPE, stderr=subprocess.PIPE) as run:
-        os.set_blocking(run.stdout.fileno(), False)
-        with selectors.DefaultSelector() as ready:
-            ready.register(run.stdout, selectors.EVENT_READ)
-            for data, line in messages:
-                # the padding comes late, with the next message
-                os.write(run.stdin.fileno(), bytes(-at % 4) + data[:-1])
-                if ready.select(0.05):
-                    return f"a line before the last byte of {data.hex()}"
-                os.write(run.stdin.fileno(), data[-1:])
-                if not ready.select(10):
-                    return f"no line after the last byte of {data.hex()}"
-                wrote = os.read(run.stdout.fileno(), 4096)
-                if wrote != line:
-                    return f"{data.hex()} on a pipe: wrote {wrote}, not {line}"
-                at += -at % 4 + len(data)
-        rest = run.communicate(timeout=10)
-    ended = run.returncode, *rest
-    return None if ended == (1, b"", f"{BAD}\n".encode()) else f"an open pipe: ended with {ended}"
-
-
-def closed_error(program):
-    """Closes the output after the first line. Returns what differs, or None."""
-    with subprocess.Popen([program], stdin=subprocess.PIPE, stdout=subprocess.PIPE, stderr=subprocess.PIPE) as run:
-        os.write(run.stdin.fileno(), link(NAMED))
-        wrote = run.stdout.readline()
-        run.stdout.close()
-        os.write(run.stdin.fileno(), link(NAMED))
-        said = run.stderr.read()
-    ended = run.returncode, wrote, said
-    return None if ended == (1, LINE, b"write failed\n") else f"an output that is closed: ended with {ended}"
-
-
-def memory_error(program):
-    """Passes 64 MiB of messages. The program may take 8 MB of memory. Returns what differs, or None."""
+    pieces, at = [], 0
+    for data, line in messages:
+        pieces.append((bytes(-at % 4), data, line))
+        at += -at % 4 + len(data)
+    yield live_error(program, pieces, (1, f"{BAD}\n".encode()))
+    two = link(NAMED) + link(NAMED)
+    packets = [(pcap_header(), pcap_packet(two), LINE + LINE), (b"", pcap_packet(link(NAMED)), LINE)]
+    yield live_error(program, packets, (0, b""))
+    yield closed_error(program, link(NAMED), LINE)
     many = 1024 * link(NAMED, attribute(200, bytes(1000)))
-    with subprocess.Popen([program], stdin=subprocess.PIPE, stdout=subprocess.DEVNULL) as run:
-        for _ in range(64):
-            run.stdin.write(many)
-        run.stdin.flush()
-        with open(f"/proc/{run.pid}/status") as file:
-            peak = next(int(line.split()[1]) for line in file if line.startswith("VmHWM:"))
-    return None if run.returncode == 0 and peak <= 8_000 else f"64 MiB: status {run.returncode}, {peak} kB of memory"
+    yield memory_error(program, b"", many, 64)
+    yield memory_error(program, pcap_header(), 32 * pcap_packet(many[: len(many) // 32]), 64)
+    yield names_error(program)
 
 
 def names_error(program):
@@ -493,13 +485,17 @@ def names_error(program):
 
 def main():
     program = built("netlink_show", "netlink_show")
-    all_rows = [*rows(), *stream_rows(), *failing_rows(FailingDevices())]
+    files = pcap_rows(frame, shown, captured_lines().values())
+    all_rows = [*rows(), *stream_rows(), *files, *failing_rows(FailingDevices())]
     errors = [it for it in in_parallel(lambda it: error_of(program, it), all_rows) if it]
-    checks = [live_error, closed_error, memory_error, names_error]
-    errors += [it for it in (check(program) for check in checks) if it]
+    checks = [*live_checks(program)]
+    errors += [it for it in checks if it]
     from_ip, frames = ip_errors(program)
-    errors += from_ip
-    tally("show", errors, len(all_rows) + len(checks) + frames - len(errors))
+    from_tshark, read = tshark_errors(frame)
+    if read is None:
+        print("skipped: tshark (it is not installed)")
+    errors += from_ip + from_tshark
+    tally("show", errors, len(all_rows) + len(checks) + frames + (read or 0) - len(errors))
 
 
 main()

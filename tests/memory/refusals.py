@@ -2,10 +2,10 @@
 """Makes each allocation of a run fail in turn, by its number, and checks the result.
 
 It preloads the library of refuse.c into the two programs and into the built tests of the crates, each in a process of
-its own. netlink_frame runs each command on a dozen inputs, and netlink_show runs on captured datagrams. Code that
-allocates is run once per allocation, with that allocation failing: it must give its usual result or report out of
-memory. Code that must not allocate is run with every allocation failing, starting at its marker: it must give its usual
-result and allocate nothing after the marker.
+its own. netlink_frame runs each command on a dozen inputs, and netlink_show runs on captured datagrams and a pcap
+file. Code that allocates is run once per allocation, with that allocation failing: it must give its usual result or
+report out of memory. Code that must not allocate is run with every allocation failing, starting at its marker: it must
+give its usual result and allocate nothing after the marker.
 """
 
 import os
@@ -17,6 +17,7 @@ import tempfile
 sys.path.insert(0, os.path.join(os.path.dirname(os.path.abspath(__file__)), ".."))
 
 from built import TOP, built, in_parallel, run, tally
+from pcap_rows import header, packet
 
 # Other functions that allocate. The programs must not use them, because refuse.c does not count them.
 OTHER_ALLOCATORS = "aligned_alloc posix_memalign memalign valloc reallocarray mmap mmap64 brk".split()
@@ -56,8 +57,8 @@ INPUTS = {
     "no bytes": "",
 }
 
-# The inputs of netlink_show: captured datagrams, each with the end of the part that the program gets; or a message type
-# of examples/captured/ip, and how many of its messages.
+# The inputs of netlink_show, besides a pcap file: captured datagrams, each with the end of the part that the program
+# gets; or a message type of examples/captured/ip, and how many of its messages.
 DATAGRAMS = {
     "links": ("links-0.bin", None),
     "links, the last one truncated": ("links-0.bin", -1),
@@ -169,24 +170,29 @@ def of_frame(library):
 
 
 def of_show(library):
-    """Returns the sweeps of netlink_show: each of its datagrams and an empty input, for which it allocates to read its
-    arguments, then its buffer, and then the room for a header.
+    """Returns the sweeps of netlink_show: each of its datagrams, an empty input, for which it allocates to read its
+    arguments, then its buffer, and then the room for the first bytes, and a pcap file.
 
     The program writes the line of a message before it reads on, so the lines before a failed allocation are there."""
     program = built("netlink_show", "netlink_show")
     _, allocations, _ = run_failing(library, [program], b"", 0)
     early = [SHOW_USAGE] * (allocations - 2) + [OUT_OF_MEMORY] * 2
 
+    inputs = {}
+    for name, (source, end) in DATAGRAMS.items():
+        inputs[name] = messages_of(source, end) if isinstance(source, int) else captured(source)[:end]
+    packets = [packet(inputs["links"]), packet(inputs["links, the last one truncated"]), packet(b"", family=16)]
+    inputs["a pcap file"] = header() + b"".join(packets)
+
     def sweep_of(name):
-        source, end = DATAGRAMS[name]
-        data = messages_of(source, end) if isinstance(source, int) else captured(source)[:end]
+        data = inputs[name]
         sweep = Sweep(library, f"netlink_show of {name}", [program], data)
         usual = run([program], data)
         lines = usual[1].splitlines(keepends=True)
         later = [(1, b"".join(lines[:number]), OUT_OF_MEMORY[2]) for number in range(len(lines) + 1)]
         return sweep.each_in_turn(usual, early, later)
 
-    return in_parallel(sweep_of, DATAGRAMS)
+    return in_parallel(sweep_of, inputs)
 
 
 def captured(name):

@@ -1,9 +1,15 @@
+pub mod Datagrams
 pub mod Frames
 pub mod Hops
 pub mod Joined
+pub mod Layouts
 pub mod Once
+pub mod OncePackets
+pub mod Packets
 pub mod Properties
+pub mod Reading
 pub mod Running
 pub mod Shown
 pub mod Signed
+pub mod Starting
 pub mod Steps

@@ -1,4 +1,4 @@
--- An input shows one list of messages and ends in one way.
+-- Bytes show one list of messages and end in one way.
 use Rattle.std.proofs.Common.{◌≡◌, ◌∙◌, ap, arith, refl, sym, subst, ℕ, List, [], Option, ap}
 use Rattle.std.specs.Option.{option_map}
 use Rattle.std.specs.Prelude.{true, false}
@@ -14,9 +14,9 @@ use Rattle.netlink_replies.specs.AckValues.{first_value, without_nul}
 use Rattle.netlink_replies.specs.Meaning.{meaning}
 use Rattle.netlink_lines.specs.Ack.{IsText, ack_attributes}
 use Rattle.netlink_lines.specs.Messages.{Seen}
-use Rattle.netlink_lines.specs.Stream.{IsCause, IsStop, Shows, StartsSeen}
+use Rattle.netlink_lines.specs.Stream.{IsCause, IsStop, ShowsMessages, StartsSeen}
 use Rattle.netlink_lines.specs.declared.stream.Cause.{Cause}
-use Rattle.netlink_lines.specs.declared.stream.Cause.TheVariants.{Damaged, TooLong}
+use Rattle.netlink_lines.specs.declared.stream.Cause.TheVariants.{Damaged, TooLong, Pcap}
 use Rattle.netlink_lines.specs.declared.stream.Stop.{Stop}
 
 -- ---- bytes start with one message
@@ -31,9 +31,9 @@ seen_once a b at frame text =
     ∙ ap (λ (f : List ℕ). record { at = b.at; frame = f; text = a.text }) frame
     ∙ ap (λ (t : Option (List ℕ)). record { at = b.at; frame = b.frame; text = t }) text
 
-step_once : (input bytes : List ℕ) (a b : Seen) (rest other : List ℕ) → StartsSeen input bytes a rest
-    → StartsSeen input bytes b other → (a ≡ b) × (rest ≡ other)
-step_once input bytes a b rest other first second =
+step_once : (end : ℕ) (bytes : List ℕ) (a b : Seen) (rest other : List ℕ) → StartsSeen end bytes a rest
+    → StartsSeen end bytes b other → (a ≡ b) × (rest ≡ other)
+step_once end bytes a b rest other first second =
     let same = starts_frame_once bytes a.frame b.frame rest other first.starts second.starts in (
       seen_once a b (first.place ∙ sym second.place) same.0
           (text_once (ack_attributes (meaning b.frame)) a.text b.text
@@ -49,18 +49,19 @@ without bytes (FrameCut said size within) is = (FrameCut said size false, (is.0,
 without bytes (FrameLength said within) is = (FrameLength said false, (is.0, is.1, is.2, refl))
 without bytes _ is = absurd is
 
-no_cause_of : (input bytes : List ℕ) (seen : Seen) (rest : List ℕ) (cause : Cause)
-    → StartsSeen input bytes seen rest → IsCause bytes cause → ⊥
-no_cause_of input bytes seen rest (Damaged error) starts (is, most) =
+no_cause_of : (end : ℕ) (bytes : List ℕ) (seen : Seen) (rest : List ℕ) (cause : Cause)
+    → StartsSeen end bytes seen rest → IsCause bytes cause → ⊥
+no_cause_of end bytes seen rest (Damaged error) starts (is, most) =
     let fault = without bytes error is in
     starts_frame-fault bytes seen.frame rest fault.0 starts.starts fault.1
-no_cause_of input bytes seen rest (TooLong said) starts (long, is, high) =
+no_cause_of end bytes seen rest (TooLong said) starts (long, is, high) =
     omega (arith, is, high, starts.most, starts_frame-field bytes seen.frame rest starts.starts)
+no_cause_of end bytes seen rest (Pcap why) starts is = absurd is
 
-no_cause : (input bytes : List ℕ) (seen : Seen) (rest : List ℕ) (stop : Stop)
-    → StartsSeen input bytes seen rest → IsStop input bytes stop → ⊥
-no_cause input bytes seen rest stop starts is =
-    no_cause_of input bytes seen rest stop.cause starts is.cause
+no_cause : (end : ℕ) (bytes : List ℕ) (seen : Seen) (rest : List ℕ) (stop : Stop)
+    → StartsSeen end bytes seen rest → IsStop end bytes stop → ⊥
+no_cause end bytes seen rest stop starts is =
+    no_cause_of end bytes seen rest stop.cause starts is.cause
 
 fault_once : (bytes : List ℕ) (e f : DecodeError) → IsFrameFault true bytes e → IsFrameFault true bytes f → e ≡ f
 fault_once bytes (FrameShort m i) (FrameShort n j) p q = cc
@@ -86,28 +87,30 @@ cause_once bytes (Damaged e) (Damaged f) p q = ap Damaged (fault_once bytes e f 
 cause_once bytes (Damaged e) (TooLong n) p q = absurd (not_both bytes e n p q)
 cause_once bytes (TooLong n) (Damaged f) p q = absurd (not_both bytes f n q p)
 cause_once bytes (TooLong m) (TooLong n) p q = ap TooLong (p.1 ∙ sym q.1)
+cause_once bytes (Pcap why) s p q = absurd p
+cause_once bytes r (Pcap why) p q = absurd q
 
-stop_once : (input bytes : List ℕ) (r s : Stop) → IsStop input bytes r → IsStop input bytes s → r ≡ s
-stop_once input bytes r s first second =
+stop_once : (end : ℕ) (bytes : List ℕ) (r s : Stop) → IsStop end bytes r → IsStop end bytes s → r ≡ s
+stop_once end bytes r s first second =
     let at : r.at ≡ s.at = omega (arith, first.place, second.place) in
     let cause : r.cause ≡ s.cause = cause_once bytes r.cause s.cause first.cause second.cause in
     let moved : r ≡ record { at = s.at; cause = r.cause } = ap (λ (n : ℕ). record { at = n; cause = r.cause }) at in
     moved ∙ ap (λ (c : Cause). record { at = s.at; cause = c }) cause
 
--- ---- an input shows one list
+-- ---- bytes show one list
 
-nothing_starts : (input bytes : List ℕ) (seen : Seen) (rest : List ℕ) → bytes ≡ []
-    → StartsSeen input bytes seen rest → ⊥
-nothing_starts input bytes seen rest none starts = no_frame_starts bytes seen.frame rest none starts.starts
+nothing_starts : (end : ℕ) (bytes : List ℕ) (seen : Seen) (rest : List ℕ) → bytes ≡ []
+    → StartsSeen end bytes seen rest → ⊥
+nothing_starts end bytes seen rest none starts = no_frame_starts bytes seen.frame rest none starts.starts
 
-pub step_laws : (input : List ℕ) → StepLaws (StartsSeen input) (IsStop input)
-step_laws input = record {
-  once = step_once input;
-  nothing = nothing_starts input;
-  fault = λ bytes seen rest stop. no_cause input bytes seen rest stop;
-  fault_once = stop_once input;
+pub step_laws : (end : ℕ) → StepLaws (StartsSeen end) (IsStop end)
+step_laws end = record {
+  once = step_once end;
+  nothing = nothing_starts end;
+  fault = λ bytes seen rest stop. no_cause end bytes seen rest stop;
+  fault_once = stop_once end;
 }
 
-pub once : (input : List ℕ) (all more : List Seen) (s t : Option Stop) → Shows input all s
-    → Shows input more t → (all ≡ more) × (s ≡ t)
-once input = walks_once (step_laws input) input
+pub messages_once : (end : ℕ) (bytes : List ℕ) (all more : List Seen) (s t : Option Stop) → ShowsMessages end bytes all s
+    → ShowsMessages end bytes more t → (all ≡ more) × (s ≡ t)
+messages_once end = walks_once (step_laws end)

@@ -1,137 +1,69 @@
--- One step over a stream, where its bytes are known.
-use Rattle.std.proofs.Common.{◌≡◌, ◌≢◌, ◌<◌, ◌≤◌, ◌+◌, ◌-◌, ◌∙◌, refl, ℕ, List, [], ◌∷◌, ◌++◌, Option, Some, None, IfSome, drop, take, length, ap, sym, subst, inl, inr, arith, append_assoc, append-nil, length-append, length-drop, take-append-drop}
-use Rattle.std.proofs.KnownBytes.{Consumes-trans}
+-- The messages or packets so far, and how bytes end, where those of the reader are known.
+use Rattle.std.proofs.Common.{◌≡◌, ◌≢◌, ◌<◌, ◌≤◌, ◌+◌, ◌-◌, ◌∙◌, refl, ℕ, List, [], ◌∷◌, ◌++◌, Option, Some, None, IfSome, drop, take, length, ap, sym, subst, inl, inr, arith, length-append, length-drop, take-append-drop}
 use Rattle.std.proofs.lemmas.Bool.{cases_lt}
-use Rattle.std.proofs.lemmas.List.{drop_all, drop_at, length-take-le, take-append-le, take_all, take_at}
+use Rattle.std.proofs.lemmas.List.{drop_all, length-take-le, take_all, take_at}
 use Rattle.std.proofs.lemmas.List.Sums.{fold-append}
 use Rattle.std.specs.Io.KnownBytes.{Consumes, IsAtEnd}
-use Rattle.std.specs.Prelude.{true}
-use borrow.Rule.Slice.PartMut.{post_of, put_mid}
 use Rattle.netlink_packet_core.specs.Attribute.{padding}
-use Rattle.netlink_packet_core.specs.DecodeError.TheVariants.{FrameShort, FrameCut, FrameLength}
 use Rattle.netlink_packet_core.specs.FrameWalk.{IsWholeFrame, StartsFrame}
-use Rattle.netlink_packet_core.specs.Header.{HoldsFrame, field}
-use Rattle.netlink_packet_core.specs.Numbers.{number_le}
 use Rattle.netlink_packet_core.specs.Walks.{Passed, passed_ends, passed_faults, passed_push}
 use Rattle.netlink_replies.specs.Meaning.{meaning}
 use Rattle.netlink_lines.specs.Ack.{IsText, ack_attributes}
-use Rattle.netlink_lines.specs.Messages.{Check, Seen}
-use Rattle.netlink_lines.specs.Reading.{Skips, SkipsPart, Tries}
+use Rattle.netlink_lines.specs.Format.{Format, ShowsAll, tell, told_from, told_nothing}
+use Rattle.netlink_lines.specs.Messages.{Check, Memory, Seen}
+use Rattle.netlink_lines.specs.Packet.{HasContent, IsPacketFault, IsWholePacket, Packet, captured_of, content_of, packets_of}
+use Rattle.netlink_lines.specs.Reading.{Skips, SkipsPart}
 use Rattle.netlink_lines.specs.Run.{NoneLost, ShowsFirst}
-use Rattle.netlink_lines.specs.Stream.{IsCause, IsStop, Shows, StartsSeen, longest, tell, told_nothing, told_of}
+use Rattle.netlink_lines.specs.Stream.{IsCause, longest, messages_of}
+use Rattle.netlink_lines.specs.declared.pcap.Order.{Order}
+use Rattle.netlink_lines.specs.declared.pcap.PcapFault.{PcapFault}
 use Rattle.netlink_lines.specs.declared.stream.Cause.{Cause}
-use Rattle.netlink_lines.specs.declared.stream.Cause.TheVariants.{Damaged, TooLong}
+use Rattle.netlink_lines.specs.declared.stream.Cause.TheVariants.{Pcap}
+use Rattle.netlink_lines.proofs.Reading.{no_header}
 
--- ---- how a stream ends
+-- ---- the messages or packets so far
 
--- the length field is in the first 16 bytes
-pub field_in : (head more : List ℕ) → 4 ≤ length head → field 0 4 (head ++ more) ≡ field 0 4 head
-field_in head more long = ap number_le (take-append-le 4 head more long)
+-- those that were shown, and what is then left in the reader, from this offset on, of which the first
+-- `missing` bytes are padding; the first is at the offset `base`
+abbrev pub PassedKnown : {A : Type 0} → Format A → ℕ → Option (List ℕ) → List A → Option (List ℕ) → ℕ → ℕ → Type 0
+PassedKnown f base None done now missing at = Unit {0}
+PassedKnown f base (Some input) done None missing at = ⊥
+PassedKnown f base (Some input) done (Some left) missing at =
+    Passed (f.starts (base + length input)) input done (drop missing left) × (at + length left ≡ base + length input)
 
-some_bytes : (bytes : List ℕ) → 0 < length bytes → bytes ≢ []
-some_bytes bytes some none = omega (arith, ap length none)
+pub passed_nothing : {A : Type 0} (f : Format A) (base : ℕ) (old : Option (List ℕ)) → PassedKnown f base old [] old 0 base
+passed_nothing f base None = tt
+passed_nothing f base (Some input) = (refl, refl)
 
-pub at_end : (old new : Option (List ℕ)) (front : List ℕ) → Consumes old new front → length front ≡ 0
-    → IsAtEnd new → IsAtEnd old
-at_end None new front took none end = tt
-at_end (Some xs) None front took none end = absurd took
-at_end (Some xs) (Some ys) [] took none end = took ∙ end
-at_end (Some xs) (Some ys) (b ∷ front) took none end = absurd (omega arith)
+-- bytes at this offset are one of these, with this padding, whatever follows
+abbrev pub IsOne : {A : Type 0} → Format A → ℕ → List ℕ → ℕ → A → Type 0
+IsOne f at bytes missing one =
+    (end : ℕ) (whole after : List ℕ) → whole ≡ bytes ++ after → at ≡ end - length whole
+    → f.starts end whole one (drop missing after)
 
-pub cut_header : (old new : Option (List ℕ)) (front : List ℕ) (n : ℕ) → Consumes old new front
-    → length front ≡ n → 0 < n → n < 16 → IsAtEnd new
-    → IfSome old (λ rest. (rest ≢ []) × IsCause rest (Damaged (FrameShort n true)))
-cut_header None new front n took size some short end = tt
-cut_header (Some xs) None front n took size some short end = absurd took
-cut_header (Some xs) (Some ys) front n took size some short end =
-    let whole : xs ≡ front = took ∙ ap (λ (l : List ℕ). front ++ l) end ∙ append-nil front in
-    let long : length xs ≡ n = ap length whole ∙ size in
-    (some_bytes xs (omega (arith, long, some)), ((omega (arith, long, short), sym long, refl), λ header. absurd (omega (arith, header, long, short))))
-
-pub low_length : (old new : Option (List ℕ)) (head : List ℕ) (said : ℕ) → Consumes old new head
-    → length head ≡ 16 → said ≡ field 0 4 head → said < 16
-    → IfSome old (λ rest. (rest ≢ []) × IsCause rest (Damaged (FrameLength said true)))
-low_length None new head said took size is low = tt
-low_length (Some xs) None head said took size is low = absurd took
-low_length (Some xs) (Some ys) head said took size is low =
-    let same : field 0 4 xs ≡ said = ap (field 0 4) took ∙ field_in head ys (omega (arith, size)) ∙ sym is in
-    let long : length xs ≡ length head + length ys = ap length took ∙ length-append head ys in (
-      some_bytes xs (omega (arith, long, size)),
-      ((omega (arith, long, size), omega (arith, same, low), sym same, refl), λ header. omega (arith, same, low)),
+pub passes : {A : Type 0} (f : Format A) (base : ℕ) (old now left : Option (List ℕ)) (done : List A) (at : ℕ)
+    (bytes : List ℕ) (missing : ℕ) (one : A) → PassedKnown f base old done now 0 at → Consumes now left bytes
+    → IsOne f at bytes missing one → PassedKnown f base old (done ++ (one ∷ [])) left missing (at + length bytes)
+passes f base None now left done at bytes missing one passed took is = tt
+passes f base (Some input) None left done at bytes missing one passed took is = absurd passed
+passes f base (Some input) (Some rest) None done at bytes missing one passed took is = absurd took
+passes f base (Some input) (Some rest) (Some after) done at bytes missing one (passed, place) took is =
+    let here : at ≡ base + length input - length rest = omega (arith, place) in
+    let long : length rest ≡ length bytes + length after = ap length took ∙ length-append bytes after in (
+      passed_push (f.starts (base + length input)) input done rest one (drop missing after) passed
+          (is (base + length input) rest after took here),
+      omega (arith, place, long),
     )
 
-pub too_long : (old new : Option (List ℕ)) (head : List ℕ) (said : ℕ) → Consumes old new head
-    → length head ≡ 16 → said ≡ field 0 4 head → longest < said
-    → IfSome old (λ rest. (rest ≢ []) × IsCause rest (TooLong said))
-too_long None new head said took size is high = tt
-too_long (Some xs) None head said took size is high = absurd took
-too_long (Some xs) (Some ys) head said took size is high =
-    let same : field 0 4 xs ≡ said = ap (field 0 4) took ∙ field_in head ys (omega (arith, size)) ∙ sym is in
-    let long : length xs ≡ length head + length ys = ap length took ∙ length-append head ys in
-    (some_bytes xs (omega (arith, long, size)), (omega (arith, long, size), sym same, high))
+pub passes_padding : {A : Type 0} (f : Format A) (base : ℕ) (old now left : Option (List ℕ)) (done : List A) (missing at n : ℕ)
+    → PassedKnown f base old done now missing at → Skips now left missing n → PassedKnown f base old done left 0 (at + n)
+passes_padding f base None now left done missing at n passed skips = tt
+passes_padding f base (Some input) None left done missing at n passed skips = absurd passed
+passes_padding f base (Some input) (Some rest) None done missing at n passed skips = absurd skips
+passes_padding f base (Some input) (Some rest) (Some after) done missing at n (passed, place) (is, size) =
+    (subst (Passed (f.starts (base + length input)) input done) (sym is) passed, omega (arith, place, size))
 
-pub cut_body : (old middle new : Option (List ℕ)) (head body : List ℕ) (said n : ℕ) → Consumes old middle head
-    → Consumes middle new body → length head ≡ 16 → said ≡ field 0 4 head → n ≡ 16 + length body → n < said
-    → said ≤ longest → IsAtEnd new
-    → IfSome old (λ rest. (rest ≢ []) × IsCause rest (Damaged (FrameCut said n true)))
-cut_body None middle new head body said n took more size is whole short most end = tt
-cut_body (Some xs) None new head body said n took more size is whole short most end = absurd took
-cut_body (Some xs) (Some ys) None head body said n took more size is whole short most end = absurd more
-cut_body (Some xs) (Some ys) (Some zs) head body said n took more size is whole short most end =
-    let rest : ys ≡ body = more ∙ ap (λ (l : List ℕ). body ++ l) end ∙ append-nil body in
-    let same : field 0 4 xs ≡ said = ap (field 0 4) took ∙ field_in head ys (omega (arith, size)) ∙ sym is in
-    let long : length xs ≡ length head + length ys = ap length took ∙ length-append head ys in
-    let left : length ys ≡ length body = ap length rest in (
-      some_bytes xs (omega (arith, long, size)),
-      (
-        (
-          omega (arith, long, size),
-          omega (arith, long, left, whole, size, same, short),
-          sym same,
-          omega (arith, long, left, whole, size),
-          refl,
-        ),
-        λ header. omega (arith, same, most),
-      ),
-    )
-
--- a header and what was read of the body hold no whole frame
-pub no_header : (front : List ℕ) → length front < 16 → HoldsFrame front → ⊥
-no_header front short holds = omega (arith, short, holds.header)
-
-pub no_body : (head body : List ℕ) (said : ℕ) → length head ≡ 16 → said ≡ field 0 4 head
-    → 16 + length body < said → HoldsFrame (head ++ body) → ⊥
-no_body head body said size is short holds =
-    let same = field_in head body (omega (arith, size)) in
-    let long = length-append head body in
-    omega (arith, size, is, short, holds.most, same, long)
-
-pub whole_frame : (head body : List ℕ) (said : ℕ) → length head ≡ 16 → said ≡ field 0 4 head
-    → 16 + length body ≡ said → IsWholeFrame (head ++ body)
-whole_frame head body said size is whole =
-    let same = field_in head body (omega (arith, size)) in
-    let long = length-append head body in
-    record { size = omega (arith, size, is, whole, same, long); least = omega (arith, size, long) }
-
--- ---- the messages so far
-
--- the messages that were shown, and what is then left in the reader, from this offset on
-abbrev pub PassedKnown : Option (List ℕ) → List Seen → Option (List ℕ) → ℕ → Type 0
-PassedKnown None done now at = Unit {0}
-PassedKnown (Some input) done None at = ⊥
-PassedKnown (Some input) done (Some rest) at =
-    Passed (StartsSeen input) input done rest × (at + length rest ≡ length input)
-
--- the same after a frame whose padding was not yet read
-abbrev pub PassedFrame : Option (List ℕ) → List Seen → Option (List ℕ) → ℕ → ℕ → Type 0
-PassedFrame None done now missing at = Unit {0}
-PassedFrame (Some input) done None missing at = ⊥
-PassedFrame (Some input) done (Some left) missing at =
-    Passed (StartsSeen input) input done (drop missing left) × (at + length left ≡ length input)
-
-pub passed_nothing : (old : Option (List ℕ)) → PassedKnown old [] old 0
-passed_nothing None = tt
-passed_nothing (Some input) = (refl, omega arith)
+-- ---- a frame, and a packet
 
 -- a frame and then other bytes start with the frame
 starts_whole : (bytes frame left : List ℕ) → bytes ≡ frame ++ left → IsWholeFrame frame
@@ -152,97 +84,90 @@ starts_whole bytes frame left is whole =
       ];
     }
 
-pub passes_frame : (old now left : Option (List ℕ)) (done : List Seen) (at : ℕ) (frame : List ℕ)
-    (text : Option (List ℕ)) → PassedKnown old done now at → Consumes now left frame → IsWholeFrame frame
+pub is_message : (check : Check) (at : ℕ) (frame : List ℕ) (text : Option (List ℕ)) → IsWholeFrame frame
     → length frame ≤ longest → IsText (ack_attributes (meaning frame)) text
-    → PassedFrame old (done ++ (record { at = at; frame = frame; text = text } ∷ [])) left (padding (length frame)) (at + length frame)
-passes_frame None now left done at frame text passed took whole most is = tt
-passes_frame (Some input) None left done at frame text passed took whole most is = absurd passed
-passes_frame (Some input) (Some rest) None done at frame text passed took whole most is = absurd took
-passes_frame (Some input) (Some rest) (Some after) done at frame text (passed, place) took whole most is =
-    let here : at ≡ length input - length rest = omega (arith, place) in
-    let long : length rest ≡ length frame + length after = ap length took ∙ length-append frame after in
-    let seen : Seen = record { at = at; frame = frame; text = text } in (
-      passed_push (StartsSeen input) input done rest seen (drop (padding (length frame)) after) passed (record {
-        starts = starts_whole rest frame after took whole;
-        most = most;
-        place = here;
-        text = is;
-      }),
-      omega (arith, place, long),
-    )
+    → IsOne (messages_of check) at frame (padding (length frame)) (record { at = at; frame = frame; text = text })
+is_message check at frame text whole most is end bytes after same place =
+    record { starts = starts_whole bytes frame after same whole; most = most; place = place; text = is }
 
-pub passes_padding : (old now left : Option (List ℕ)) (done : List Seen) (missing at n : ℕ)
-    → PassedFrame old done now missing at → Skips now left missing n → PassedKnown old done left (at + n)
-passes_padding None now left done missing at n passed skips = tt
-passes_padding (Some input) None left done missing at n passed skips = absurd passed
-passes_padding (Some input) (Some rest) None done missing at n passed skips = absurd skips
-passes_padding (Some input) (Some rest) (Some after) done missing at n (passed, place) (is, size) =
-    (subst (Passed (StartsSeen input) input done) (sym is) passed, omega (arith, place, size))
-
--- the padding that was read
-pub skips_filled : (old new : Option (List ℕ)) (gap : List ℕ) (most n : ℕ) → Consumes old new gap
-    → length gap ≡ n → n ≤ most → (n < most → IsAtEnd new) → Skips old new most n
-skips_filled None new gap most n took size few end = tt
-skips_filled (Some xs) None gap most n took size few end = took
-skips_filled (Some xs) (Some ys) gap most n took size few end =
-    let long : length xs ≡ length gap + length ys = ap length took ∙ length-append gap ys in
-    elim (cases_lt n most) [
-      | inl short ↦ (let none : ys ≡ [] = end short in
-          let zero : length ys ≡ 0 = ap length none in
-          (none ∙ sym (drop_all most xs (omega (arith, long, size, zero, short))), omega (arith, long, size)))
-      | inr full ↦ (sym (ap (drop most) took ∙ drop_at gap ys most (omega (arith, size, few, full))), omega (arith, long, size))
-    ]
+-- a packet has no padding
+pub is_packet : (check : Check) (order : Order) (at : ℕ) (packet : List ℕ) (shown : Packet) → IsWholePacket order packet
+    → captured_of order packet ≤ longest → HasContent at packet (content_of order packet) shown
+    → IsOne (packets_of check order) at packet 0 shown
+is_packet check order at packet shown whole most has end bytes after same place = record {
+  packet = packet;
+  size = whole;
+  whole = same;
+  most = most;
+  content = subst (λ (n : ℕ). HasContent n packet (content_of order packet) shown) place has;
+}
 
 -- ---- what a run showed when it ends
 
-pub ends_here : (old now : Option (List ℕ)) (done : List Seen) (at : ℕ)
-    → PassedKnown old done now at → IsAtEnd now → IfSome old (λ input. Shows input done None)
-ends_here None now done at passed end = tt
-ends_here (Some input) None done at passed end = absurd passed
-ends_here (Some input) (Some rest) done at (passed, place) end =
-    passed_ends (StartsSeen input) (IsStop input) input done rest passed end
+pub ends_here : {A : Type 0} (f : Format A) (base : ℕ) (old now : Option (List ℕ)) (done : List A) (at : ℕ)
+    → PassedKnown f base old done now 0 at → IsAtEnd now
+    → IfSome old (λ input. ShowsAll f (base + length input) input done None)
+ends_here f base None now done at passed end = tt
+ends_here f base (Some input) None done at passed end = absurd passed
+ends_here f base (Some input) (Some rest) done at (passed, place) end =
+    passed_ends (f.starts (base + length input)) (f.stops (base + length input)) input done rest passed end
 
-pub stops_here : (old now : Option (List ℕ)) (done : List Seen) (at : ℕ) (cause : Cause)
-    → PassedKnown old done now at → IfSome now (λ rest. (rest ≢ []) × IsCause rest cause)
-    → IfSome old (λ input. Shows input done (Some (record { at = at; cause = cause })))
-stops_here None now done at cause passed is = tt
-stops_here (Some input) None done at cause passed is = absurd passed
-stops_here (Some input) (Some rest) done at cause (passed, place) is =
-    passed_faults (StartsSeen input) (IsStop input) input done rest (record { at = at; cause = cause }) passed
-    is.0 (record { place = place; cause = is.1 })
+-- what is left starts at this offset with nothing that can be read, for this cause
+abbrev pub StopsAt : {A : Type 0} → Format A → ℕ → Cause → List ℕ → Type 0
+StopsAt f at cause rest =
+    (rest ≢ []) × ((end : ℕ) → at + length rest ≡ end → f.stops end rest (record { at = at; cause = cause }))
 
-pub first_shown : (old now : Option (List ℕ)) (done : List Seen) (at : ℕ)
-    → PassedKnown old done now at → IfSome old (λ input. ShowsFirst input done)
-first_shown None now done at passed = tt
-first_shown (Some input) None done at passed = absurd passed
-first_shown (Some input) (Some rest) done at (passed, place) = (rest, passed)
+pub frame_stop : (check : Check) (at : ℕ) (cause : Cause) (now : Option (List ℕ))
+    → IfSome now (λ rest. (rest ≢ []) × IsCause rest cause) → IfSome now (StopsAt (messages_of check) at cause)
+frame_stop check at cause None is = tt
+frame_stop check at cause (Some rest) (some, is) = (some, λ end place. record { place = place; cause = is })
 
-pub frame_shown : (old now : Option (List ℕ)) (done : List Seen) (missing at : ℕ)
-    → PassedFrame old done now missing at → IfSome old (λ input. ShowsFirst input done)
-frame_shown None now done missing at passed = tt
-frame_shown (Some input) None done missing at passed = absurd passed
-frame_shown (Some input) (Some left) done missing at (passed, place) = (drop missing left, passed)
+pub packet_stop : (check : Check) (order : Order) (at : ℕ) (why : PcapFault) (now : Option (List ℕ))
+    → IfSome now (λ rest. (rest ≢ []) × IsPacketFault order rest why)
+    → IfSome now (StopsAt (packets_of check order) at (Pcap why))
+packet_stop check order at why None is = tt
+packet_stop check order at why (Some rest) (some, is) = (some, λ end place. record { place = place; cause = is })
 
-pub none_lost : (old now new : Option (List ℕ)) (done : List Seen) (at : ℕ)
-    → PassedKnown old done now at → Tries now new → IfSome old (λ input. NoneLost input done new)
-none_lost None now new done at passed tries = tt
-none_lost (Some input) None new done at passed tries = absurd passed
-none_lost (Some input) (Some rest) None done at passed (front, took, torn) = absurd took
-none_lost (Some input) (Some rest) (Some left) done at (passed, place) (front, took, torn) =
+pub stops_here : {A : Type 0} (f : Format A) (base : ℕ) (old now : Option (List ℕ)) (done : List A) (at : ℕ) (cause : Cause)
+    → PassedKnown f base old done now 0 at → IfSome now (StopsAt f at cause)
+    → IfSome old (λ input. ShowsAll f (base + length input) input done (Some (record { at = at; cause = cause })))
+stops_here f base None now done at cause passed is = tt
+stops_here f base (Some input) None done at cause passed is = absurd passed
+stops_here f base (Some input) (Some rest) done at cause (passed, place) is =
+    passed_faults (f.starts (base + length input)) (f.stops (base + length input)) input done rest
+    (record { at = at; cause = cause }) passed is.0 (is.1 (base + length input) place)
+
+pub first_shown : {A : Type 0} (f : Format A) (base : ℕ) (old now : Option (List ℕ)) (done : List A) (missing at : ℕ)
+    → PassedKnown f base old done now missing at → IfSome old (λ input. ShowsFirst f (base + length input) input done)
+first_shown f base None now done missing at passed = tt
+first_shown f base (Some input) None done missing at passed = absurd passed
+first_shown f base (Some input) (Some left) done missing at (passed, place) = (drop missing left, passed)
+
+-- the reader gave bytes that hold none: `Tries` and `TriesPacket`
+abbrev pub TriesOne : {A : Type 0} → Format A → Option (List ℕ) → Option (List ℕ) → Type 0
+TriesOne f old new = (front : List ℕ) × Consumes old new front × (f.holds front → ⊥)
+
+pub none_lost : {A : Type 0} (f : Format A) (base : ℕ) (old now new : Option (List ℕ)) (done : List A) (at : ℕ)
+    → PassedKnown f base old done now 0 at → TriesOne f now new
+    → IfSome old (λ input. NoneLost f (base + length input) input done new)
+none_lost f base None now new done at passed tries = tt
+none_lost f base (Some input) None new done at passed tries = absurd passed
+none_lost f base (Some input) (Some rest) None done at passed (front, took, torn) = absurd took
+none_lost f base (Some input) (Some rest) (Some left) done at (passed, place) (front, took, torn) =
     let long : length rest ≡ length front + length left = ap length took ∙ length-append front left in
     let read : take (length rest - length left) rest ≡ front =
     ap (λ (l : List ℕ). take (length rest - length left) l) took
     ∙ take_at front left (length rest - length left) (omega (arith, long)) in
-    (rest, passed, λ holds. torn (subst HoldsFrame read holds))
+    (rest, passed, λ holds. torn (subst f.holds read holds))
 
-pub none_lost_between : (old now new : Option (List ℕ)) (done : List Seen) (missing at : ℕ)
-    → PassedFrame old done now missing at → SkipsPart now new missing
-    → IfSome old (λ input. NoneLost input done new)
-none_lost_between None now new done missing at passed part = tt
-none_lost_between (Some input) None new done missing at passed part = absurd passed
-none_lost_between (Some input) (Some rest) None done missing at passed (front, took, few) = absurd took
-none_lost_between (Some input) (Some rest) (Some left) done missing at (passed, place) (front, took, few) =
+-- the reader failed in the padding after a frame
+pub none_lost_between : (check : Check) (base : ℕ) (old now new : Option (List ℕ)) (done : List Seen) (missing at : ℕ)
+    → PassedKnown (messages_of check) base old done now missing at → SkipsPart now new missing
+    → IfSome old (λ input. NoneLost (messages_of check) (base + length input) input done new)
+none_lost_between check base None now new done missing at passed part = tt
+none_lost_between check base (Some input) None new done missing at passed part = absurd passed
+none_lost_between check base (Some input) (Some rest) None done missing at passed (front, took, few) = absurd took
+none_lost_between check base (Some input) (Some rest) (Some left) done missing at (passed, place) (front, took, few) =
     let long : length rest ≡ length front + length left = ap length took ∙ length-append front left in
     let later : length (drop missing rest) ≡ length rest - missing = length-drop missing rest in
     let none : length (drop missing rest) - length left ≡ 0 = omega (arith, long, later, few) in (
@@ -255,47 +180,6 @@ none_lost_between (Some input) (Some rest) (Some left) done missing at (passed, 
 
 -- ---- what a run wrote
 
-pub told_push : (check : Check) (done : List Seen) (seen : Seen)
-    → told_of check (done ++ (seen ∷ [])) ≡ tell check (told_of check done) seen
-told_push check done seen = fold-append (tell check) told_nothing done (seen ∷ [])
-
--- ---- a header, and then the rest of its frame in place
-
--- the bytes of a vector of n, of which the part after the header was filled
-pub frame_items : (n k : ℕ) (xs body rest : List ℕ) → length xs ≡ n → 16 + length body ≡ n
-    → take n (put_mid 16 k xs body ++ rest) ≡ take 16 xs ++ body
-frame_items n k xs body rest long whole =
-    let head : List ℕ = take 16 xs in
-    let after : List ℕ = post_of 16 k xs in
-    let fits : length head ≡ 16 = length-take-le 16 xs (omega (arith, long, whole)) in
-    let same : put_mid 16 k xs body ++ rest ≡ (head ++ body) ++ (after ++ rest) =
-    append_assoc head (body ++ after) rest ∙ ap (λ (l : List ℕ). head ++ l) (append_assoc body after rest)
-    ∙ sym (append_assoc head body (after ++ rest)) in
-    ap (take n) same ∙ take_at (head ++ body) (after ++ rest) n (omega (arith, length-append head body, fits, whole))
-
--- the whole frame was read
-pub gives_frame : (old middle new : Option (List ℕ)) (head body frame : List ℕ) (said : ℕ) → Consumes old middle head
-    → Consumes middle new body → length head ≡ 16 → said ≡ field 0 4 head → 16 + length body ≡ said → said ≤ longest
-    → frame ≡ head ++ body → Consumes old new frame × IsWholeFrame frame × (length frame ≤ longest)
-gives_frame old middle new head body frame said took more size is whole most same =
-    let long : length frame ≡ length head + length body = ap length same ∙ length-append head body in (
-      subst (Consumes old new) (sym same) (Consumes-trans old middle new head body took more),
-      subst IsWholeFrame (sym same) (whole_frame head body said size is whole),
-      omega (arith, long, size, whole, most),
-    )
-
--- the reader failed before the end of the frame
-pub tries_body : (old middle new : Option (List ℕ)) (head front : List ℕ) (said : ℕ) → Consumes old middle head
-    → Consumes middle new front → length head ≡ 16 → said ≡ field 0 4 head → 16 + length front < said
-    → Tries old new
-tries_body old middle new head front said took more size is short =
-    (head ++ front, Consumes-trans old middle new head front took more, no_body head front said size is short)
-
--- a vector that was made longer keeps its header
-pub kept_head : (head rest xs zeros : List ℕ) (m n : ℕ) → length head ≡ 16 → m ≡ 16 → 16 ≤ n
-    → xs ≡ take n (take m (head ++ rest)) ++ zeros → take 16 xs ≡ head
-kept_head head rest xs zeros m n size is more same =
-    let one : take m (head ++ rest) ≡ head = take_at head rest m (omega (arith, size, is)) in
-    let two : take n head ≡ head = take_all n head (omega (arith, size, more)) in
-    ap (take 16) (same ∙ ap (λ (l : List ℕ). take n l ++ zeros) one ∙ ap (λ (l : List ℕ). l ++ zeros) two)
-    ∙ take_at head zeros 16 (omega (arith, size))
+pub told_push : {A : Type 0} (f : Format A) (memory : Memory) (done : List A) (one : A)
+    → told_from f memory (done ++ (one ∷ [])) ≡ tell f (told_from f memory done) one
+told_push f memory done one = fold-append (tell f) (told_nothing memory) done (one ∷ [])

@@ -3,6 +3,7 @@ pub mod Address
 pub mod AddressFlags
 pub mod Device
 pub mod Flags
+pub mod Format
 pub mod Hardware
 pub mod Known
 pub mod Lines
@@ -15,7 +16,9 @@ pub mod Names
 pub mod Namespace
 pub mod Neighbour
 pub mod NeighbourTable
+pub mod Packet
 pub mod Parts
+pub mod Pcap
 pub mod Reading
 pub mod Route
 pub mod RouteCache

@@ -1,50 +1,89 @@
 -- What a run did.
-use Rattle.std.specs.Prelude.{◌≡◌, ℕ, Bool, true, false, ⊤, ◌-◌, List, ◌++◌, length, take, Option, None, Some, Result, Ok, Err, codes}
+use Rattle.std.specs.Prelude.{◌≡◌, ℕ, Bool, true, false, ⊤, ◌-◌, List, [], ◌++◌, drop, length, take, Option, None, Some, Result, Ok, Err, codes}
 use Rattle.std.specs.Io.KnownBytes.{Appends}
-use Rattle.netlink_packet_core.specs.Header.{HoldsFrame}
 use Rattle.netlink_packet_core.specs.Walks.{Passed}
 use Rattle.netlink_program.specs.declared.reading.ReadFault.{ReadFault}
 use Rattle.netlink_program.specs.declared.reading.ReadFault.TheVariants as read
-use Rattle.netlink_lines.specs.Messages.{Check, Seen}
-use Rattle.netlink_lines.specs.Stream.{Shows, StartsSeen, stop_text, told_of}
+use Rattle.netlink_lines.specs.Format.{Format, ShowsAll, told_from}
+use Rattle.netlink_lines.specs.Messages.{Check, Memory, no_memory}
+use Rattle.netlink_lines.specs.Packet.{packets_of}
+use Rattle.netlink_lines.specs.Pcap.{layout_of}
+use Rattle.netlink_lines.specs.Stream.{messages_of, stop_text}
+use Rattle.netlink_lines.specs.declared.pcap.Layout.{Layout}
+use Rattle.netlink_lines.specs.declared.pcap.Layout.TheVariants.{Messages, Packets, Unread}
 use Rattle.netlink_lines.specs.declared.runs.Fault.{Fault}
 use Rattle.netlink_lines.specs.declared.runs.Fault.TheVariants as fault
+use Rattle.netlink_lines.specs.declared.stream.Stop.{Stop}
 
--- the input starts with these messages
-abbrev pub ShowsFirst : List ℕ → List Seen → Type 0
-ShowsFirst input all = (rest : List ℕ) × Passed (StartsSeen input) input all rest
+-- the bytes, which end at this offset of the input, start with these messages or packets
+abbrev pub ShowsFirst : {A : Type 0} → Format A → ℕ → List ℕ → List A → Type 0
+ShowsFirst f end bytes all = (rest : List ℕ) × Passed (f.starts end) bytes all rest
 
--- of what follows the messages, the reader did not give a whole message before it failed
-abbrev pub NoneLost : List ℕ → List Seen → Option (List ℕ) → Type 0
-NoneLost input all None = ⊥
-NoneLost input all (Some left) =
-    (rest : List ℕ) × Passed (StartsSeen input) input all rest
-    × (HoldsFrame (take (length rest - length left) rest) → ⊥)
+-- of what follows them, the reader did not give a whole one before it failed
+abbrev pub NoneLost : {A : Type 0} → Format A → ℕ → List ℕ → List A → Option (List ℕ) → Type 0
+NoneLost f end bytes all None = ⊥
+NoneLost f end bytes all (Some left) =
+    (rest : List ℕ) × Passed (f.starts end) bytes all rest
+    × (f.holds (take (length rest - length left) rest) → ⊥)
 
--- the messages that a run over the input showed, by how it ended, and what is left in the reader
-abbrev pub Reads : {A : Type 0} → Check → List ℕ → Option (List ℕ) → List Seen → Result A Fault
-    → Type 0
-Reads check input left all (Ok done) =
-    Shows input all None × ((told_of check all).malformed ≡ false)
-Reads check input left all (Err fault.Malformed) =
-    Shows input all None × ((told_of check all).malformed ≡ true)
-Reads check input left all (Err (fault.Stopped stop)) = Shows input all (Some stop)
-Reads check input left all (Err fault.Read) = NoneLost input all left
-Reads check input left all (Err other) = ShowsFirst input all
+-- the messages or packets that a run over the bytes showed, by how it ended; what is left in the reader;
+-- and whether one was malformed
+abbrev pub Reads : {A R : Type 0} → Format A → ℕ → List ℕ → Option (List ℕ) → List A → Bool
+    → Result R Fault → Type 0
+Reads f end bytes left all malformed (Ok done) =
+    ShowsAll f end bytes all None × (malformed ≡ false)
+Reads f end bytes left all malformed (Err fault.Malformed) =
+    ShowsAll f end bytes all None × (malformed ≡ true)
+Reads f end bytes left all malformed (Err (fault.Stopped stop)) = ShowsAll f end bytes all (Some stop)
+Reads f end bytes left all malformed (Err fault.Read) = NoneLost f end bytes all left
+Reads f end bytes left all malformed (Err other) = ShowsFirst f end bytes all
 
 -- the writer was given the lines, or a part of them if it failed
-abbrev pub Writes : {A : Type 0} → Option (List ℕ) → Option (List ℕ) → List ℕ → Result A Fault
+abbrev pub Writes : {R : Type 0} → Option (List ℕ) → Option (List ℕ) → List ℕ → Result R Fault
     → Type 0
 Writes old new lines (Err fault.Write) =
     (part more : List ℕ) × (lines ≡ part ++ more) × Appends old new part
 Writes old new lines other = Appends old new lines
 
+-- the memory that is left, unless an allocation failed
+abbrev pub Leaves : {R : Type 0} → Memory → Memory → Result R Fault → Type 0
+Leaves memory after (Err fault.OutOfMemory) = ⊤
+Leaves memory after other = after ≡ memory
+
+-- what a run did over bytes that end at this offset of the input, after messages that left this memory
+abbrev pub RunsOver : {A R : Type 0} → Format A → Memory → ℕ → List ℕ → Option (List ℕ)
+    → Option (List ℕ) → Option (List ℕ) → Memory → Result R Fault → Type 0
+RunsOver {A} f memory end bytes left old new after result =
+    (all : List A) × Reads f end bytes left all (told_from f memory all).malformed result
+    × Writes old new (told_from f memory all).text result
+    × Leaves (told_from f memory all).memory after result
+
+-- the same over a whole input, or all of it from some bytes on
+abbrev pub RunsAll : {A R : Type 0} → Format A → ℕ → List ℕ → Option (List ℕ) → Option (List ℕ)
+    → Option (List ℕ) → Result R Fault → Type 0
+RunsAll f end bytes left old new result =
+    (after : Memory) × RunsOver f no_memory end bytes left old new after result
+
+-- how a run ends whose input is not read for this cause, unless it fails before it knows
+abbrev pub Rejects : {R : Type 0} → Stop → Result R Fault → Type 0
+Rejects why (Err (fault.Stopped stop)) = stop ≡ why
+Rejects why (Err fault.Read) = ⊤
+Rejects why (Err fault.OutOfMemory) = ⊤
+Rejects why other = ⊥
+
+-- what a run over the input did, by what the input is
+abbrev pub RunsIn : {R : Type 0} → Check → Layout → List ℕ → Option (List ℕ) → Option (List ℕ)
+    → Option (List ℕ) → Result R Fault → Type 0
+RunsIn check Messages input left old new result =
+    RunsAll (messages_of check) (length input) input left old new result
+RunsIn check (Packets order) input left old new result =
+    RunsAll (packets_of check order) (length input) (drop 24 input) left old new result
+RunsIn check (Unread why) input left old new result = Rejects why result × Appends old new []
+
 -- what a run over the input did
-abbrev pub RunsAs : {A : Type 0} → Check → List ℕ → Option (List ℕ) → Option (List ℕ)
-    → Option (List ℕ) → Result A Fault → Type 0
-RunsAs check input left old new result =
-    (all : List Seen) × Reads check input left all result
-    × Writes old new (told_of check all).text result
+abbrev pub RunsAs : {R : Type 0} → Check → List ℕ → Option (List ℕ) → Option (List ℕ)
+    → Option (List ℕ) → Result R Fault → Type 0
+RunsAs check input = RunsIn check (layout_of input) input
 
 -- how a run ends at the end of its input, by whether a message was malformed
 abbrev pub end_of : Bool → Result ⊤ Fault

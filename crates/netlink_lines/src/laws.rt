@@ -2,11 +2,16 @@
 
 ghost use Rattle.std.specs.Prelude.{◌≡◌, ℕ, List, Option};
 ghost use Rattle.netlink_lines.specs.Messages.{Seen};
-ghost use Rattle.netlink_lines.specs.Stream.{Shows};
+ghost use Rattle.netlink_lines.specs.Packet.{Packet, ShowsPackets};
+ghost use Rattle.netlink_lines.specs.Stream.{ShowsMessages};
+ghost use Rattle.netlink_lines.specs.declared.pcap.Order.{Order};
 ghost use Rattle.netlink_lines.specs.declared.stream.Stop.{Stop};
 
-/// An input is one list of messages, and ends in one way. So it has one output, which `told_of` gives.
+/// Bytes are one list of messages, and of packets, and end in one way. So an input has one output,
+/// which `told_from` gives.
 pub fn shows_once()
-    ensures once { (input : List ℕ) (all more : List Seen) (s t : Option Stop)
-        → Shows input all s → Shows input more t → (all ≡ more) × (s ≡ t) }
+    ensures messages { (end : ℕ) (bytes : List ℕ) (all more : List Seen) (s t : Option Stop)
+        → ShowsMessages end bytes all s → ShowsMessages end bytes more t → (all ≡ more) × (s ≡ t) }
+    ensures packets { (order : Order) (end : ℕ) (bytes : List ℕ) (all more : List Packet) (s t : Option Stop)
+        → ShowsPackets order end bytes all s → ShowsPackets order end bytes more t → (all ≡ more) × (s ≡ t) }
 {}

@@ -1,11 +1,12 @@
 //! The lines of messages of route netlink (linux/rtnetlink.h), as `ip -o` prints them. `run` writes
-//! those of a stream as each message arrives. `Line::line` returns that of one message, and
+//! those of a stream, or of a pcap file, as each message arrives. `Line::line` returns that of one message, and
 //! functions such as `link_text` those of one family.
 #![tactic(auto)]
 
 mod ack;
 mod address;
 mod address_flags;
+mod capture;
 mod device;
 mod flags;
 mod hardware;
@@ -22,7 +23,9 @@ mod names;
 mod namespace;
 mod neighbour;
 mod neighbour_table;
+mod packet;
 mod parts;
+mod pcap;
 mod route;
 mod route_cache;
 mod route_hops;
@@ -32,6 +35,7 @@ mod rule;
 mod rule_ends;
 mod rule_matches;
 mod runs;
+mod start;
 mod state;
 mod stream;
 mod text;
@@ -49,6 +53,7 @@ pub use crate::names::{family_text, scope_text, state_text};
 pub use crate::namespace::namespace_text;
 pub use crate::neighbour::neighbour_text;
 pub use crate::neighbour_table::neighbour_table_text;
+pub use crate::pcap::PcapFault;
 pub use crate::route::route_text;
 pub use crate::rule::rule_text;
 pub use crate::runs::{Fault, run};

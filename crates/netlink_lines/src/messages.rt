@@ -233,7 +233,7 @@ fn type_line(alloc: Global, message_type: u16, size: usize) -> Result<String, Al
 }
 
 /// Returns the line of a malformed message at this offset, with its error.
-fn malformed(alloc: Global, at: u64, why: &str) -> Result<Shown, AllocError>
+pub(crate) fn malformed(alloc: Global, at: u64, why: &str) -> Result<Shown, AllocError>
     ensures { IfOk result (λ s. (string_bytes s.text, s.is_malformed) ≡ bad at why.now) }
 {
     let text = format!(in alloc; "byte {at}: {why}\n")?;
@@ -244,7 +244,7 @@ fn malformed(alloc: Global, at: u64, why: &str) -> Result<Shown, AllocError>
 }
 
 /// Returns the line of a message that is not malformed.
-fn well_formed(text: String) -> Shown
+pub(crate) fn well_formed(text: String) -> Shown
     ensures { (string_bytes result.text, result.is_malformed) ≡ good (string_bytes text) }
 {
     Shown {

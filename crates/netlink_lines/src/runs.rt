@@ -1,11 +1,17 @@
 //! A run of the program over a reader and a writer.
 
-ghost use Rattle.std.specs.Prelude.{◌≡◌, Some, IfSome};
+ghost use Rattle.std.specs.Prelude.{◌≡◌, ◌<◌, ◌+◌, Some, IfSome, length};
+ghost use Rattle.std.specs.Io.KnownBytes.{prepend_known};
 ghost use Rattle.netlink_family.specs.Errors.{family_error};
-ghost use Rattle.netlink_lines.specs.Run.{RunsAs, end_of, fault_text, read_fault};
+ghost use Rattle.netlink_lines.specs.Messages.{memory_of};
+ghost use Rattle.netlink_lines.specs.Run.{RunsAs, RunsOver, end_of, fault_text, read_fault};
+ghost use Rattle.netlink_lines.specs.Stream.{messages_of};
 
+use crate::capture::packets;
 use crate::line::Line;
 use crate::messages::next_lines;
+use crate::pcap::{FILE_HEADER_LEN, Layout, layout_of};
+use crate::start::read_start;
 use crate::state::State;
 use crate::stream::{Next, Stop, read_frame, skip_padding};
 use netlink_program::{ReadFault, WriteFault, write_through};
@@ -22,9 +28,9 @@ pub enum Fault {
     Write,
     /// An allocation failed.
     OutOfMemory,
-    /// The whole input was shown, and a message in it is malformed.
+    /// The whole input was shown, and a message or packet in it is malformed.
     Malformed,
-    /// A message of the input cannot be read.
+    /// A message or packet of the input cannot be read, or the input as a whole.
     Stopped(Stop),
 }
 
@@ -73,14 +79,17 @@ impl From<AllocError> for Fault {
     }
 }
 
-/// Reads one message after another, and writes the lines of each, and flushes the writer, before it
-/// reads another byte. Keeps one frame in memory, and the names of at most 65,536 links.
+/// Reads one message after another, or one packet after another if the input starts as a pcap file,
+/// and writes the lines of each, and flushes the writer, before it reads another byte. Keeps one frame
+/// in memory, or one packet with its lines, and the names of at most 65,536 links.
 ///
-/// Reads to the end of the input, or up to a message that cannot be read, and then returns
-/// `Stopped`. Returns `Malformed` at the end if a message was malformed. Returns `Read` if the
-/// reader fails, or does not reach its end within 2^64 - 1 messages, calls for one of them, or
-/// bytes; `Write` if the writer or its flush fails; and `OutOfMemory` if an allocation fails. The
-/// lines of all messages before the error are written.
+/// Reads to the end of the input, or up to a message or packet that cannot be read, and then returns
+/// `Stopped`; so it does at the start if the input is a pcap file that is not read. Returns
+/// `Malformed` at the end if a message or packet was malformed. Returns `Read` if the reader fails, or
+/// does not reach its end within 2^64 - 1 messages or packets, calls for one of them, or bytes (in a
+/// pcap file, within 2^64 - 2^21 bytes and one packet); `Write` if the writer or its flush fails; and
+/// `OutOfMemory` if an allocation fails. The lines of all messages or packets before the error are
+/// written.
 pub fn run<F: Line, R: Read, W: Write>(
     alloc: Global,
     reader: &mut R,
@@ -90,9 +99,37 @@ pub fn run<F: Line, R: Read, W: Write>(
         RunsAs (family_error F.types F.short F.header_len F.rows) input (R.remaining reader.new)
         (W.contents writer.old) (W.contents writer.new) result) }
 {
-    let mut frame = Vec::new(alloc);
+    let mut first = Vec::with_capacity(alloc, FILE_HEADER_LEN)?;
+    read_start(reader, &mut first)?;
     let mut state = State::new(alloc);
-    let mut at: u64 = 0;
+    match layout_of(&first) {
+        Layout::Messages => messages::<F, R, W>(alloc, &mut state, 0, first, reader, writer),
+        Layout::Packets(order) => packets::<F, R, W>(alloc, &mut state, order, reader, writer),
+        Layout::Unread(stop) => Err(Fault::Stopped(stop)),
+    }
+}
+
+/// Writes the lines of messages, of which the first is at offset `base` of the input, after the
+/// messages that left this state, and updates the state. The vector has the bytes of the first message
+/// that were read before, fewer than 16.
+///
+/// Ends as `run` does, at the end of the reader.
+pub(crate) fn messages<F: Line, R: Read, W: Write>(
+    alloc: Global,
+    state: &mut State,
+    base: u64,
+    first: Vec<u8>,
+    reader: &mut R,
+    writer: &mut W,
+) -> Result<(), Fault>
+    requires few { length first.items < 16 }
+    ensures runs { IfSome (prepend_known first.items (R.remaining reader.old)) (λ bytes.
+        RunsOver (messages_of (family_error F.types F.short F.header_len F.rows)) (memory_of state.old)
+        (base + length bytes) bytes (R.remaining reader.new) (W.contents writer.old) (W.contents writer.new)
+        (memory_of state.new) result) }
+{
+    let mut frame = first;
+    let mut at = base;
     let mut is_malformed = false;
     for _ in 0..u64::MAX {
         match read_frame(reader, &mut frame)? {
@@ -100,7 +137,7 @@ pub fn run<F: Line, R: Read, W: Write>(
             Next::End => return end_of(is_malformed),
             Next::Stop(cause) => return Err(Fault::Stopped(Stop { at, cause })),
         }
-        let message = next_lines::<F>(alloc, &mut state, at, &frame)?;
+        let message = next_lines::<F>(alloc, state, at, &frame)?;
         write_through(writer, message.text.as_bytes())?;
         is_malformed = is_malformed || message.is_malformed;
         let padding = skip_padding(reader, frame.len())?;
@@ -108,12 +145,13 @@ pub fn run<F: Line, R: Read, W: Write>(
             Some(next) => at = next,
             None => return Err(Fault::Read),
         }
+        frame.clear();
     }
     Err(Fault::Read)
 }
 
 /// Returns how a run ends at the end of its input.
-fn end_of(is_malformed: bool) -> Result<(), Fault>
+pub(crate) fn end_of(is_malformed: bool) -> Result<(), Fault>
     ensures is { result ≡ end_of is_malformed }
 {
     if is_malformed {

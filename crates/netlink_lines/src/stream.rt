@@ -1,18 +1,20 @@
 //! The messages of a stream, one frame at a time.
 
-ghost use Rattle.std.specs.Prelude.{◌≡◌, ◌≤◌, ◌<◌, ◌⊎◌, Some, IfErr, IfOk};
+ghost use Rattle.std.specs.Prelude.{◌≡◌, ◌≤◌, ◌<◌, ◌⊎◌, Some, IfErr, IfOk, OnOk, length};
+ghost use Rattle.std.specs.Io.KnownBytes.{prepend_known};
 ghost use Rattle.netlink_packet_core.specs.Attribute.{padding};
-ghost use Rattle.netlink_lines.specs.Reading.{GivesNext, Skips, SkipsPart, Tries};
+ghost use Rattle.netlink_lines.specs.Reading.{GivesNext, ReadsUpTo, Skips, SkipsPart, Tries, TriesUpTo};
 ghost use Rattle.netlink_lines.specs.Stream.{longest, stop_text};
 
+use crate::pcap::PcapFault;
 use crate::runs::Fault;
 use netlink_packet_core::{DecodeError, NETLINK_HEADER_LEN, nlmsg_align, u32_at};
 use netlink_program::fill;
 use std::fmt;
 use std::io::Read;
 
-/// The size in bytes of the longest message that is read.
-const LONGEST: usize = 1_048_576;
+/// The size in bytes of the longest message, and of the longest packet, that is read.
+pub(crate) const LONGEST: usize = 1_048_576;
 
 /// Where the messages end before the end of the input, and why.
 #[derive(Debug, Drop, PartialEq, Eq)]
@@ -30,6 +32,8 @@ pub enum Cause {
     Damaged(DecodeError),
     /// Its length field, which is this, is above 1048576.
     TooLong(u32),
+    /// It is in a pcap file, which cannot be read, or not from this packet on.
+    Pcap(PcapFault),
 }
 
 impl fmt::Display for Stop {
@@ -46,6 +50,7 @@ impl fmt::Display for Stop {
                     "byte {at}: a message of {size} bytes is longer than 1048576"
                 )
             }
+            Cause::Pcap(why) => write!(f, "byte {at}: {why}"),
         }
     }
 }
@@ -61,20 +66,21 @@ pub(crate) enum Next {
     Stop(Cause),
 }
 
-/// Reads the next frame of a stream into a vector, whose old contents it drops, and no byte after
-/// it.
+/// Reads the next frame of a stream into a vector, and no byte after it. The vector has its first
+/// bytes, fewer than 16, if they were read before.
 ///
 /// Returns `Stop` if the stream ends within the frame, or if the length field is below 16 or above
 /// 1048576. Returns `Read` if the reader fails; it has then not given a whole frame. Returns
 /// `OutOfMemory` if an allocation for the frame fails.
 pub(crate) fn read_frame<R: Read>(reader: &mut R, frame: &mut Vec<u8>) -> Result<Next, Fault>
-    ensures next { IfOk result (GivesNext (R.remaining reader.old) (R.remaining reader.new) frame.new.items) }
+    requires few { length frame.old.items < 16 }
+    ensures next { IfOk result (GivesNext (prepend_known frame.old.items (R.remaining reader.old))
+        (R.remaining reader.new) frame.new.items) }
     ensures fault { IfErr result (λ fault. (fault ≡ Fault.OutOfMemory) ⊎ ((fault ≡ Fault.Read)
-        × Tries (R.remaining reader.old) (R.remaining reader.new))) }
+        × Tries (prepend_known frame.old.items (R.remaining reader.old)) (R.remaining reader.new))) }
 {
-    frame.clear();
-    frame.resize(NETLINK_HEADER_LEN, 0)?;
-    let size = fill(reader, frame)?;
+    read_up_to(reader, frame, NETLINK_HEADER_LEN)?;
+    let size = frame.len();
     if size == 0 {
         return Ok(Next::End);
     }
@@ -91,8 +97,8 @@ pub(crate) fn read_frame<R: Read>(reader: &mut R, frame: &mut Vec<u8>) -> Result
     if length as usize > LONGEST {
         return Ok(Next::Stop(Cause::TooLong(length)));
     }
-    frame.resize(length as usize, 0)?;
-    let size = NETLINK_HEADER_LEN + fill(reader, &mut frame[NETLINK_HEADER_LEN..])?;
+    read_up_to(reader, frame, length as usize)?;
+    let size = frame.len();
     if size < length as usize {
         return Ok(Next::Stop(Cause::Damaged(DecodeError::FrameCut {
             length,
@@ -101,6 +107,29 @@ pub(crate) fn read_frame<R: Read>(reader: &mut R, frame: &mut Vec<u8>) -> Result
         })));
     }
     Ok(Next::Frame)
+}
+
+/// Reads on until a vector has this many bytes, or the reader is at its end. Requires that it does not
+/// have more.
+///
+/// Returns `Read` if the reader fails; it has then given fewer bytes. Returns `OutOfMemory` if an
+/// allocation for the bytes fails.
+pub(crate) fn read_up_to<R: Read>(
+    reader: &mut R,
+    bytes: &mut Vec<u8>,
+    size: usize,
+) -> Result<(), Fault>
+    requires less { length bytes.old.items ≤ size }
+    ensures reads { OnOk result (ReadsUpTo (R.remaining reader.old) (R.remaining reader.new)
+        bytes.old.items bytes.new.items size) }
+    ensures fault { IfErr result (λ fault. (fault ≡ Fault.OutOfMemory) ⊎ ((fault ≡ Fault.Read)
+        × TriesUpTo (R.remaining reader.old) (R.remaining reader.new) bytes.old.items size)) }
+{
+    let start = bytes.len();
+    bytes.resize(size, 0)?;
+    let n = fill(reader, &mut bytes[start..])?;
+    bytes.truncate(start + n);
+    Ok(())
 }
 
 /// Reads the padding after a frame of this size, as far as the stream has it, and returns the number

@@ -5,6 +5,7 @@ mod link_lines;
 mod names;
 mod neighbour_lines;
 mod other_lines;
+mod pcap_files;
 mod route_lines;
 mod rule_lines;
 mod runs;

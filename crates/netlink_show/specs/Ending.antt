@@ -20,6 +20,6 @@ usage_text = codes "usage: netlink_show < FILE"
 -- what a run did that ended so
 abbrev pub Ends : Check → List ℕ → Option (List ℕ) → Option (List ℕ) → Option (List ℕ)
     → Ending Fault Usage → Type 0
-Ends check input left old new end.Done = RunsAs {A = ⊤} check input left old new (Ok tt)
-Ends check input left old new (end.Failed fault) = RunsAs {A = ⊤} check input left old new (Err fault)
+Ends check input left old new end.Done = RunsAs {R = ⊤} check input left old new (Ok tt)
+Ends check input left old new (end.Failed fault) = RunsAs {R = ⊤} check input left old new (Err fault)
 Ends check input left old new (end.Usage usage) = ⊥

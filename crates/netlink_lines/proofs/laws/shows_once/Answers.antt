@@ -1,5 +1,6 @@
-use Rattle.netlink_lines.proofs.Once.{once}
+use Rattle.netlink_lines.proofs.Once.{messages_once}
+use Rattle.netlink_lines.proofs.OncePackets.{packets_once}
 use Rattle.netlink_lines.proofs.laws.shows_once.Goals as goal
 
 pub returns : goal.returns
-returns c = record { once = once }
+returns c = record { messages = messages_once; packets = packets_once }

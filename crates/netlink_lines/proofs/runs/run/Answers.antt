@@ -1,107 +1,52 @@
-use Rattle.std.proofs.Common.{rules, ◌≡◌, ◌+◌, refl, length, string_bytes}
+use Rattle.std.proofs.Common.{◌≡◌, ◌∙◌, sym}
 use Rattle.std.proofs.lemmas.Result.{err_from_is_err_and}
-use Rattle.std.specs.Prelude.{◌||◌}
 use Rattle.netlink_family.specs.Errors.{family_error}
-use Rattle.netlink_lines.specs.Messages.{memory_of}
-use Rattle.netlink_lines.proofs.Running.{at_a_stop, at_the_end, frame_kept, is_shown, no_frame, no_more, no_padding, no_write, skips_gap, without_memory}
+use Rattle.netlink_lines.specs.Messages.{Check, memory_of}
+use Rattle.netlink_lines.specs.Pcap.{layout_of}
+use Rattle.netlink_lines.specs.declared.pcap.Layout.TheVariants.{Messages, Packets, Unread}
+use Rattle.netlink_lines.proofs.Starting.{no_start, runs_messages, runs_packets, runs_unread, starts_without_memory}
 use Rattle.netlink_lines.proofs.runs.run.Goals as goal
-use Rattle.netlink_lines.proofs.runs.run.Goals.{then-is_malformed, else-is_malformed}
 
-pub returns-in_err-read_frame : goal.returns-in_err-read_frame
-returns-in_err-read_frame g c =
+pub returns-in_err-first : goal.returns-in_err-first
+returns-in_err-first g c =
+    let check : Check = family_error g.F.Table.types g.F.Table.short g.F.Table.header_len g.F.Table.rows in
     let p = err_from_is_err_and c.from_residual.result c.from_residual.ensures.1 in
-    record { runs = rw (p.1, p.2) (no_frame _ _ _ _ _ _ _ _ _ _ c.loop.invariant c.in_err-read_frame.ensures.fault) }
-
-pub returns-in-End : goal.returns-in-End
-returns-in-End g c =
-    record { runs = rw c.end_of.ensures.is (at_the_end _ _ _ _ _ _ _ _ _ c.loop.invariant (rw c.in-End.is at c.in_ok-read_frame.ensures.next)) }
-
-pub returns-in-Stop : goal.returns-in-Stop
-returns-in-Stop g c =
-    record { runs = at_a_stop _ _ _ (g.R.Read.remaining c.read_frame.new.reader) _ _ _ _ _ _ c.loop.invariant (rw c.in-Stop.is at c.in_ok-read_frame.ensures.next) }
-
-pub returns-in_err-message : goal.returns-in_err-message
-returns-in_err-message g c =
-    let p = err_from_is_err_and c.from_residual-in_err-message.result c.from_residual-in_err-message.ensures.1 in
-    record { runs = rw (p.1, p.2) (without_memory _ _ _ (g.R.Read.remaining c.read_frame.new.reader) _ _ _ _ _ c.loop.invariant) }
-
-pub returns-in_err-write_through : goal.returns-in_err-write_through
-returns-in_err-write_through g c =
-    let message = c.in_ok-message.message in
-    let p = err_from_is_err_and c.from_residual-in_err-write_through.result c.from_residual-in_err-write_through.ensures.1 in
-    let shown =
-    is_shown (family_error g.F.Table.types g.F.Table.short g.F.Table.header_len g.F.Table.rows) (g.R.Read.remaining c.loop.reader)
-    (g.R.Read.remaining c.read_frame.new.reader) c.loop.at c.read_frame.new.frame.items c.deref.result.now
-    c.in_ok-read_frame.field-0 (memory_of c.loop.state) (string_bytes message.text, message.is_malformed)
-    (memory_of c.next_lines.new.state) c.in_ok-read_frame.ensures.next c.in-Frame.is c.deref.ensures.value c.in_ok-message.ensures.tells in
     record {
-      runs =
-          rw (p.1, p.2) (no_write _ _ _ _ (g.R.Read.remaining c.read_frame.new.reader) _ _
-          (g.W.Write.contents c.write_through.new.writer) _ _ _ _ _ _ c.loop.invariant shown
-          (rw c.as_bytes.ensures.value at c.in_err-write_through.ensures.part));
+      runs = rw (p.1, p.2) (starts_without_memory check (g.R.Read.remaining c.args.reader.now)
+          (g.R.Read.remaining c.args.reader.now) (g.W.Write.contents c.args.writer.now));
     }
 
-pub returns-in_err-padding : goal.returns-in_err-padding
-returns-in_err-padding g c =
-    let message = c.in_ok-message.message in
-    let size : c.len.result ≡ length c.read_frame.new.frame.items = search rules in
-    let after : c.if-is_malformed.is_malformed ≡ (c.loop.is_malformed || message.is_malformed) =
-    elim c.if-is_malformed.branch [
-      | then-is_malformed w ↦ rw (w.is_malformed-is, w.if-is_malformed.true) refl
-      | else-is_malformed w ↦ rw (w.is_malformed-is, w.if-is_malformed.false) refl
-    ] in
-    let kept =
-    frame_kept (family_error g.F.Table.types g.F.Table.short g.F.Table.header_len g.F.Table.rows)
-    (g.R.Read.remaining c.args.reader.now) (g.R.Read.remaining c.loop.reader) (g.R.Read.remaining c.read_frame.new.reader)
-    (g.W.Write.contents c.args.writer.now) (g.W.Write.contents c.loop.writer) (g.W.Write.contents c.write_through.new.writer)
-    c.loop.at c.len.result (memory_of c.loop.state) c.loop.is_malformed c.if-is_malformed.is_malformed c.read_frame.new.frame.items c.deref.result.now
-    c.as_bytes.result.now c.in_ok-read_frame.field-0 (string_bytes message.text, message.is_malformed)
-    (memory_of c.next_lines.new.state) c.loop.invariant
-    c.in_ok-read_frame.ensures.next c.in-Frame.is c.deref.ensures.value c.in_ok-message.ensures.tells c.as_bytes.ensures.value
-    c.in_ok-write_through.ensures.whole size after in
-    let p = err_from_is_err_and c.from_residual-in_err-padding.result c.from_residual-in_err-padding.ensures.1 in
-    record { runs = rw (p.1, p.2) (no_padding _ _ _ (g.R.Read.remaining c.skip_padding.new.reader) _ _ _ _ _ _ _ kept c.in_err-padding.ensures.fault) }
+pub returns-in_err-read_start : goal.returns-in_err-read_start
+returns-in_err-read_start g c =
+    let check : Check = family_error g.F.Table.types g.F.Table.short g.F.Table.header_len g.F.Table.rows in
+    let p = err_from_is_err_and c.from_residual-in_err-read_start.result c.from_residual-in_err-read_start.ensures.1 in
+    record { runs = rw (p.1, p.2) (no_start check _ _ _ _ c.in_err-read_start.ensures.fault) }
 
-pub returns-in-None : goal.returns-in-None
-returns-in-None g c =
-    let message = c.in_ok-message.message in
-    let size : c.len.result ≡ length c.read_frame.new.frame.items = search rules in
-    let after : c.if-is_malformed.is_malformed ≡ (c.loop.is_malformed || message.is_malformed) =
-    elim c.if-is_malformed.branch [
-      | then-is_malformed w ↦ rw (w.is_malformed-is, w.if-is_malformed.true) refl
-      | else-is_malformed w ↦ rw (w.is_malformed-is, w.if-is_malformed.false) refl
-    ] in
-    let kept =
-    frame_kept (family_error g.F.Table.types g.F.Table.short g.F.Table.header_len g.F.Table.rows)
-    (g.R.Read.remaining c.args.reader.now) (g.R.Read.remaining c.loop.reader) (g.R.Read.remaining c.read_frame.new.reader)
-    (g.W.Write.contents c.args.writer.now) (g.W.Write.contents c.loop.writer) (g.W.Write.contents c.write_through.new.writer)
-    c.loop.at c.len.result (memory_of c.loop.state) c.loop.is_malformed c.if-is_malformed.is_malformed c.read_frame.new.frame.items c.deref.result.now
-    c.as_bytes.result.now c.in_ok-read_frame.field-0 (string_bytes message.text, message.is_malformed)
-    (memory_of c.next_lines.new.state) c.loop.invariant
-    c.in_ok-read_frame.ensures.next c.in-Frame.is c.deref.ensures.value c.in_ok-message.ensures.tells c.as_bytes.ensures.value
-    c.in_ok-write_through.ensures.whole size after in
-    record { runs = no_more _ _ _ _ _ _ _ _ (skips_gap _ _ _ (g.R.Read.remaining c.skip_padding.new.reader) _ _ _ _ c.in_ok-padding.padding _ _ kept c.in_ok-padding.ensures.skips) }
+pub returns-in-Messages : goal.returns-in-Messages
+returns-in-Messages g c =
+    let check : Check = family_error g.F.Table.types g.F.Table.short g.F.Table.header_len g.F.Table.rows in
+    let is : layout_of c.read_start.new.first.items ≡ Messages =
+    rw c.deref.ensures.value at (sym c.layout_of.ensures.layout ∙ c.in-Messages.is) in
+    record {
+      runs =
+          runs_messages check _ _ _ _ _ c.read_start.new.first.items (memory_of c.new-state.result) (memory_of c.messages.new.state) _
+          c.in_ok-read_start.ensures.start is c.new-state.ensures c.messages.ensures.runs;
+    }
 
-pub loop-preserved : goal.loop-preserved
-loop-preserved g c =
-    let message = c.in_ok-message.message in
-    let size : c.len.result ≡ length c.read_frame.new.frame.items = search rules in
-    let after : c.if-is_malformed.is_malformed ≡ (c.loop.is_malformed || message.is_malformed) =
-    elim c.if-is_malformed.branch [
-      | then-is_malformed w ↦ rw (w.is_malformed-is, w.if-is_malformed.true) refl
-      | else-is_malformed w ↦ rw (w.is_malformed-is, w.if-is_malformed.false) refl
-    ] in
-    let kept =
-    frame_kept (family_error g.F.Table.types g.F.Table.short g.F.Table.header_len g.F.Table.rows)
-    (g.R.Read.remaining c.args.reader.now) (g.R.Read.remaining c.loop.reader) (g.R.Read.remaining c.read_frame.new.reader)
-    (g.W.Write.contents c.args.writer.now) (g.W.Write.contents c.loop.writer) (g.W.Write.contents c.write_through.new.writer)
-    c.loop.at c.len.result (memory_of c.loop.state) c.loop.is_malformed c.if-is_malformed.is_malformed c.read_frame.new.frame.items c.deref.result.now
-    c.as_bytes.result.now c.in_ok-read_frame.field-0 (string_bytes message.text, message.is_malformed)
-    (memory_of c.next_lines.new.state) c.loop.invariant
-    c.in_ok-read_frame.ensures.next c.in-Frame.is c.deref.ensures.value c.in_ok-message.ensures.tells c.as_bytes.ensures.value
-    c.in_ok-write_through.ensures.whole size after in
-    let at : c.in-Some.next ≡ (c.loop.at + c.len.result) + c.in_ok-padding.padding = search rules in
-    rw at (skips_gap _ _ _ (g.R.Read.remaining c.skip_padding.new.reader) _ _ _ _ c.in_ok-padding.padding _ _ kept c.in_ok-padding.ensures.skips)
+pub returns-in-Packets : goal.returns-in-Packets
+returns-in-Packets g c =
+    let check : Check = family_error g.F.Table.types g.F.Table.short g.F.Table.header_len g.F.Table.rows in
+    let is : layout_of c.read_start.new.first.items ≡ Packets c.in-Packets.order =
+    rw c.deref.ensures.value at (sym c.layout_of.ensures.layout ∙ c.in-Packets.is) in
+    record {
+      runs =
+          runs_packets check c.in-Packets.order _ _ _ _ _ c.read_start.new.first.items (memory_of c.new-state.result)
+          (memory_of c.packets.new.state) _ c.in_ok-read_start.ensures.start is c.new-state.ensures c.packets.ensures.runs;
+    }
 
-pub returns : goal.returns
-returns g c = record { runs = no_more _ _ _ _ _ _ _ _ c.loop.invariant }
+pub returns-in-Unread : goal.returns-in-Unread
+returns-in-Unread g c =
+    let check : Check = family_error g.F.Table.types g.F.Table.short g.F.Table.header_len g.F.Table.rows in
+    let is : layout_of c.read_start.new.first.items ≡ Unread c.in-Unread.stop =
+    rw c.deref.ensures.value at (sym c.layout_of.ensures.layout ∙ c.in-Unread.is) in
+    record { runs = runs_unread check c.in-Unread.stop _ _ _ _ c.read_start.new.first.items c.in_ok-read_start.ensures.start is }

@@ -1,0 +1,106 @@
+use Rattle.std.proofs.Common.{rules, ◌≡◌, refl, [], arith, length}
+use Rattle.std.proofs.KnownBytes.{Consumes-nil}
+use Rattle.std.proofs.lemmas.Result.{err_from_is_err_and}
+use Rattle.std.specs.Io.KnownBytes.{Appends}
+use Rattle.std.specs.Prelude.{◌||◌}
+use Rattle.netlink_family.specs.Errors.{family_error}
+use Rattle.netlink_lines.specs.Messages.{Check, memory_of}
+use Rattle.netlink_lines.specs.Packet.{packets_of}
+use Rattle.netlink_lines.proofs.Running.{at_a_stop, at_the_end, failed_read, keeps_one, no_one, no_write, packet_shown, without_memory}
+use Rattle.netlink_lines.proofs.Steps.{packet_stop}
+use Rattle.netlink_lines.proofs.capture.packets.Goals as goal
+use Rattle.netlink_lines.proofs.capture.packets.Goals.{then-is_malformed, else-is_malformed}
+
+pub returns-then-at-gt-LAST : goal.returns-then-at-gt-LAST
+returns-then-at-gt-LAST g c =
+    let check : Check = family_error g.F.Table.types g.F.Table.short g.F.Table.header_len g.F.Table.rows in
+    record {
+      runs =
+          failed_read (packets_of check c.args.order) _ _ _ _ _ _ _ _ _ _ c.loop.invariant
+          ([], Consumes-nil _, λ holds. omega (arith, holds.0));
+    }
+
+pub returns-in_err-read_packet : goal.returns-in_err-read_packet
+returns-in_err-read_packet g c =
+    let check : Check = family_error g.F.Table.types g.F.Table.short g.F.Table.header_len g.F.Table.rows in
+    let p = err_from_is_err_and c.from_residual.result c.from_residual.ensures.1 in
+    record {
+      runs = rw (p.1, p.2) (no_one (packets_of check c.args.order) _ _ _ _ _ _ _ _ _ _ _ c.loop.invariant c.in_err-read_packet.ensures.fault);
+    }
+
+pub returns-in-End : goal.returns-in-End
+returns-in-End g c =
+    let check : Check = family_error g.F.Table.types g.F.Table.short g.F.Table.header_len g.F.Table.rows in
+    record {
+      runs =
+          rw c.end_of.ensures.is (at_the_end (packets_of check c.args.order) _ _ _ _ _ _ _ _ _ _ c.loop.invariant
+          (rw c.in-End.is at c.in_ok-read_packet.ensures.next));
+    }
+
+pub returns-in-Stop : goal.returns-in-Stop
+returns-in-Stop g c =
+    let check : Check = family_error g.F.Table.types g.F.Table.short g.F.Table.header_len g.F.Table.rows in
+    record {
+      runs =
+          at_a_stop (packets_of check c.args.order) _ _ _ _ (g.R.Read.remaining c.read_packet.new.reader) _ _ _ _ _ _ c.loop.invariant
+          (packet_stop check c.args.order _ _ _ (rw c.in-Stop.is at c.in_ok-read_packet.ensures.next));
+    }
+
+pub returns-in_err-is_bad : goal.returns-in_err-is_bad
+returns-in_err-is_bad g c =
+    let check : Check = family_error g.F.Table.types g.F.Table.short g.F.Table.header_len g.F.Table.rows in
+    let p = err_from_is_err_and c.from_residual-in_err-is_bad.result c.from_residual-in_err-is_bad.ensures.1 in
+    record {
+      runs =
+          rw (p.1, p.2, c.in_err-is_bad.ensures.fault) (without_memory (packets_of check c.args.order) _ _ _ _
+          (g.R.Read.remaining c.read_packet.new.reader) _ _ _ _ _ (memory_of c.packet_lines.new.state) c.loop.invariant);
+    }
+
+pub returns-in_err-write_through : goal.returns-in_err-write_through
+returns-in_err-write_through g c =
+    let check : Check = family_error g.F.Table.types g.F.Table.short g.F.Table.header_len g.F.Table.rows in
+    let shown =
+    packet_shown check c.args.order (g.R.Read.remaining c.loop.reader) (g.R.Read.remaining c.read_packet.new.reader) c.loop.at
+    c.read_packet.new.packet.items c.deref.result.now c.in_ok-read_packet.field-0 (memory_of c.loop.state)
+    (c.packet_lines.new.lines.items, c.in_ok-is_bad.is_bad) (memory_of c.packet_lines.new.state) c.in_ok-read_packet.ensures.next
+    c.in-Packet.is c.deref.ensures.value c.in_ok-is_bad.ensures.tells in
+    let p = err_from_is_err_and c.from_residual-in_err-write_through.result c.from_residual-in_err-write_through.ensures.1 in
+    record {
+      runs =
+          rw (p.1, p.2) (no_write (packets_of check c.args.order) _ _ _ _ _ (g.R.Read.remaining c.read_packet.new.reader) _ _
+          (g.W.Write.contents c.write_through.new.writer) _ _ _ _ _ _ _ c.loop.invariant shown
+          (rw c.deref-in-loop.ensures.value at c.in_err-write_through.ensures.part));
+    }
+
+pub loop-preserved : goal.loop-preserved
+loop-preserved g c =
+    let check : Check = family_error g.F.Table.types g.F.Table.short g.F.Table.header_len g.F.Table.rows in
+    let shown =
+    packet_shown check c.args.order (g.R.Read.remaining c.loop.reader) (g.R.Read.remaining c.read_packet.new.reader) c.loop.at
+    c.read_packet.new.packet.items c.deref.result.now c.in_ok-read_packet.field-0 (memory_of c.loop.state)
+    (c.packet_lines.new.lines.items, c.in_ok-is_bad.is_bad) (memory_of c.packet_lines.new.state) c.in_ok-read_packet.ensures.next
+    c.in-Packet.is c.deref.ensures.value c.in_ok-is_bad.ensures.tells in
+    let size : c.len.result ≡ length c.read_packet.new.packet.items = search rules in
+    let after : c.if-is_malformed.is_malformed ≡ (c.loop.is_malformed || c.in_ok-is_bad.is_bad) =
+    elim c.if-is_malformed.branch [
+      | then-is_malformed w ↦ rw (w.is_malformed-is, w.if-is_malformed.true) refl
+      | else-is_malformed w ↦ rw (w.is_malformed-is, w.if-is_malformed.false) refl
+    ] in
+    let wrote : Appends (g.W.Write.contents c.loop.writer) (g.W.Write.contents c.write_through.new.writer) c.packet_lines.new.lines.items =
+    rw c.deref-in-loop.ensures.value at c.in_ok-write_through.ensures.whole in
+    let kept =
+    keeps_one (packets_of check c.args.order) (memory_of c.args.state.now) 24 (g.R.Read.remaining c.args.reader.now)
+    (g.R.Read.remaining c.loop.reader) (g.R.Read.remaining c.read_packet.new.reader) (g.W.Write.contents c.args.writer.now)
+    (g.W.Write.contents c.loop.writer) (g.W.Write.contents c.write_through.new.writer) 0 c.loop.at (memory_of c.loop.state)
+    c.loop.is_malformed c.read_packet.new.packet.items (c.packet_lines.new.lines.items, c.in_ok-is_bad.is_bad)
+    (memory_of c.packet_lines.new.state) c.loop.invariant shown wrote in
+    rw (size, after) kept
+
+pub returns : goal.returns
+returns g c =
+    let check : Check = family_error g.F.Table.types g.F.Table.short g.F.Table.header_len g.F.Table.rows in
+    record {
+      runs =
+          failed_read (packets_of check c.args.order) _ _ _ _ (g.R.Read.remaining c.loop.reader) _ _ _ _ _ c.loop.invariant
+          ([], Consumes-nil _, λ holds. omega (arith, holds.0));
+    }

@@ -1,0 +1,61 @@
+//! A run over the packets of a pcap file.
+
+ghost use Rattle.std.specs.Prelude.{◌+◌, IfSome, length};
+ghost use Rattle.netlink_family.specs.Errors.{family_error};
+ghost use Rattle.netlink_lines.specs.Messages.{memory_of};
+ghost use Rattle.netlink_lines.specs.Packet.{packets_of};
+ghost use Rattle.netlink_lines.specs.Run.{RunsOver};
+
+use crate::line::Line;
+use crate::packet::{NextPacket, packet_lines, read_packet};
+use crate::pcap::{FILE_HEADER_LEN, Order};
+use crate::runs::{Fault, end_of};
+use crate::state::State;
+use crate::stream::{Cause, Stop};
+use netlink_program::write_through;
+use std::alloc::Global;
+use std::io::{Read, Write};
+
+/// The greatest offset at which a packet may start, 2 MiB below 2^64: the offsets in the longest
+/// packet are below 2^64.
+const LAST: u64 = 0xffff_ffff_ffe0_0000;
+
+/// Reads one packet after another of a pcap file, whose header was read, and writes the lines of each,
+/// and flushes the writer, before it reads another byte. Keeps one packet and its lines in memory.
+///
+/// Ends as `run` does, at the end of the file or at a packet that cannot be read.
+pub(crate) fn packets<F: Line, R: Read, W: Write>(
+    alloc: Global,
+    state: &mut State,
+    order: Order,
+    reader: &mut R,
+    writer: &mut W,
+) -> Result<(), Fault>
+    ensures runs { IfSome (R.remaining reader.old) (λ bytes.
+        RunsOver (packets_of (family_error F.types F.short F.header_len F.rows) order) (memory_of state.old)
+        (24 + length bytes) bytes (R.remaining reader.new) (W.contents writer.old) (W.contents writer.new)
+        (memory_of state.new) result) }
+{
+    let mut packet = Vec::new(alloc);
+    let mut lines = Vec::new(alloc);
+    let mut at = FILE_HEADER_LEN as u64;
+    let mut is_malformed = false;
+    for _ in 0..u64::MAX {
+        if at > LAST {
+            return Err(Fault::Read);
+        }
+        match read_packet(order, reader, &mut packet)? {
+            NextPacket::Packet => {}
+            NextPacket::End => return end_of(is_malformed),
+            NextPacket::Stop(why) => {
+                let cause = Cause::Pcap(why);
+                return Err(Fault::Stopped(Stop { at, cause }));
+            }
+        }
+        let is_bad = packet_lines::<F>(alloc, state, at, order, &packet, &mut lines)?;
+        write_through(writer, &lines)?;
+        is_malformed = is_malformed || is_bad;
+        at += packet.len() as u64;
+    }
+    Err(Fault::Read)
+}
