@@ -1,5 +1,6 @@
 mod DescribeLemmas
 mod EndLemmas
+mod HeaderLemmas
 mod ItemLemmas
 mod MessageLemmas
 mod PolicyLemmas

@@ -1,5 +1,5 @@
 -- Messages of a datagram, and their attributes.
-use Rattle.std.specs.Prelude.{◌≡◌, ◌≢◌, ◌+◌, ◌-◌, ◌^◌, ℕ, List, drop, min, nat_le, nat_lt, if◌then◌else◌}
+use Rattle.std.specs.Prelude.{◌≡◌, ◌≢◌, ◌+◌, ◌-◌, ◌^◌, ℕ, List, [], ◌∷◌, drop, min, nat_le, nat_lt, if◌then◌else◌}
 use Rattle.netlink_packet_core.specs.Attribute.{padding}
 use Rattle.netlink_packet_core.specs.Header.{header_of}
 use Rattle.netlink_c.specs.Steps.{StartsFrameAt}
@@ -18,6 +18,13 @@ message_at bytes frame = record {
 abbrev pub StartsMessageAt : List ℕ → ℕ → MessageItem → ℕ → Type 0
 StartsMessageAt bytes at item next =
     (frame : Part) × StartsFrameAt bytes at frame next × (item ≡ message_at bytes frame)
+
+-- starting at offset `at`, the bytes are the frames of these messages, each with its padding, and
+-- then the bytes starting at offset `next`
+abbrev pub MessagesAt : List ℕ → ℕ → List MessageItem → ℕ → Type 0
+MessagesAt bytes at [] next = next ≡ at
+MessagesAt bytes at (item ∷ more) next =
+    (between : ℕ) × StartsMessageAt bytes at item between × MessagesAt bytes between more next
 
 -- the size of a fixed header with its padding, as far as the payload has it
 abbrev pub fixed_part : ℕ → ℕ → ℕ

@@ -10,6 +10,7 @@
 #![tactic(auto)]
 
 pub mod any;
+pub mod batch;
 pub mod describe;
 pub mod ends;
 pub mod error_body;

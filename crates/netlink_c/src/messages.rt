@@ -1,6 +1,7 @@
 //! The messages of a datagram, and the attributes of each.
 
 ghost use Rattle.std.specs.Prelude.{◌≡◌, ◌≢◌, ◌↔◌, ◌⊎◌, ◌+◌, ◌≤◌, drop, false, length};
+ghost use Rattle.netlink_packet_core.specs.Header.{field, header_of};
 ghost use Rattle.netlink_packet_core.specs.Refusal.{IsFrameFault};
 ghost use Rattle.netlink_c.specs.Fault.{Refuses};
 ghost use Rattle.netlink_c.specs.Messages.{FindsAttributes, StartsMessageAt, fixed_part, message_at};
@@ -9,7 +10,7 @@ use crate::fault::FaultNumbers;
 use crate::frame::Part;
 use crate::results::{NO_PLACE, OK, WRONG_SIZE};
 use crate::walk::nlp_frames_next;
-use netlink_packet_core::{NETLINK_HEADER_LEN, NetlinkBuffer, NetlinkHeader};
+use netlink_packet_core::{NETLINK_HEADER_LEN, NetlinkHeader, parse_u64};
 
 /// A message of a datagram (`struct nlp_message`): its header, and where its payload is.
 #[derive(Clone, Copy, Debug, PartialEq, Eq)]
@@ -97,23 +98,46 @@ fn padded_within(fixed: usize, size: usize) -> usize
 
 /// Returns the message whose frame is this part of the bytes.
 #[inline(always)]
-fn message_of(bytes: &[u8], frame: &Part) -> MessageItem
+pub(crate) fn message_of(bytes: &[u8], frame: &Part) -> MessageItem
     requires inside { frame.now.offset + frame.now.size ≤ length bytes.now }
     requires least { 16 ≤ frame.now.size }
     ensures { result ≡ message_at bytes.now frame.now }
 {
-    let view = NetlinkBuffer::new(&bytes[frame.offset..]);
     MessageItem {
-        header: NetlinkHeader {
-            length: view.length(),
-            message_type: view.message_type(),
-            flags: view.flags(),
-            sequence_number: view.sequence_number(),
-            port_number: view.port_number(),
-        },
+        header: header_at(&bytes[frame.offset..]),
         payload: Part {
             offset: frame.offset + NETLINK_HEADER_LEN,
             size: frame.size - NETLINK_HEADER_LEN,
         },
     }
+}
+
+/// Returns the header that the bytes begin with. Requires at least 16 bytes.
+///
+/// Reads two integers of 8 bytes instead of five fields. The compiler then copies the header at
+/// once, which takes three instructions less.
+#[tactic(auto, using(crate::proofs::HeaderLemmas::header_of_halves))]
+#[inline(always)]
+fn header_at(bytes: &[u8]) -> NetlinkHeader
+    requires least { 16 ≤ length bytes.now }
+    ensures { result ≡ header_of bytes.now }
+{
+    let front = number_at(bytes, 0);
+    let back = number_at(bytes, 8);
+    NetlinkHeader {
+        length: (front % (1 << 32)) as u32,
+        message_type: (front / (1 << 32) % (1 << 16)) as u16,
+        flags: (front / (1 << 48)) as u16,
+        sequence_number: (back % (1 << 32)) as u32,
+        port_number: (back / (1 << 32)) as u32,
+    }
+}
+
+/// Returns the integer in the 8 bytes at offset `at`. Requires `at + 8 <= bytes.len()`.
+#[inline(always)]
+fn number_at(bytes: &[u8], at: usize) -> u64
+    requires inside { at + 8 ≤ length bytes.now }
+    ensures { result ≡ field at 8 bytes.now }
+{
+    parse_u64(&bytes[at..at + 8]).unwrap_or(0)
 }

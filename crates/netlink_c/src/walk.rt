@@ -153,7 +153,7 @@ fn attribute_fault(bytes: &[u8], fault: &mut FaultNumbers) -> u32
 /// Returns the offset past the `size` bytes at `at` and their padding, or the end of the bytes if
 /// that comes first. Requires `at + size <= bytes.len()`, and that `size` is not 0.
 #[inline(always)]
-fn after(bytes: &[u8], at: usize, size: usize) -> usize
+pub(crate) fn after(bytes: &[u8], at: usize, size: usize) -> usize
     requires inside { (at + size ≤ length bytes.now) × (0 < size) }
     ensures rest { drop result bytes.now ≡ drop (size + padding size) (drop at bytes.now) }
     ensures forward { (at < result) × (result ≤ length bytes.now) }

@@ -1,0 +1,126 @@
+//! Several messages of a datagram in one call.
+
+ghost use Rattle.std.specs.Prelude.{◌≡◌, ◌≢◌, ◌↔◌, ◌⊎◌, ◌+◌, ◌≤◌, ◌<◌, IfNone, IfSome, drop, false, length, take};
+ghost use Rattle.netlink_packet_core.specs.Header.{HoldsFrame, field};
+ghost use Rattle.netlink_packet_core.specs.Refusal.{IsFrameFault};
+ghost use Rattle.netlink_c.specs.Fault.{Refuses};
+ghost use Rattle.netlink_c.specs.Messages.{MessagesAt};
+
+use crate::fault::FaultNumbers;
+use crate::frame::{Part, frame_fault};
+use crate::messages::{MessageItem, message_of};
+use crate::results::{END, OK};
+use crate::walk::after;
+use netlink_packet_core::{NETLINK_HEADER_LEN, NetlinkBuffer, nla_align};
+
+/// The largest number of messages that one call reads.
+const BATCH: usize = 16;
+
+/// Several messages of a datagram (`struct nlp_messages`), and where the next one starts.
+#[derive(Clone, Copy, Debug, PartialEq, Eq)]
+#[repr(C)]
+pub struct Messages {
+    /// The offset of the next message, in bytes from the start of the datagram.
+    pub cursor: usize,
+    /// How many of `items` are messages that were read.
+    pub count: usize,
+    /// The messages. The offsets of the payloads are relative to the start of the datagram.
+    pub items: [MessageItem; BATCH],
+}
+
+/// Writes the messages at `batch.cursor` and after it into `batch.items`: as many as there are, up
+/// to 16. Sets `batch.count` to their number, and moves the cursor past the last of them and its
+/// padding. So there are fewer than 16 only if no complete frame is at the new cursor.
+///
+/// Returns 0 if there is at least one. Returns `END`, and changes nothing, if and only if the cursor
+/// is at or past the end of the datagram. Returns `FrameShort`, `FrameCut` or `FrameLength`, and
+/// moves the cursor to the end, if there is no complete frame at the cursor. So an error after some
+/// messages is returned by the next call. Changes the count and the items only if it returns 0, and
+/// never an item after the count. Does not allocate.
+#[unsafe(no_mangle)]
+pub extern "C" fn nlp_messages_fill(
+    bytes: &[u8],
+    batch: &mut Messages,
+    fault: &mut FaultNumbers,
+) -> u32
+    ensures end { (result ≡ 32) ↔ (length bytes.now ≤ batch.old.cursor) }
+    ensures stays { result ≡ 32 → batch.new.cursor ≡ batch.old.cursor }
+    ensures filled { result ≡ 0 → MessagesAt bytes.now batch.old.cursor
+        (take batch.new.count batch.new.items) batch.new.cursor }
+    ensures some { result ≡ 0 → (0 < batch.new.count) × (batch.new.count ≤ 16) }
+    ensures most { result ≡ 0 → batch.new.count < 16
+        → HoldsFrame (drop batch.new.cursor bytes.now) → ⊥ }
+    ensures rest { result ≡ 0 → drop batch.new.count batch.new.items
+        ≡ drop batch.new.count batch.old.items }
+    ensures refuses { result ≢ 0 → result ≢ 32
+        → Refuses (IsFrameFault false (drop batch.old.cursor bytes.now)) result fault.new
+        × (batch.new.cursor ≡ length bytes.now) }
+    ensures kept { result ≢ 0 → (batch.new.count ≡ batch.old.count)
+        × (batch.new.items ≡ batch.old.items) }
+    ensures unfaulted { (result ≡ 0) ⊎ (result ≡ 32) → fault.new ≡ fault.old }
+{
+    let start = batch.cursor;
+    if start >= bytes.len() {
+        return END;
+    }
+    let (count, next) = fill(bytes, start, &mut batch.items);
+    if count == 0 {
+        batch.cursor = bytes.len();
+        return frame_fault(&bytes[start..], fault);
+    }
+    batch.count = count;
+    batch.cursor = next;
+    OK
+}
+
+/// Writes the messages at offset `start` and after it into `items`, as far as there is room.
+/// Returns their number, and the offset of what follows.
+#[inline(always)]
+fn fill(bytes: &[u8], start: usize, items: &mut [MessageItem]) -> (usize, usize)
+    requires inside { start ≤ length bytes.now }
+    ensures filled { MessagesAt bytes.now start (take result.0 items.new) result.1 }
+    ensures most { result.0 < length items.old → HoldsFrame (drop result.1 bytes.now) → ⊥ }
+    ensures fits { result.0 ≤ length items.old }
+    ensures rest { drop result.0 items.new ≡ drop result.0 items.old }
+{
+    if bytes.len() - start < NETLINK_HEADER_LEN {
+        return (0, start);
+    }
+    let mut at = start;
+    // How many bytes there are after a header at `at`.
+    let mut room = bytes.len() - start - NETLINK_HEADER_LEN;
+    let mut count = 0;
+    while count < items.len() {
+        match size_within(bytes, at, room) {
+            Some(size) => {
+                items[count] = message_of(bytes, &Part { offset: at, size });
+                count += 1;
+                let whole = nla_align(size);
+                if whole > room {
+                    return (count, after(bytes, at, size));
+                }
+                at += whole;
+                room -= whole;
+            }
+            None => return (count, at),
+        }
+    }
+    (count, at)
+}
+
+/// Returns the length field at offset `at` if there is a complete frame, and `None` otherwise.
+/// Requires that there are `room` bytes after a header there.
+#[inline(always)]
+fn size_within(bytes: &[u8], at: usize, room: usize) -> Option<usize>
+    requires room { at + 16 + room ≡ length bytes.now }
+    ensures whole { IfSome result (λ size. HoldsFrame (drop at bytes.now)
+        × (size ≡ field 0 4 (drop at bytes.now))) }
+    ensures none { IfNone result (HoldsFrame (drop at bytes.now) → ⊥) }
+{
+    let size = NetlinkBuffer::new(&bytes[at..]).length() as usize;
+    // One comparison for both bounds, as in `frame_size`.
+    if size.wrapping_sub(NETLINK_HEADER_LEN) > room {
+        return None;
+    }
+    Some(size)
+}
