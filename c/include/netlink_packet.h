@@ -34,7 +34,7 @@
  *
  * If you know libmnl:
  *
- *   mnl_nlmsg_ok, mnl_nlmsg_next         nlp_messages_next
+ *   mnl_nlmsg_ok, mnl_nlmsg_next         nlp_reader_next, or nlp_messages_next
  *   nlh->nlmsg_type, nlh->nlmsg_flags    message.header.message_type, message.header.flags
  *   mnl_nlmsg_get_payload                bytes + message.payload.offset, message.payload.size
  *   mnl_attr_parse with a callback       nlp_message_attrs, and nlp_attrs_table over that block
@@ -188,6 +188,16 @@ struct nlp_message {
     struct nlp_part payload; /* from the start of the datagram, without padding */
 };
 
+/* The most messages that nlp_messages_fill reads in one call. */
+#define NLP_MESSAGES 16
+
+/* Several messages of a datagram, and where the next one starts. */
+struct nlp_messages {
+    size_t cursor; /* the offset of the next message; set it to 0 before the first call */
+    size_t count;  /* how many entries of `item` are messages that were read */
+    struct nlp_message item[NLP_MESSAGES];
+};
+
 /* The body of an error message. */
 struct nlp_error {
     int32_t code;               /* 0 for an acknowledgement, else a negative errno */
@@ -242,6 +252,17 @@ struct nlp_reply {
  * bytes starting at the cursor. */
 uint32_t nlp_messages_next(const uint8_t *bytes, size_t len, size_t *cursor, struct nlp_message *item,
                            struct nlp_fault *fault) NLP_CHECKED(3, 4, 5);
+
+/* Reads the messages at `batch->cursor` and after it; set it to 0 before the first call. Returns NLP_OK, with
+ * `batch->count` messages in `batch->item`, as many as there are, up to 16, and the cursor moved past the last
+ * of them and its padding; NLP_END; or NLP_FRAME_SHORT, _CUT or _LENGTH, once, with the cursor moved to the
+ * end. So an error after some messages is returned by the call after the one that returns these messages.
+ * nlp_reader_next returns them one by one, in fewer instructions than nlp_messages_next takes.
+ * Proved: the messages are those that nlp_messages_next would read, in their order, at least one of them, and
+ * fewer than 16 only if no complete frame is at the new cursor. The entries after them are unchanged. NLP_END
+ * if and only if the cursor is at or past the end. An error is that of the bytes starting at the cursor. */
+uint32_t nlp_messages_fill(const uint8_t *bytes, size_t len, struct nlp_messages *batch,
+                           struct nlp_fault *fault) NLP_CHECKED(3, 4);
 
 /* Locates the attributes of a message: what is after a fixed header of `fixed_len` bytes and its padding
  * (struct ifinfomsg, genlmsghdr). NLP_OK; NLP_WRONG_SIZE if the payload has fewer than `fixed_len` bytes; or
@@ -587,6 +608,13 @@ static inline NLP_RESULT uint32_t nlp_messages_next_opt(const uint8_t *bytes, si
     return nlp_messages_next(bytes, len, cursor, item, fault == NULL ? &own : fault);
 }
 
+static inline NLP_RESULT uint32_t nlp_messages_fill_opt(const uint8_t *bytes, size_t len,
+                                                        struct nlp_messages *batch, struct nlp_fault *fault)
+{
+    struct nlp_fault own;
+    return nlp_messages_fill(bytes, len, batch, fault == NULL ? &own : fault);
+}
+
 static inline NLP_RESULT uint32_t nlp_attrs_next_opt(const uint8_t *bytes, size_t len, size_t *cursor,
                                                      struct nlp_attr *item, struct nlp_fault *fault)
 {
@@ -694,6 +722,53 @@ static inline NLP_RESULT uint32_t nlp_describe_opt(const uint8_t *bytes, size_t 
 {
     struct nlp_fault own;
     return nlp_describe(bytes, len, buffer, capacity, size, fault == NULL ? &own : fault);
+}
+
+/* ---- a reader, which returns the messages of a datagram one by one */
+
+/* Walks a datagram, with one call of nlp_messages_fill for 16 messages:
+ *
+ *     struct nlp_reader reader;
+ *     const struct nlp_message *message;
+ *     nlp_reader_begin(&reader, bytes, len);
+ *     while ((message = nlp_reader_next(&reader)) != NULL)
+ *         use(message);
+ *     if (reader.result != NLP_END)
+ *         the bytes after the last message are malformed: reader.fault */
+struct nlp_reader {
+    const uint8_t *bytes;
+    size_t len;
+    struct nlp_messages batch;
+    size_t next;            /* the entry of batch.item that is returned next */
+    uint32_t result;        /* after NULL: NLP_END, or NLP_FRAME_SHORT, _CUT or _LENGTH; else NLP_OK */
+    struct nlp_fault fault; /* the numbers of that error */
+};
+
+/* Begins to read a datagram. */
+static inline void nlp_reader_begin(struct nlp_reader *reader, const uint8_t *bytes, size_t len)
+{
+    reader->bytes = bytes;
+    reader->len = len;
+    reader->batch.cursor = 0;
+    reader->batch.count = 0;
+    reader->next = 0;
+    reader->result = NLP_OK;
+}
+
+/* Returns the next message, or NULL at the end and at an error, which are those of nlp_messages_next. The
+ * message is valid until the next call for this reader. */
+static inline NLP_RESULT const struct nlp_message *nlp_reader_next(struct nlp_reader *reader)
+{
+    if (reader->next == reader->batch.count) {
+        if (reader->batch.cursor >= reader->len)
+            reader->result = NLP_END;
+        else
+            reader->result = nlp_messages_fill(reader->bytes, reader->len, &reader->batch, &reader->fault);
+        if (reader->result != NLP_OK)
+            return NULL;
+        reader->next = 0;
+    }
+    return &reader->batch.item[reader->next++];
 }
 
 /* ---- messages of an answer */

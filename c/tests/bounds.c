@@ -133,6 +133,38 @@ static bool reads_message(const uint8_t *bytes, size_t len, size_t at)
         && memcmp(&item, &expected, sizeof item) == 0;
 }
 
+/* The messages at a cursor, in one call. */
+static uint32_t fills_batch(const uint8_t *bytes, size_t len, size_t *at, bool at_end, bool *holds)
+{
+    struct nlp_fault fault = { 99, 98, 97, 96 }, wanted = fault;
+    struct nlp_messages *batch = place(1, sizeof *batch, at_end), expected;
+    memset(batch, 0xee, sizeof *batch);
+    batch->cursor = *at;
+    expected = *batch;
+    uint32_t result = model_fill(bytes, len, &expected, &wanted);
+    *holds = *holds && nlp_messages_fill(bytes, len, batch, &fault) == result && same_fault(&fault, &wanted)
+        && memcmp(batch, &expected, sizeof expected) == 0;
+    *at = expected.cursor;
+    return result;
+}
+
+/* A datagram of messages with payloads of 5 to 8 bytes, and other bytes after them. The length of the message at
+ * `damaged`, if there is one, is wrong. */
+static bool fills_batches(size_t count, size_t rest, size_t damaged, bool at_end)
+{
+    static const uint32_t wrong[4] = { 0, 15, 0x10000, 0xffffffff };
+    const size_t len = 24 * count + rest;
+    uint8_t *bytes = place(0, len, at_end);
+    size_t at = 0;
+    bool holds = true;
+    fill(bytes, len);
+    for (size_t i = 0; i < count; i++)
+        write_number(bytes + 24 * i, 4, false, i == damaged ? wrong[any(4)] : 21 + any(4));
+    while (fills_batch(bytes, len, &at, at_end, &holds) != NLP_END)
+        ;
+    return holds;
+}
+
 #define PUTS(name, value, ...) do { \
         static const uint8_t bytes[] = { __VA_ARGS__ }; \
         size_t size = sizeof bytes, whole = 4 + (size + 3) / 4 * 4, at = cursor; \
@@ -167,7 +199,7 @@ static bool puts_all(uint8_t *buffer, size_t capacity, size_t cursor, uint16_t k
 int main(void)
 {
     static const uint16_t kinds[6] = { 0, 1, 2, 0x3fff, 0x8001, 0xffff };
-    bool found = true, filled = true, valid = true, got = true, read = true, put = true;
+    bool found = true, filled = true, valid = true, got = true, read = true, batches = true, put = true;
     for (size_t i = 0; i < 3; i++)
         if ((pages[i] = guarded_pages()) == NULL)
             return 1;
@@ -185,17 +217,26 @@ int main(void)
         const size_t cursors[7] = { 0, 1, 4, len, len + 1, SIZE_MAX - 15, SIZE_MAX };
         for (size_t i = 0; i < 7; i++)
             read = read && reads_message(bytes, len, cursors[i]);
+        for (size_t i = 0; i < 7; i++) {
+            size_t at = cursors[i];
+            fills_batch(bytes, len, &at, at_end, &batches);
+        }
         if (turn < 420)
             got = got && gets_all(bytes, len, at_end);
         for (size_t i = 0; turn < 42 && i < 6; i++)
             for (size_t cursor = 0; cursor <= len + 1; cursor++)
                 put = put && puts_all(bytes, len, cursor, kinds[i]) && puts_all(bytes, len, SIZE_MAX - cursor, kinds[i]);
     }
+    for (size_t count = 0; count <= 34; count++)
+        for (size_t rest = 0; rest <= 20; rest++)
+            for (size_t damaged = 0; damaged <= count; damaged++)
+                batches = batches && fills_batches(count, rest, damaged, rest % 2 == 0);
     expect("attributes are found", found);
     expect("tables are filled", filled);
     expect("blocks are validated", valid);
     expect("values are read", got);
     expect("messages are read", read);
+    expect("batches of messages are read", batches);
     expect("values are put", put);
     printf("%d passed, %d failed\n", passed, failed);
     return failed != 0;

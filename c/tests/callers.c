@@ -264,6 +264,46 @@ static void messages(void)
     expect("messages past the end", nlp_messages_next(bytes, sizeof bytes, &at, &m, &fault) == NLP_END && at == SIZE_MAX);
 }
 
+/* The same messages in one call. */
+static void batches(void)
+{
+    static const uint8_t bytes[40] = { 17, 0, 0, 0, 18, 0, 1, 3, 7, 0, 0, 0, 9, 0, 0, 0, 0xbb, 0, 0, 0, 16, 0, 0, 0, 20, 0, 0, 0, 0, 0, 0, 0, 0, 0, 0, 0, 1, 2, 3, 4 };
+    uint8_t many[17 * 16], damaged[40];
+    struct nlp_fault fault = { 0, 0, 0, 0 };
+    struct nlp_messages all = { 0, 77, { { { 0, 0, 0, 0, 0 }, { 0, 0 } } } };
+    struct nlp_message *m = all.item;
+    m[1] = m[2] = m[15] = (struct nlp_message){ { 1, 1, 1, 1, 1 }, { 1, 1 } };
+    expect("no messages in no bytes", nlp_messages_fill(NULL, 0, &all, &fault) == NLP_END && all.cursor == 0 && all.count == 77);
+    expect("no complete message", nlp_messages_fill(bytes, 16, &all, &fault) == NLP_FRAME_CUT && all.cursor == 16 && all.count == 77 && is_fault(&fault, 10, 16, 17)
+        && is_message(&m[0], 0, 0, 0, 0));
+    fault = (struct nlp_fault){ 0, 0, 0, 0 };
+    all.cursor = 0;
+    expect("two messages", nlp_messages_fill(bytes, sizeof bytes, &all, &fault) == NLP_OK && all.cursor == 36 && all.count == 2 && is_message(&m[0], 17, 18, 16, 1)
+        && m[0].header.flags == 0x301 && m[0].header.sequence_number == 7 && m[0].header.port_number == 9 && is_message(&m[1], 16, 20, 36, 0));
+    expect("no more entries", is_message(&m[2], 1, 1, 1, 1) && is_message(&m[15], 1, 1, 1, 1) && is_fault(&fault, 0, 0, 0));
+    expect("the error after them", nlp_messages_fill(bytes, sizeof bytes, &all, &fault) == NLP_FRAME_SHORT && all.cursor == 40 && all.count == 2 && is_fault(&fault, 9, 4, 0)
+        && is_message(&m[0], 17, 18, 16, 1));
+    expect("the end after that", nlp_messages_fill(bytes, sizeof bytes, &all, &fault) == NLP_END && all.cursor == 40 && all.count == 2);
+    all.cursor = SIZE_MAX;
+    expect("batches past the end", nlp_messages_fill(bytes, sizeof bytes, &all, &fault) == NLP_END && all.cursor == SIZE_MAX);
+    memcpy(damaged, bytes, sizeof damaged);
+    damaged[20] = 15;
+    all.cursor = 0;
+    expect("the message before a damaged one", nlp_messages_fill(damaged, sizeof damaged, &all, &fault) == NLP_OK && all.cursor == 20 && all.count == 1
+        && is_message(&m[1], 16, 20, 36, 0));
+    expect("a damaged message", nlp_messages_fill(damaged, sizeof damaged, &all, &fault) == NLP_FRAME_LENGTH && all.cursor == 40 && is_fault(&fault, 11, 0, 15));
+    memset(many, 0, sizeof many);
+    for (size_t i = 0; i < 17; i++) {
+        many[16 * i] = 16;
+        many[16 * i + 4] = (uint8_t)(20 + i);
+    }
+    all.cursor = 0;
+    expect("16 messages", nlp_messages_fill(many, sizeof many, &all, &fault) == NLP_OK && all.cursor == 256 && all.count == 16 && is_message(&m[15], 16, 35, 256, 0));
+    expect("the 17th message", nlp_messages_fill(many, sizeof many, &all, &fault) == NLP_OK && all.cursor == 272 && all.count == 1 && is_message(&m[0], 16, 36, 272, 0)
+        && is_message(&m[15], 16, 35, 256, 0));
+    expect("the end after 17", nlp_messages_fill(many, sizeof many, &all, &fault) == NLP_END && all.cursor == 272 && all.count == 1);
+}
+
 /* Returns whether the attributes of a message with this payload are these, or unchanged at (1, 1). */
 static bool has_attributes(size_t offset, size_t size, size_t fixed, uint32_t result, size_t start, size_t left)
 {
@@ -298,6 +338,7 @@ int main(void)
     gets_bytes();
     puts_values();
     messages();
+    batches();
     attributes();
     printf("%d passed, %d failed\n", passed, failed);
     return failed != 0;

@@ -42,6 +42,44 @@ static void walk_frames(const struct input *in)
     } while (result != NLP_END);
 }
 
+/* The same messages, up to 16 in a call. */
+static void walk_batches(const struct input *in)
+{
+    struct nlp_messages *batch = place(EXTRA, sizeof *batch), expected;
+    uint32_t result;
+    memset(batch, 0xee, sizeof *batch);
+    batch->cursor = in->args[0] < 192 ? 0 : near(in->args[1], in->len);
+    do {
+        struct nlp_fault wanted = begin_fault();
+        expected = *batch;
+        result = model_fill(in->bytes, in->len, &expected, &wanted);
+        RESULT(OPT(nlp_messages_fill, in->bytes, in->len, batch), result);
+        CHECK(memcmp(batch, &expected, sizeof expected) == 0);
+        check_fault(&wanted);
+    } while (result != NLP_END);
+}
+
+/* And one by one. */
+static void read_messages(const struct input *in)
+{
+    struct nlp_reader *reader = place(EXTRA, sizeof *reader);
+    size_t at = 0;
+    uint32_t result;
+    memset(reader, 0xee, sizeof *reader);
+    nlp_reader_begin(reader, in->bytes, in->len);
+    do {
+        struct nlp_fault wanted = reader->fault = no_fault;
+        struct nlp_message expected = no_message;
+        result = message_step(in->bytes, in->len, &at, &expected, &wanted);
+        const struct nlp_message *item = nlp_reader_next(reader);
+        CHECK((item != NULL) == (result == NLP_OK));
+        RESULT(reader->result, result);
+        CHECK(item == NULL || same_header(&item->header, &expected.header));
+        CHECK(item == NULL || same_part(&item->payload, &expected.payload));
+        CHECK(same_fault(&reader->fault, &wanted));
+    } while (result != NLP_END);
+}
+
 static void find_attrs(const struct input *in)
 {
     struct nlp_message *message = place(CURSOR, sizeof *message), one = no_message;

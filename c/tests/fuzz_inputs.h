@@ -5,7 +5,7 @@
 #include "fuzz.h"
 
 /* What the bytes of a call's inputs are. */
-enum shape { BLOCK, DATAGRAM, ERROR_BODY, ACKNOWLEDGEMENT, ANY_BYTES, SHAPES };
+enum shape { BLOCK, DATAGRAM, MESSAGES, ERROR_BODY, ACKNOWLEDGEMENT, ANY_BYTES, SHAPES };
 
 /* An input while it is made. */
 struct draft_input {
@@ -142,6 +142,19 @@ static void add_datagram(struct draft_input *draft)
     }
 }
 
+/* Adds up to 40 messages with payloads of at most 8 bytes. */
+static void add_messages(struct draft_input *draft)
+{
+    const size_t start = draft->size;
+    for (uint32_t left = below(41); left > 0; left--) {
+        const size_t payload = below(9);
+        add_number(draft, 4, 16 + payload);
+        add_any(draft, 12 + payload);
+        if (left > 1 || below(4) != 0)
+            add_padding(draft, start);
+    }
+}
+
 /* Adds the attributes of an acknowledgement, such as an offset, and a request. The first argument is their size. */
 static void add_acknowledgement(struct draft_input *draft)
 {
@@ -188,6 +201,7 @@ static void make_input(struct draft_input *draft, uint32_t call, uint32_t shape)
     switch (below(32) == 0 ? below(SHAPES) : shape) {
     case BLOCK: add_block(draft, 0); break;
     case DATAGRAM: add_datagram(draft); break;
+    case MESSAGES: add_messages(draft); break;
     case ERROR_BODY: add_error(draft); break;
     case ACKNOWLEDGEMENT: add_acknowledgement(draft); break;
     default: add_any(draft, below(160));

@@ -95,6 +95,28 @@ static inline uint32_t message_step(const uint8_t *bytes, size_t len, size_t *at
     return NLP_OK;
 }
 
+/* Up to 16 steps of that walk: the messages before the end or an error, or else that. */
+static inline uint32_t model_fill(const uint8_t *bytes, size_t len, struct nlp_messages *batch, struct nlp_fault *fault)
+{
+    struct nlp_fault found = *fault;
+    struct nlp_message item;
+    size_t at = batch->cursor, count = 0;
+    uint32_t result;
+    while ((result = message_step(bytes, len, &at, &item, &found)) == NLP_OK) {
+        batch->item[count++] = item;
+        batch->cursor = at;
+        if (count == 16)
+            break;
+    }
+    if (count > 0) {
+        batch->count = count;
+        return NLP_OK;
+    }
+    batch->cursor = at;
+    *fault = found;
+    return result;
+}
+
 static inline bool same_fault(const struct nlp_fault *f, const struct nlp_fault *g)
 {
     return f->cause == g->cause && f->inside == g->inside && f->size == g->size && f->wanted == g->wanted;

@@ -54,6 +54,41 @@ static void walks(void)
     }
 }
 
+/* The messages of a datagram one by one, and a batch without a fault and with one. */
+static void reads(void)
+{
+    uint8_t many[40 * 20];
+    struct nlp_fault fault = { 0, 0, 0, 0 };
+    struct nlp_messages batch;
+    struct nlp_reader reader;
+    const struct nlp_message *message;
+    for (int with = 0; with < 2; with++) {
+        batch.cursor = 0;
+        expect("a batch", nlp_messages_fill_opt(bytes, sizeof bytes, &batch, with ? &fault : NULL) == NLP_OK && batch.count == 1 && batch.item[0].payload.size == 8);
+        expect("no batch", nlp_messages_fill_opt(bytes, sizeof bytes, &batch, with ? &fault : NULL) == NLP_FRAME_SHORT && is_fault(&fault, with ? 9 : 0, with ? 4 : 0, 0));
+    }
+    memset(&reader, 0xee, sizeof reader);
+    nlp_reader_begin(&reader, bytes, sizeof bytes);
+    expect("a reader that begins", reader.bytes == bytes && reader.len == sizeof bytes && reader.batch.cursor == 0 && reader.batch.count == 0 && reader.next == 0
+        && reader.result == NLP_OK);
+    message = nlp_reader_next(&reader);
+    expect("a message of a reader", message == reader.batch.item && message->payload.offset == 16 && message->header.message_type == 18 && reader.result == NLP_OK);
+    expect("the error of a reader", nlp_reader_next(&reader) == NULL && reader.result == NLP_FRAME_SHORT && is_fault(&reader.fault, 9, 4, 0));
+    expect("the end of a reader", nlp_reader_next(&reader) == NULL && reader.result == NLP_END && nlp_reader_next(&reader) == NULL && reader.result == NLP_END);
+    nlp_reader_begin(&reader, NULL, 0);
+    expect("a reader of no bytes", nlp_reader_next(&reader) == NULL && reader.result == NLP_END);
+    memset(many, 0, sizeof many);
+    for (size_t i = 0; i < 40; i++)
+        many[20 * i] = 20;
+    for (size_t count = 1; count <= 40; count++) {
+        size_t seen = 0;
+        nlp_reader_begin(&reader, many, 20 * count);
+        while ((message = nlp_reader_next(&reader)) != NULL)
+            seen += message->payload.offset == 20 * seen + 16;
+        expect("each message of a reader", seen == count && reader.result == NLP_END);
+    }
+}
+
 static void kinds(void)
 {
     const struct nlp_policy policy = { 1, NLP_EXACTLY, 1 };
@@ -288,6 +323,7 @@ static void misuses(void)
 int main(void)
 {
     walks();
+    reads();
     kinds();
     frames();
     canonical();

@@ -7,7 +7,7 @@ ghost use Rattle.netlink_c.specs.Fault.{Refuses};
 ghost use Rattle.netlink_c.specs.Messages.{MessagesAt};
 
 use crate::fault::FaultNumbers;
-use crate::frame::{Part, frame_fault};
+use crate::frame::{Part, frame_fault, frame_size};
 use crate::messages::{MessageItem, message_of};
 use crate::results::{END, OK};
 use crate::walk::after;
@@ -60,17 +60,37 @@ pub extern "C" fn nlp_messages_fill(
     ensures unfaulted { (result ≡ 0) ⊎ (result ≡ 32) → fault.new ≡ fault.old }
 {
     let start = batch.cursor;
-    if start >= bytes.len() {
+    if start < bytes.len() {
+        if frame_size(&bytes[start..]).is_some() {
+            let (count, next) = fill(bytes, start, &mut batch.items);
+            batch.count = count;
+            batch.cursor = next;
+            return OK;
+        }
+    }
+    ended(bytes, &mut batch.cursor, fault)
+}
+
+/// Returns `END` at or past the end. Otherwise moves the cursor to the end, and returns the error of
+/// the bytes at the old one. Requires that no complete frame is there.
+#[cold]
+#[inline(never)]
+fn ended(bytes: &[u8], cursor: &mut usize, fault: &mut FaultNumbers) -> u32
+    requires none { HoldsFrame (drop cursor.old bytes.now) → ⊥ }
+    ensures some { 0 < result }
+    ensures end { (result ≡ 32) ↔ (length bytes.now ≤ cursor.old) }
+    ensures stays { result ≡ 32 → cursor.new ≡ cursor.old }
+    ensures refuses { result ≢ 32
+        → Refuses (IsFrameFault false (drop cursor.old bytes.now)) result fault.new
+        × (cursor.new ≡ length bytes.now) }
+    ensures unfaulted { result ≡ 32 → fault.new ≡ fault.old }
+{
+    let at = *cursor;
+    if at >= bytes.len() {
         return END;
     }
-    let (count, next) = fill(bytes, start, &mut batch.items);
-    if count == 0 {
-        batch.cursor = bytes.len();
-        return frame_fault(&bytes[start..], fault);
-    }
-    batch.count = count;
-    batch.cursor = next;
-    OK
+    *cursor = bytes.len();
+    frame_fault(&bytes[at..], fault)
 }
 
 /// Writes the messages at offset `start` and after it into `items`, as far as there is room.

@@ -116,7 +116,6 @@ pub(crate) fn message_of(bytes: &[u8], frame: &Part) -> MessageItem
 ///
 /// Reads two integers of 8 bytes instead of five fields. The compiler then copies the header at
 /// once, which takes three instructions less.
-#[tactic(auto, using(crate::proofs::HeaderLemmas::header_of_halves))]
 #[inline(always)]
 fn header_at(bytes: &[u8]) -> NetlinkHeader
     requires least { 16 ≤ length bytes.now }
