@@ -18,6 +18,29 @@ const SIZES: [usize; 4] = [4, 64, 1024, 32768];
 /// The numbers of attributes, or of frames in a datagram.
 const COUNTS: [usize; 3] = [10, 1000, 10000];
 
+/// The numbers of messages for a reader, whose first message costs most.
+const READS: [usize; 6] = [1, 2, 3, 10, 1000, 10000];
+
+/// The numbers of messages of captured dumps.
+const DUMPS: [usize; 4] = [5, 6, 8, 17];
+
+macro_rules! captured {
+    ($name:literal) => {
+        include_bytes!(concat!("../../examples/captured/", $name, ".bin"))
+    };
+}
+
+/// Returns the datagrams of a captured dump, by the number of its messages: links, neighbours, addresses and routes.
+#[inline(always)]
+fn dump(messages: usize) -> &'static [&'static [u8]] {
+    match messages {
+        5 => &[captured!("links-0"), captured!("links-1"), captured!("links-2")],
+        6 => &[captured!("neighbours-0")],
+        8 => &[captured!("addresses-0"), captured!("addresses-1")],
+        _ => &[captured!("routes-0"), captured!("routes-1")],
+    }
+}
+
 /// Returns a frame of type 18 with a payload of this size.
 fn frame(size: usize) -> Vec<u8> {
     let mut bytes = vec![0; 16];
@@ -61,7 +84,7 @@ fn input(case: &str, size: usize) -> Vec<u8> {
             bytes.pop();
             bytes
         }
-        "split" | "messages" => datagram(size),
+        "split" | "messages" | "reader" => datagram(size),
         "table" => message(size),
         _ => block(size),
     }
@@ -96,6 +119,10 @@ fn once(case: &str, library: &str, size: usize, bytes: &[u8], out: &mut [u8]) ->
         ("table", "libmnl") => libmnl::table(bytes, size, out),
         ("messages", "ours") => ours::messages(bytes),
         ("messages", "libmnl") => libmnl::messages(bytes),
+        ("reader", "ours") => ours::reader(bytes),
+        ("reader", "libmnl") => libmnl::messages(bytes),
+        ("dump", "ours") => dump(size).iter().map(|it| ours::reader(it)).sum(),
+        ("dump", "libmnl") => dump(size).iter().map(|it| libmnl::messages(it)).sum(),
         _ => panic!("no such case: {case} {library}"),
     }
 }
@@ -111,6 +138,8 @@ fn output(case: &str, library: &str, size: usize, bytes: &[u8], out: &mut [u8]) 
             let start = if library == "libmnl" { 16 } else { 0 };
             out[start..start + written].to_vec()
         }
+        ("dump", "ours") => dump(size).iter().flat_map(|it| ours::found(case, size, it, out).0).collect(),
+        ("dump", "libmnl") => dump(size).iter().flat_map(|it| libmnl::found(case, size, it, out).0).collect(),
         (_, "ours") => ours::found(case, size, bytes, out).0,
         (_, "rust") => rust_crate::found(case, bytes).0,
         (_, "libmnl") => libmnl::found(case, size, bytes, out).0,
@@ -130,6 +159,8 @@ fn print_cases() {
         ("split", "ours rust libmnl", &COUNTS[..]),
         ("table", "ours libmnl", &COUNTS[..]),
         ("messages", "ours libmnl", &COUNTS[..]),
+        ("reader", "ours libmnl", &READS[..]),
+        ("dump", "ours libmnl", &DUMPS[..]),
     ] {
         for size in sizes {
             println!("{case} {size} {libraries}");

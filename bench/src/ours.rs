@@ -1,6 +1,8 @@
 //! The library of c/, by its C calls.
 
 use crate::found::Found;
+use std::mem::MaybeUninit;
+use std::ptr::addr_of_mut;
 
 #[repr(C)]
 #[derive(Clone, Copy, Default)]
@@ -43,6 +45,13 @@ struct Message {
     payload: Part,
 }
 
+#[repr(C)]
+struct Messages {
+    cursor: usize,
+    count: usize,
+    item: [Message; 16],
+}
+
 extern "C" {
     fn nlp_frame_check(bytes: *const u8, len: usize, fault: *mut Fault) -> u32;
     fn nlp_frame_header(bytes: *const u8, len: usize, header: *mut Header, fault: *mut Fault) -> u32;
@@ -57,6 +66,7 @@ extern "C" {
         item: *mut Message,
         fault: *mut Fault,
     ) -> u32;
+    fn nlp_messages_fill(bytes: *const u8, len: usize, batch: *mut Messages, fault: *mut Fault) -> u32;
     fn nlp_attr_put_u32(buffer: *mut u8, capacity: usize, cursor: *mut usize, kind: u16, value: u32) -> u32;
     fn nlp_attrs_normalize(
         bytes: *const u8,
@@ -185,6 +195,63 @@ pub fn messages(bytes: &[u8]) -> usize {
     sum
 }
 
+/// The reader of the header: its inline functions, in Rust.
+struct Reader {
+    bytes: *const u8,
+    len: usize,
+    batch: Messages,
+    next: usize,
+    result: u32,
+    fault: Fault,
+}
+
+/// `nlp_reader_begin`: leaves the messages and the fault as they are.
+unsafe fn reader_begin(reader: *mut Reader, bytes: &[u8]) {
+    addr_of_mut!((*reader).bytes).write(bytes.as_ptr());
+    addr_of_mut!((*reader).len).write(bytes.len());
+    addr_of_mut!((*reader).batch.cursor).write(0);
+    addr_of_mut!((*reader).batch.count).write(0);
+    addr_of_mut!((*reader).next).write(0);
+    addr_of_mut!((*reader).result).write(0);
+}
+
+/// `nlp_reader_next`.
+#[inline(always)]
+unsafe fn reader_next(reader: *mut Reader) -> *const Message {
+    if (*reader).next == (*reader).batch.count {
+        (*reader).result = if (*reader).batch.cursor >= (*reader).len {
+            32
+        } else {
+            let (batch, fault) = (addr_of_mut!((*reader).batch), addr_of_mut!((*reader).fault));
+            nlp_messages_fill((*reader).bytes, (*reader).len, batch, fault)
+        };
+        if (*reader).result != 0 {
+            return std::ptr::null();
+        }
+        (*reader).next = 0;
+    }
+    let at = (*reader).next;
+    (*reader).next = at + 1;
+    addr_of_mut!((*reader).batch.item).cast::<Message>().add(at)
+}
+
+/// Calls `see` for each message of a datagram.
+fn each_read(bytes: &[u8], mut see: impl FnMut(&Message)) {
+    let mut reader = MaybeUninit::<Reader>::uninit();
+    unsafe {
+        reader_begin(reader.as_mut_ptr(), bytes);
+        while let Some(message) = reader_next(reader.as_mut_ptr()).as_ref() {
+            see(message);
+        }
+    }
+}
+
+pub fn reader(bytes: &[u8]) -> usize {
+    let mut sum = 0;
+    each_read(bytes, |it| sum += it.header.message_type as usize + it.payload.size);
+    sum
+}
+
 /// Returns what one call of a case that writes no bytes found.
 pub fn found(case: &str, size: usize, bytes: &[u8], out: &mut [u8]) -> Found {
     let mut found = Found::default();
@@ -206,6 +273,9 @@ pub fn found(case: &str, size: usize, bytes: &[u8], out: &mut [u8]) -> Found {
         "split" => frames(bytes, |it| found.item(0, it.offset, it.size)),
         "table" => filled(&bytes[16..], size, out).iter().for_each(|it| found.item(it.kind, 16 + it.offset, it.size)),
         "messages" => each_message(bytes, |it| found.item(it.header.message_type, it.payload.offset, it.payload.size)),
+        "reader" | "dump" => {
+            each_read(bytes, |it| found.item(it.header.message_type, it.payload.offset, it.payload.size))
+        }
         _ => panic!("no such case: {case}"),
     }
     found

@@ -33,19 +33,18 @@ static int print_address(const uint8_t *bytes, const struct nlp_message *message
  * message, or -1. */
 static int run(const uint8_t *bytes, size_t len)
 {
-    size_t at = 0;
-    struct nlp_message message;
-    struct nlp_fault fault;
-    uint32_t answer;
-    while ((answer = nlp_messages_next(bytes, len, &at, &message, &fault)) == NLP_OK) {
-        if (message.header.message_type == NLMSG_DONE)
+    struct nlp_reader reader;
+    const struct nlp_message *message;
+    nlp_reader_begin(&reader, bytes, len);
+    while ((message = nlp_reader_next(&reader)) != NULL) {
+        if (message->header.message_type == NLMSG_DONE)
             return 0;
-        if (message.header.message_type == NLMSG_ERROR)
+        if (message->header.message_type == NLMSG_ERROR)
             return -1;
-        if (message.header.message_type == RTM_NEWADDR && print_address(bytes, &message) != 0)
+        if (message->header.message_type == RTM_NEWADDR && print_address(bytes, message) != 0)
             return -1;
     }
-    return answer == NLP_END ? 1 : -1;
+    return reader.result == NLP_END ? 1 : -1;
 }
 
 int main(int count, char **names)

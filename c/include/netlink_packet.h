@@ -233,16 +233,18 @@ struct nlp_reply {
 
 /* Walks a datagram of route netlink: its messages, and the attributes after a struct ifinfomsg:
  *
- *     while (nlp_messages_next(bytes, len, &at, &message, &fault) == NLP_OK)
- *         if (message.header.message_type == RTM_NEWLINK
- *             && nlp_message_attrs(&message, sizeof(struct ifinfomsg), &part) == NLP_OK) {
+ *     nlp_reader_begin(&reader, bytes, len);
+ *     while ((message = nlp_reader_next(&reader)) != NULL)
+ *         if (message->header.message_type == RTM_NEWLINK
+ *             && nlp_message_attrs(message, sizeof(struct ifinfomsg), &part) == NLP_OK) {
  *             const uint8_t *block = bytes + part.offset;
  *             nlp_attrs_table(block, part.size, table, IFLA_MTU + 1, &fault);
  *             if (nlp_get_u32(block, part.size, &table[IFLA_MTU], &mtu) == NLP_OK)
  *                 use(mtu);
  *         }
  *
- * c/examples/rtnl-link-dump.c and addresses.c are complete programs of this kind. */
+ * c/examples/rtnl-link-dump.c and addresses.c are complete programs of this kind. The reader is at the end of
+ * this header, in plain C over nlp_messages_fill. */
 
 /* Reads the message at `*cursor`; set it to 0 before the first call. Returns NLP_OK, with the header and the
  * payload in `*item`, and the cursor moved past the message and its padding; NLP_END; or NLP_FRAME_SHORT,
@@ -257,7 +259,7 @@ uint32_t nlp_messages_next(const uint8_t *bytes, size_t len, size_t *cursor, str
  * `batch->count` messages in `batch->item`, as many as there are, up to 16, and the cursor moved past the last
  * of them and its padding; NLP_END; or NLP_FRAME_SHORT, _CUT or _LENGTH, once, with the cursor moved to the
  * end. So an error after some messages is returned by the call after the one that returns these messages.
- * nlp_reader_next returns them one by one, in fewer instructions than nlp_messages_next takes.
+ * nlp_reader_next returns the messages one by one, with one call of this function for 16.
  * Proved: the messages are those that nlp_messages_next would read, in their order, at least one of them, and
  * fewer than 16 only if no complete frame is at the new cursor. The entries after them are unchanged. NLP_END
  * if and only if the cursor is at or past the end. An error is that of the bytes starting at the cursor. */
