@@ -1,4 +1,4 @@
-use Rattle.std.proofs.Common.{◌≡◌, ◌+◌, ap, sym, ◌∙◌, arith, drop, length, length-set, ℕ}
+use Rattle.std.proofs.Common.{◌≡◌, ◌+◌, ap, sym, ◌∙◌, arith, drop, length-set, ℕ}
 use Rattle.std.proofs.lemmas.List.{drop-drop}
 use Rattle.netlink_packet_core.specs.Attribute.{padding}
 use Rattle.netlink_c.proofs.MessageLemmas.{message_found, messages_set, rest_set}
