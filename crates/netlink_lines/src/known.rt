@@ -1,4 +1,4 @@
-//! The names of links that messages tell.
+//! The names of links, from the messages about them.
 
 ghost use Rattle.std.specs.Prelude.{◌≡◌, OnOk};
 ghost use Rattle.netlink_lines.specs.Device.{name_of};

@@ -31,7 +31,7 @@ pub(crate) struct Shown {
 /// Returns the lines of the message in a frame at this offset of the input, after the messages that
 /// left this state, and updates the state. Requires that the bytes are one frame.
 ///
-/// Links are printed by the names that the messages so far told, this one included. A time has no
+/// Links are printed by their names from the messages so far, this one included. A time has no
 /// line. It precedes the first line of the next message, unless that is a time too. Returns
 /// `AllocError` if an allocation fails.
 pub(crate) fn next_lines<F: Line>(
@@ -75,7 +75,7 @@ fn learn<F: Line>(alloc: Global, known: &mut Vec<Known>, frame: &[u8]) -> Result
     }
 }
 
-/// Returns whether messages of this type tell the names of links.
+/// Returns whether messages of this type have the names of links.
 fn is_named(message_type: u16) -> bool
     ensures { result ≡ is_named message_type }
 {
