@@ -52,22 +52,27 @@ def alias_of(frame):
     return ""
 
 
-def monitored(frame, line):
-    """Returns a line of lines.txt without what only `ip link` prints."""
+def monitored(frame, line, shown=str):
+    """Returns a line of lines.txt without what only `ip link` prints. `shown` returns an alias as it is in the line."""
     if kind_of(frame) not in LINKS:
         return line
     line = re.sub(r" (mode \S+|qlen -?\d+)(?= )", "", line)
-    return line.replace(f" alias {alias_of(frame)}", "", 1) if alias_of(frame) else line
+    return line.replace(f" alias {shown(alias_of(frame))}", "", 1) if alias_of(frame) else line
 
 
-def normalized(frame, line):
-    """Returns a line of `ip` as it is in lines.txt."""
+def spaced(frame, line):
+    """Returns a line of `ip` with one space between its words."""
     if kind_of(frame) in LINKS + ADDRESSES:
         line = re.sub(r"\\( {4})", r"\1", line)
         line = re.sub(r" (state 0x[0-9a-f]+?)(group|event) ", r" \1 \2 ", line)
         return re.sub(" +", " ", line).strip(" ")
-    line = " ".join(line.replace("\\", " ").split())
-    return line if kind_of(frame) in RULES else re.sub(r"\b(dev|iif) lo\b", r"\1 if1", line)
+    return " ".join(re.sub(r"\\(?=\s|$)", " ", line).split())
+
+
+def normalized(frame, line):
+    """Returns a line of `ip` as it is in lines.txt."""
+    line = spaced(frame, line)
+    return line if kind_of(frame) in LINKS + ADDRESSES + RULES else re.sub(r"\b(dev|iif) lo\b", r"\1 if1", line)
 
 
 def main():
@@ -92,4 +97,5 @@ def main():
     sys.exit(1 if different else 0)
 
 
-main()
+if __name__ == "__main__":
+    main()
