@@ -45,7 +45,7 @@ const ROUTE: [u8; 36] = [
 
 /// Appends a message about a link of Ethernet, and the route by link 7.
 fn push_link(input: &mut Vec<u8>, kind: u8, index: u8, rest: &[u8]) -> Result<(), AllocError> {
-    let size = 32 + rest.len() as u8;
+    let size = u8::try_from(rest.len()).unwrap_or(0).wrapping_add(32);
     input.extend_from_slice(&[size, 0, 0, 0, kind, 0, 0, 0, 0, 0, 0, 0, 0, 0, 0, 0])?;
     input.extend_from_slice(&[0, 0, 1, 0, index, 0, 0, 0, 0, 0, 0, 0, 0, 0, 0, 0])?;
     input.extend_from_slice(rest)?;
