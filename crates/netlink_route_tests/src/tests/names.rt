@@ -1,80 +1,101 @@
 //! The names of numbers, after the kernel's headers and the output of `ip`.
 
 use netlink_route::{NeighbourState, OperState, RouteProtocol, RouteType, Scope};
+use std::alloc::{AllocError, Global};
 use std::test::Fail;
 
-const OPER_STATES: [(u8, &'static str); 4] = [
-    (0, "UNKNOWN"),
-    (3, "LOWERLAYERDOWN"),
-    (6, "UP"),
-    (7, "7"),
+/// A number that may have a name.
+#[derive(Clone, Copy)]
+enum Number {
+    OperState(u8),
+    Scope(u8),
+    RouteType(u8),
+    RouteProtocol(u8),
+    NeighbourState(u16),
+}
+
+/// Numbers and their texts.
+const TEXTS: [(Number, &'static str); 30] = [
+    (Number::OperState(0), "UNKNOWN"),
+    (Number::OperState(3), "LOWERLAYERDOWN"),
+    (Number::OperState(6), "UP"),
+    (Number::OperState(7), "7"),
+    (Number::Scope(0), "global"),
+    (Number::Scope(1), "1"),
+    (Number::Scope(200), "site"),
+    (Number::Scope(252), "252"),
+    (Number::Scope(253), "link"),
+    (Number::Scope(254), "host"),
+    (Number::Scope(255), "nowhere"),
+    (Number::RouteType(0), "unspec"),
+    (Number::RouteType(1), "unicast"),
+    (Number::RouteType(6), "blackhole"),
+    (Number::RouteType(9), "throw"),
+    (Number::RouteType(11), "xresolve"),
+    (Number::RouteType(12), "12"),
+    (Number::RouteProtocol(2), "kernel"),
+    (Number::RouteProtocol(4), "static"),
+    (Number::RouteProtocol(9), "ra"),
+    (Number::RouteProtocol(16), "dhcp"),
+    (Number::RouteProtocol(186), "bgp"),
+    (Number::RouteProtocol(192), "eigrp"),
+    (Number::RouteProtocol(200), "200"),
+    (Number::NeighbourState(0), "NONE"),
+    (Number::NeighbourState(2), "REACHABLE"),
+    (Number::NeighbourState(4), "STALE"),
+    (Number::NeighbourState(64), "NOARP"),
+    (Number::NeighbourState(128), "PERMANENT"),
+    (Number::NeighbourState(6), "6"),
 ];
 
-const SCOPES: [(u8, &'static str); 7] = [
-    (0, "global"),
-    (1, "1"),
-    (200, "site"),
-    (252, "252"),
-    (253, "link"),
-    (254, "host"),
-    (255, "nowhere"),
-];
-
-const ROUTE_TYPES: [(u8, &'static str); 6] = [
-    (0, "unspec"),
-    (1, "unicast"),
-    (6, "blackhole"),
-    (9, "throw"),
-    (11, "xresolve"),
-    (12, "12"),
-];
-
-const ROUTE_PROTOCOLS: [(u8, &'static str); 7] = [
-    (2, "kernel"),
-    (4, "static"),
-    (9, "ra"),
-    (16, "dhcp"),
-    (186, "bgp"),
-    (192, "eigrp"),
-    (200, "200"),
-];
-
-const NEIGHBOUR_STATES: [(u16, &'static str); 6] = [
-    (0, "NONE"),
-    (2, "REACHABLE"),
-    (4, "STALE"),
-    (64, "NOARP"),
-    (128, "PERMANENT"),
-    (6, "6"),
-];
+/// Returns the text of a number.
+fn text_of(alloc: Global, number: Number) -> Result<String, AllocError> {
+    match number {
+        Number::OperState(number) => OperState(number).to_string(alloc),
+        Number::Scope(number) => Scope(number).to_string(alloc),
+        Number::RouteType(number) => RouteType(number).to_string(alloc),
+        Number::RouteProtocol(number) => RouteProtocol(number).to_string(alloc),
+        Number::NeighbourState(number) => NeighbourState(number).to_string(alloc),
+    }
+}
 
 #[test]
 fn numbers_print_their_names(rt: HostRuntime) -> Result<(), Fail> {
-    let alloc = rt.alloc();
-    for (number, text) in OPER_STATES {
-        assert_eq!(rt; OperState(number).to_string(alloc)?.as_str(), text);
-    }
-    for (number, text) in SCOPES {
-        assert_eq!(rt; Scope(number).to_string(alloc)?.as_str(), text);
-    }
-    for (number, text) in ROUTE_TYPES {
-        assert_eq!(rt; RouteType(number).to_string(alloc)?.as_str(), text);
-    }
-    for (number, text) in ROUTE_PROTOCOLS {
-        assert_eq!(rt; RouteProtocol(number).to_string(alloc)?.as_str(), text);
-    }
-    for (number, text) in NEIGHBOUR_STATES {
-        assert_eq!(rt; NeighbourState(number).to_string(alloc)?.as_str(), text);
+    for (number, text) in TEXTS {
+        assert_eq!(rt; text_of(rt.alloc(), number)?.as_str(), text);
     }
     Ok(())
 }
 
+/// Numbers and their names.
+const NAMES: [(Number, Option<&'static str>); 10] = [
+    (Number::OperState(6), Some("UP")),
+    (Number::OperState(7), None),
+    (Number::Scope(253), Some("link")),
+    (Number::Scope(1), None),
+    (Number::RouteType(1), Some("unicast")),
+    (Number::RouteType(12), None),
+    (Number::RouteProtocol(3), Some("boot")),
+    (Number::RouteProtocol(5), None),
+    (Number::NeighbourState(4), Some("STALE")),
+    (Number::NeighbourState(3), None),
+];
+
+/// Returns the name of a number, if it has one.
+fn name_of(number: Number) -> Option<&'static str> {
+    match number {
+        Number::OperState(number) => OperState(number).name(),
+        Number::Scope(number) => Scope(number).name(),
+        Number::RouteType(number) => RouteType(number).name(),
+        Number::RouteProtocol(number) => RouteProtocol(number).name(),
+        Number::NeighbourState(number) => NeighbourState(number).name(),
+    }
+}
+
 #[test]
 fn a_number_may_have_no_name(rt: HostRuntime) -> Result<(), Fail> {
-    assert!(rt; OperState(6).name() == Some("UP") && OperState(7).name() == None);
-    assert!(rt; Scope(253).name() == Some("link") && Scope(1).name() == None);
-    assert!(rt; RouteType(1).name() == Some("unicast") && RouteType(12).name() == None);
-    assert!(rt; RouteProtocol(3).name() == Some("boot") && RouteProtocol(5).name() == None);
-    assert!(rt; NeighbourState(4).name() == Some("STALE") && NeighbourState(3).name() == None);
+    for (number, name) in NAMES {
+        assert!(rt; name_of(number) == name);
+    }
     Ok(())
 }
