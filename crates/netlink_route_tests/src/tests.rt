@@ -2,6 +2,7 @@
 //! linux/netlink.h, rtnetlink.h, if_link.h, if_addr.h, neighbour.h, fib_rules.h and
 //! net_namespace.h, or are in `examples/captured`.
 
+mod calls;
 mod captured;
 mod errors;
 mod getters;

@@ -8,17 +8,26 @@ use netlink_family::{FamilyError, MessageView, Reason, Value};
 use netlink_packet_core::NetlinkHeader;
 use netlink_route::links::{IFLA_MTU, RTM_GETLINK, RTM_NEWLINK};
 use netlink_route::{LinkMessage, Links};
+use std::alloc::{AllocError, Global};
 use std::test::Fail;
+
+/// Returns whether a payload is decoded, and its attributes are these bytes.
+fn has_block(
+    alloc: Global,
+    message_type: u16,
+    payload: &[u8],
+    block: &[u8],
+) -> Result<bool, FamilyError> {
+    Ok(decoded(alloc, message_type, payload)?.view().block == block)
+}
 
 #[test]
 fn messages_are_decoded(rt: HostRuntime) -> Result<(), Fail> {
     let alloc = rt.alloc();
     let link = decoded(alloc, 16, &LO[16..])?;
     assert!(rt; link.view().block.len() == 48);
-    let address = decoded(alloc, 20, &ADDRESS[16..])?;
-    assert!(rt; address.view().block == &ADDRESS[24..]);
-    let neighbour = decoded(alloc, 28, &NEIGHBOUR[16..])?;
-    assert!(rt; neighbour.view().block == &NEIGHBOUR[28..]);
+    assert!(rt; has_block(alloc, 20, &ADDRESS[16..], &ADDRESS[24..])?);
+    assert!(rt; has_block(alloc, 28, &NEIGHBOUR[16..], &NEIGHBOUR[28..])?);
     Ok(())
 }
 
@@ -33,13 +42,18 @@ fn a_message_is_rejected(rt: HostRuntime) -> Result<(), Fail> {
     Ok(())
 }
 
+/// Returns a copy of a view.
+fn copied(alloc: Global, link: &MessageView<'_, Links>) -> Result<LinkMessage, AllocError> {
+    link.to_owned(alloc)
+}
+
 #[test]
 fn views_are_copied(rt: HostRuntime) -> Result<(), Fail> {
     let alloc = rt.alloc();
     let link = MessageView::<Links>::new(RTM_NEWLINK, &LO[16..])?;
-    let owned = link.to_owned(alloc)?;
+    let owned = copied(alloc, &link)?;
     assert!(rt; owned.bytes.len() == 64);
-    assert!(rt; owned.view().block == decoded(alloc, 16, &LO[16..])?.view().block);
+    assert!(rt; has_block(alloc, 16, &LO[16..], owned.view().block)?);
     let header = NetlinkHeader {
         length: 80,
         message_type: RTM_NEWLINK,
@@ -56,7 +70,7 @@ fn short_payloads_are_copied(rt: HostRuntime) -> Result<(), Fail> {
     let alloc = rt.alloc();
     assert!(rt; decoded(alloc, RTM_GETLINK, &[17, 0, 0, 0])?.is_short());
     let request = LinkMessage::new_short(alloc, RTM_GETLINK, &[17])?;
-    assert!(rt; request.message_view().to_owned(alloc)? == request);
+    assert!(rt; copied(alloc, &request.message_view())? == request);
     Ok(())
 }
 

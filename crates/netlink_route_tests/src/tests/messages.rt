@@ -1,9 +1,10 @@
 //! Links and addresses that are decoded, made and encoded.
 
+use crate::tests::calls::{address_of, are_last, are_next, has_attributes, link_of, normal};
 use crate::tests::samples::{ADDRESS, LO, decoded, wrong_size};
-use netlink_family::{AttributeError, FamilyError, MessageView, Reason, Value};
+use netlink_family::{AttributeError, Attributes, FamilyError, MessageView, Reason, Value};
 use netlink_packet_core::laws::reads_back;
-use netlink_packet_core::{NetlinkMessage, NetlinkPayload, normalize};
+use netlink_packet_core::{NetlinkMessage, NetlinkPayload};
 use netlink_route::addresses::{
     IFA_ADDRESS, IFA_CACHEINFO, IFA_FLAGS, IFA_INDEX, IFA_LABEL, IFA_LOCAL, IFA_PREFIXLEN,
     RTM_DELADDR, RTM_NEWADDR,
@@ -23,12 +24,13 @@ fn family_of(
     payload: &[u8],
 ) -> Result<&'static str, FamilyError> {
     let message = decoded(alloc, message_type, payload)?;
-    match message.message_view().tables().split() {
-        Ok(_link) => Ok("link"),
-        Err(other) => match other.split() {
-            Ok(_address) => Ok("address"),
-            Err(_neighbour) => Ok("neighbour"),
-        },
+    let view = message.message_view();
+    if link_of(&view).is_some() {
+        return Ok("link");
+    }
+    match address_of(&view) {
+        Some(_) => Ok("address"),
+        None => Ok("neighbour"),
     }
 }
 
@@ -68,48 +70,61 @@ fn is_lo(link: &MessageView<'_, Links>) -> bool {
 /// Returns whether the attributes are those of `LO`, in their order.
 fn has_lo_attributes(link: &MessageView<'_, Links>) -> bool {
     let mut all = link.view().attributes();
-    let first = all.next() == Some((IFLA_IFNAME, Value::Str(b"lo\0")))
-        && all.next() == Some((IFLA_MTU, Value::U32(65536)))
-        && all.next() == Some((IFLA_ADDRESS, Value::Bytes(&[0, 0, 0, 0, 0, 0])));
-    let is_veth = match all.next() {
+    are_next(&mut all, &LO_FIRST) && is_veth(&mut all) && are_last(&mut all, &LO_LAST)
+}
+
+/// The attributes of `LO` before its nest.
+const LO_FIRST: [(u16, Value<'static>); 3] = [
+    (IFLA_IFNAME, Value::Str(b"lo\0")),
+    (IFLA_MTU, Value::U32(65536)),
+    (IFLA_ADDRESS, Value::Bytes(&[0, 0, 0, 0, 0, 0])),
+];
+
+/// The attribute of `LO` after its nest.
+const LO_LAST: [(u16, Value<'static>); 1] = [(0x8041, Value::Bytes(&[]))];
+
+/// Returns whether the next attribute is the nest of `LO`.
+fn is_veth(all: &mut Attributes<'_>) -> bool {
+    match all.next() {
         Some((IFLA_LINKINFO, Value::Nested(info))) => {
-            let mut inner = info.attributes();
-            inner.next() == Some((IFLA_INFO_KIND, Value::Str(b"veth\0"))) && inner.next() == None
+            has_attributes(&info, &[(IFLA_INFO_KIND, Value::Str(b"veth\0"))])
         }
         _ => false,
-    };
-    first && is_veth && all.next() == Some((0x8041, Value::Bytes(&[]))) && all.next() == None
+    }
 }
 
 #[test]
 fn a_link_is_decoded(rt: HostRuntime) -> Result<(), Fail> {
     let message = NetlinkMessage::<RouteMessage>::deserialize(rt.alloc(), &LO)?;
     match &message.payload {
-        NetlinkPayload::InnerMessage(message) => {
-            match message.message_view().tables().split() {
-                Ok(link) => assert!(rt; is_lo(&link)),
-                Err(_) => assert!(rt; false),
-            }
-        }
+        NetlinkPayload::InnerMessage(message) => match link_of(&message.message_view()) {
+            Some(link) => assert!(rt; is_lo(&link)),
+            None => assert!(rt; false),
+        },
         _ => assert!(rt; false),
     }
     Ok(())
 }
 
+/// Returns whether a message can be encoded. If it can, its frame reads back.
+fn is_read_back(message: &NetlinkMessage<RouteMessage>) -> bool {
+    let fits = message.fits();
+    if fits {
+        reads_back(message, message, &[7]);
+    }
+    fits
+}
+
 #[test]
 fn a_link_is_encoded(rt: HostRuntime) -> Result<(), Fail> {
     let message = NetlinkMessage::<RouteMessage>::deserialize(rt.alloc(), &LO)?;
-    assert!(rt; message.fits());
-    reads_back(&message, &message, &[7]);
+    assert!(rt; is_read_back(&message));
     // padding outside nests is written as zeros
     let mut canonical = LO;
     canonical[39] = 0;
     canonical[58] = 0;
     canonical[59] = 0;
-    assert_eq!(rt;
-        normalize::<RouteMessage>(rt.alloc(), &LO)?.as_slice(),
-        canonical.as_slice()
-    );
+    assert_eq!(rt; normal(rt.alloc(), &LO)?.as_slice(), canonical.as_slice());
     Ok(())
 }
 
@@ -117,28 +132,24 @@ fn a_link_is_encoded(rt: HostRuntime) -> Result<(), Fail> {
 fn is_address(address: &MessageView<'_, Addresses>) -> bool {
     let header = address.header();
     let has_header = header.u8(IFA_PREFIXLEN) == 24 && header.u32(IFA_INDEX) == 4;
-    let mut all = address.view().attributes();
-    has_header
-        && address.message_type == RTM_NEWADDR
-        && all.next() == Some((IFA_ADDRESS, Value::Ip(&[192, 0, 2, 1])))
-        && all.next() == Some((IFA_LABEL, Value::Str(b"eth0\0")))
-        && all.next() == Some((IFA_FLAGS, Value::U32(0x80)))
-        && all.next() == Some((IFA_CACHEINFO, Value::MinLen(16, &ADDRESS[56..])))
-        && all.next() == None
+    let expected = [
+        (IFA_ADDRESS, Value::Ip(&[192, 0, 2, 1])),
+        (IFA_LABEL, Value::Str(b"eth0\0")),
+        (IFA_FLAGS, Value::U32(0x80)),
+        (IFA_CACHEINFO, Value::MinLen(16, &ADDRESS[56..])),
+    ];
+    has_header && address.message_type == RTM_NEWADDR && has_attributes(&address.view(), &expected)
 }
 
 #[test]
 fn an_address_is_decoded_and_encoded(rt: HostRuntime) -> Result<(), Fail> {
     let message = decoded(rt.alloc(), 20, &ADDRESS[16..])?;
-    match message.message_view().tables().split() {
-        Ok(_) => assert!(rt; false),
-        Err(other) => match other.split() {
-            Ok(address) => assert!(rt; is_address(&address)),
-            Err(_) => assert!(rt; false),
-        },
+    match address_of(&message.message_view()) {
+        Some(address) => assert!(rt; is_address(&address)),
+        None => assert!(rt; false),
     }
     assert_eq!(rt;
-        normalize::<RouteMessage>(rt.alloc(), &ADDRESS)?.as_slice(),
+        normal(rt.alloc(), &ADDRESS)?.as_slice(),
         ADDRESS.as_slice()
     );
     Ok(())
@@ -184,6 +195,21 @@ fn values_of_links_are_checked(rt: HostRuntime) -> Result<(), Fail> {
     Ok(())
 }
 
+/// The attributes that `valid_values_of_links_are_appended` appends.
+const APPENDED: [u8; 24] = [
+    6, 0, 3, 0, b'l', b'o', 0, 0, // IFLA_IFNAME
+    8, 0, 4, 0x40, 7, 0, 0, 0, // IFLA_MTU with NLA_F_NET_BYTEORDER
+    8, 0, 18, 0, 4, 0, 3, 0, // IFLA_LINKINFO
+];
+
+/// Returns whether a link has an `IFLA_INFO_XSTATS` without bytes.
+fn has_empty_statistics(link: &LinkMessage) -> bool {
+    match link.view().nest(IFLA_LINKINFO) {
+        Some(info) => info.bytes(IFLA_INFO_XSTATS) == Some(&[]),
+        None => false,
+    }
+}
+
 #[test]
 fn valid_values_of_links_are_appended(rt: HostRuntime) -> Result<(), Fail> {
     let alloc = rt.alloc();
@@ -192,20 +218,9 @@ fn valid_values_of_links_are_appended(rt: HostRuntime) -> Result<(), Fail> {
     assert!(rt; link_error(alloc, &mut link, 0x4004, &[7, 0, 0, 0]) == None);
     // an empty IFLA_INFO_XSTATS in a nest
     assert!(rt; link_error(alloc, &mut link, IFLA_LINKINFO, &[4, 0, 3, 0]) == None);
-    assert_eq!(rt;
-        link.view().block,
-        [
-            6, 0, 3, 0, b'l', b'o', 0, 0, // IFLA_IFNAME
-            8, 0, 4, 0x40, 7, 0, 0, 0, // IFLA_MTU with NLA_F_NET_BYTEORDER
-            8, 0, 18, 0, 4, 0, 3, 0, // IFLA_LINKINFO
-        ]
-        .as_slice()
-    );
+    assert_eq!(rt; link.view().block, APPENDED.as_slice());
     assert!(rt; link.view().u32(IFLA_MTU) == Some(7));
-    match link.view().nest(IFLA_LINKINFO) {
-        Some(info) => assert!(rt; info.bytes(IFLA_INFO_XSTATS) == Some(&[])),
-        None => assert!(rt; false),
-    }
+    assert!(rt; has_empty_statistics(&link));
     Ok(())
 }
 

@@ -1,13 +1,15 @@
 //! Neighbours that are decoded, made and encoded.
 
+use crate::tests::calls::{has_attributes, neighbour_of, normal};
 use crate::tests::samples::{NEIGHBOUR, decoded, wrong_size};
-use netlink_family::{MessageView, OwnedMessage, Value};
-use netlink_packet_core::{NetlinkMessage, normalize};
+use netlink_family::{FamilyError, MessageView, OwnedMessage, Value};
+use netlink_packet_core::NetlinkMessage;
 use netlink_route::neighbours::{
     NDA_CACHEINFO, NDA_DST, NDA_LLADDR, NDA_PORT, NDA_PROBES, NDA_VLAN, NDM_FAMILY, NDM_FLAGS,
     NDM_IFINDEX, NDM_STATE, NDM_TYPE, RTM_GETNEIGH, RTM_NEWNEIGH,
 };
-use netlink_route::{NeighbourMessage, Neighbours, RouteMessage};
+use netlink_route::{NeighbourMessage, Neighbours};
+use std::alloc::Global;
 use std::test::Fail;
 
 /// Returns whether the fields of the header are those of `NEIGHBOUR`.
@@ -22,40 +24,30 @@ fn has_fields(neighbour: &MessageView<'_, Neighbours>) -> bool {
 }
 
 /// Returns whether the attributes are those of `NEIGHBOUR`, in their order.
-fn has_attributes(neighbour: &MessageView<'_, Neighbours>) -> bool {
-    let mut all = neighbour.view().attributes();
-    all.next() == Some((NDA_DST, Value::Ip(&NEIGHBOUR[32..48])))
-        && all.next() == Some((NDA_LLADDR, Value::Bytes(&[2, 0, 0, 0, 0, 7])))
-        && all.next() == Some((NDA_PROBES, Value::U32(5)))
-        && all.next() == Some((NDA_CACHEINFO, Value::MinLen(16, &NEIGHBOUR[72..88])))
-        && all.next() == Some((NDA_VLAN, Value::U16(10)))
-        && all.next() == Some((NDA_PORT, Value::Be16(4789)))
-        && all.next() == None
-}
-
-/// Returns the neighbour that a message is about, if it is about one.
-fn neighbour_of<'a>(message: &'a RouteMessage) -> Option<MessageView<'a, Neighbours>> {
-    match message.message_view().tables().split() {
-        Ok(_link) => None,
-        Err(other) => match other.split() {
-            Ok(_address) => None,
-            Err(other) => other.split().ok(),
-        },
-    }
+fn has_its_attributes(neighbour: &MessageView<'_, Neighbours>) -> bool {
+    let expected = [
+        (NDA_DST, Value::Ip(&NEIGHBOUR[32..48])),
+        (NDA_LLADDR, Value::Bytes(&[2, 0, 0, 0, 0, 7])),
+        (NDA_PROBES, Value::U32(5)),
+        (NDA_CACHEINFO, Value::MinLen(16, &NEIGHBOUR[72..88])),
+        (NDA_VLAN, Value::U16(10)),
+        (NDA_PORT, Value::Be16(4789)),
+    ];
+    has_attributes(&neighbour.view(), &expected)
 }
 
 #[test]
 fn a_neighbour_is_decoded_and_encoded(rt: HostRuntime) -> Result<(), Fail> {
     let message = decoded(rt.alloc(), 28, &NEIGHBOUR[16..])?;
-    match neighbour_of(&message) {
+    match neighbour_of(&message.message_view()) {
         Some(neighbour) => {
             assert!(rt; has_fields(&neighbour));
-            assert!(rt; has_attributes(&neighbour));
+            assert!(rt; has_its_attributes(&neighbour));
         }
         None => assert!(rt; false),
     }
     assert_eq!(rt;
-        normalize::<RouteMessage>(rt.alloc(), &NEIGHBOUR)?.as_slice(),
+        normal(rt.alloc(), &NEIGHBOUR)?.as_slice(),
         NEIGHBOUR.as_slice()
     );
     Ok(())
@@ -80,14 +72,19 @@ const REQUEST: [u8; 36] = [
     8, 0, 1, 0, 192, 0, 2, 7, // NDA_DST
 ];
 
-#[test]
-fn a_request_is_made(rt: HostRuntime) -> Result<(), Fail> {
-    let alloc = rt.alloc();
+/// Returns the message of `REQUEST`.
+fn request(alloc: Global) -> Result<NeighbourMessage, FamilyError> {
     let mut request: NeighbourMessage = OwnedMessage::new(alloc, RTM_GETNEIGH)?;
     request.set_u8(NDM_FAMILY, 2);
     request.set_i32(NDM_IFINDEX, 4);
     request.push(alloc, NDA_DST, Value::Ip(&[192, 0, 2, 7]))?;
-    let frame = NetlinkMessage::from_inner(request).into_frame(alloc)?;
+    Ok(request)
+}
+
+#[test]
+fn a_request_is_made(rt: HostRuntime) -> Result<(), Fail> {
+    let request = request(rt.alloc())?;
+    let frame = NetlinkMessage::from_inner(request).into_frame(rt.alloc())?;
     assert_eq!(rt; frame.as_slice(), REQUEST.as_slice());
     Ok(())
 }
