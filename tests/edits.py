@@ -42,7 +42,7 @@ from edit import BadEdit, edits_of, function_at_line, is_of
 from libraries import TOP, below, dependencies, folder_of, words_over_rlibs
 
 # The largest number of edits that one check tries.
-BATCH = 18
+BATCH = 24
 PARTS = ("src", "specs", "proofs")
 
 # The last line of a check of some functions: how many were requested, and how many of them are proved.

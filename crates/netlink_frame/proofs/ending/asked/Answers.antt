@@ -1,3 +1,4 @@
+use Rattle.std.proofs.Common.{rules}
 use Rattle.std.proofs.Common.{◌≡◌, ◌↔◌, Some, ℕ, List, [], ◌∷◌, length, refl, sym, ap, subst, ◌∙◌, arith, String, Global}
 use Rattle.std.specs.Prelude.{Option, option_map, string_bytes}
 use Rattle.std.specs.Vec.Iter.{into_iter_items}
@@ -40,3 +41,6 @@ returns-in-None c = record {
       (sym c.next-2.new.self.rest.ok.0 ∙ c.in-None.ensures.cases.0)
       (c.from_text.ensures.names ∙ ap command_of c.as_str.ensures.value);
 }
+
+pub returns : goal.returns
+returns c = search rules

@@ -25,3 +25,6 @@ loop-preserved g c =
         search rules,
       )
     ]
+
+pub returns-in-Ok-eq0-clause-whole : goal.returns-in-Ok-eq0-clause-whole
+returns-in-Ok-eq0-clause-whole g c = search rules

@@ -1,0 +1,5 @@
+use Rattle.std.proofs.Common.{rules}
+use Rattle.netlink_family_tests.proofs.views.probes_seen.Goals as goal
+
+pub returns : goal.returns
+returns c = search rules
