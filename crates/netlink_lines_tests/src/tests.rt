@@ -9,5 +9,6 @@ mod pcap_files;
 mod route_lines;
 mod rule_lines;
 mod runs;
+mod shown;
 mod times;
 mod words;

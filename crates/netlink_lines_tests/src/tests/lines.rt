@@ -1,9 +1,6 @@
 //! Messages made by hand, after linux/rtnetlink.h, if_link.h and if_addr.h, and their lines.
 
-use netlink_family::Joined;
-use netlink_lines::run;
-use netlink_route::RouteTables;
-use std::test::Fail;
+use crate::tests::shown::assert_lines;
 
 /// The link "lo" below link 9 and in link 5, a request to change it, with packets of 65536 bytes;
 /// its address, the state 7 that has no name, the kind "veth" in a nest without its bit.
@@ -18,6 +15,10 @@ pub(crate) const LO: [u8; 100] = [
     5, 0, 16, 0, 7, 0xaa, 0xaa, 0xaa, // IFLA_OPERSTATE
     13, 0, 18, 0, 9, 0, 1, 0, b'v', b'e', b't', b'h', 0, 0, 0, 0, // IFLA_LINKINFO
 ];
+
+/// The line of `ADDRESS`.
+pub(crate) const LINE: &str =
+    "Deleted 4: if4 inet 10.0.0.1 peer 10.0.0.2/24 brd 10.0.0.255 scope link dynamic abcd\n";
 
 /// The address 10.0.0.1, with 10.0.0.2 at the other end, that link 4 had.
 pub(crate) const ADDRESS: [u8; 60] = [
@@ -61,31 +62,23 @@ const LATIN: [u8; 40] = [
     6, 0, 3, 0, b'c', 0xe9, 0, 0, // IFLA_IFNAME
 ];
 
+/// Messages, and the lines of each.
+const MESSAGES: [(&[u8], &str); 6] = [
+    (
+        &LO,
+        "Set 1: lo@if9: <LOOPBACK,UP,LOWER_UP> mtu 65536 master if5 state 0x7 link/loopback 00:00:00:00:00:fe kind veth\n",
+    ),
+    (&ADDRESS, LINE),
+    (
+        &OTHERS,
+        "error -2\nack\ndone -22\ninterrupted\nnoop\noverrun\nerror -22: a b\n",
+    ),
+    (&NEIGHBOURS, "miss\n"),
+    (&REQUEST, "type 26, 28 bytes\n"),
+    (&LATIN, "-1: c\\xe9: <> link/ether\n"),
+];
+
 #[test]
-fn messages_have_lines(rt: HostRuntime) -> Result<(), Fail> {
-    let rows: [(&[u8], &str); 6] = [
-        (
-            &LO,
-            "Set 1: lo@if9: <LOOPBACK,UP,LOWER_UP> mtu 65536 master if5 state 0x7 link/loopback 00:00:00:00:00:fe kind veth\n",
-        ),
-        (
-            &ADDRESS,
-            "Deleted 4: if4 inet 10.0.0.1 peer 10.0.0.2/24 brd 10.0.0.255 scope link dynamic abcd\n",
-        ),
-        (
-            &OTHERS,
-            "error -2\nack\ndone -22\ninterrupted\nnoop\noverrun\nerror -22: a b\n",
-        ),
-        (&NEIGHBOURS, "miss\n"),
-        (&REQUEST, "type 26, 28 bytes\n"),
-        (&LATIN, "-1: c\\xe9: <> link/ether\n"),
-    ];
-    for (input, lines) in rows {
-        let mut reader = input;
-        let mut output: Vec<u8> = Vec::new(rt.alloc());
-        let ended = run::<Joined<RouteTables>, _, _>(rt.alloc(), &mut reader, &mut output);
-        assert!(rt; ended.is_ok());
-        assert_eq!(rt; output.as_slice(), lines.as_bytes());
-    }
-    Ok(())
+fn messages_have_lines(rt: HostRuntime) {
+    assert_lines(&rt, rt.alloc(), &MESSAGES);
 }

@@ -1,10 +1,7 @@
 //! Links and addresses as a kernel dumped them, and others made by hand. `ip` 6.1 printed the
 //! lines; a backslash and a run of spaces in them is one space here, and the kind of a link follows.
 
-use netlink_family::Joined;
-use netlink_lines::run;
-use netlink_route::RouteTables;
-use std::test::Fail;
+use crate::tests::shown::assert_lines;
 
 /// Links, and what `ip -o link` prints for each. The first two are from a kernel, without counters.
 const LINKS: [(&[u8], &str); 16] = [
@@ -264,26 +261,12 @@ const ADDRESSES: [(&[u8], &str); 12] = [
 
 /// Each link has the line that `ip` prints for it, followed by its kind.
 #[test]
-fn links_have_the_lines_of_ip(rt: HostRuntime) -> Result<(), Fail> {
-    for (message, line) in LINKS {
-        let mut reader = message;
-        let mut output: Vec<u8> = Vec::new(rt.alloc());
-        let ended = run::<Joined<RouteTables>, _, _>(rt.alloc(), &mut reader, &mut output);
-        assert!(rt; ended.is_ok());
-        assert_eq!(rt; output.as_slice(), line.as_bytes());
-    }
-    Ok(())
+fn links_have_the_lines_of_ip(rt: HostRuntime) {
+    assert_lines(&rt, rt.alloc(), &LINKS);
 }
 
 /// Each address has the line that `ip` prints for it.
 #[test]
-fn addresses_have_the_lines_of_ip(rt: HostRuntime) -> Result<(), Fail> {
-    for (message, line) in ADDRESSES {
-        let mut reader = message;
-        let mut output: Vec<u8> = Vec::new(rt.alloc());
-        let ended = run::<Joined<RouteTables>, _, _>(rt.alloc(), &mut reader, &mut output);
-        assert!(rt; ended.is_ok());
-        assert_eq!(rt; output.as_slice(), line.as_bytes());
-    }
-    Ok(())
+fn addresses_have_the_lines_of_ip(rt: HostRuntime) {
+    assert_lines(&rt, rt.alloc(), &ADDRESSES);
 }

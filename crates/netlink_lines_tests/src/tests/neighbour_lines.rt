@@ -1,10 +1,7 @@
 //! Neighbours as a kernel dumped or announced them. `ip` 6.1 printed the lines; a backslash and a
 //! run of spaces in them is one space here, and a link is `if` and its index.
 
-use netlink_family::Joined;
-use netlink_lines::run;
-use netlink_route::RouteTables;
-use std::test::Fail;
+use crate::tests::shown::assert_lines;
 
 /// Neighbours as a kernel dumped or announced them, and what `ip` 6.1 prints for each.
 const NEIGHBOURS: [(&[u8], &str); 12] = [
@@ -109,13 +106,6 @@ const NEIGHBOURS: [(&[u8], &str); 12] = [
 
 /// Each neighbour has the line that `ip` prints for it.
 #[test]
-fn neighbours_have_the_lines_of_ip(rt: HostRuntime) -> Result<(), Fail> {
-    for (message, line) in NEIGHBOURS {
-        let mut reader = message;
-        let mut output: Vec<u8> = Vec::new(rt.alloc());
-        let ended = run::<Joined<RouteTables>, _, _>(rt.alloc(), &mut reader, &mut output);
-        assert!(rt; ended.is_ok());
-        assert_eq!(rt; output.as_slice(), line.as_bytes());
-    }
-    Ok(())
+fn neighbours_have_the_lines_of_ip(rt: HostRuntime) {
+    assert_lines(&rt, rt.alloc(), &NEIGHBOURS);
 }

@@ -1,10 +1,7 @@
 //! Neighbour tables and ids of network namespaces. `ip` 6.1 printed the lines; a backslash and a
 //! run of spaces in them is one space here, and a link is `if` and its index.
 
-use netlink_family::Joined;
-use netlink_lines::run;
-use netlink_route::RouteTables;
-use std::test::Fail;
+use crate::tests::shown::assert_lines;
 
 /// Neighbour tables as a kernel dumped them, ids of network namespaces, and what `ip` 6.1 prints for
 /// each.
@@ -101,13 +98,6 @@ const OTHERS: [(&[u8], &str); 8] = [
 
 /// Each neighbour table and each id has the line that `ip` prints for it.
 #[test]
-fn tables_and_ids_have_the_lines_of_ip(rt: HostRuntime) -> Result<(), Fail> {
-    for (message, line) in OTHERS {
-        let mut reader = message;
-        let mut output: Vec<u8> = Vec::new(rt.alloc());
-        let ended = run::<Joined<RouteTables>, _, _>(rt.alloc(), &mut reader, &mut output);
-        assert!(rt; ended.is_ok());
-        assert_eq!(rt; output.as_slice(), line.as_bytes());
-    }
-    Ok(())
+fn tables_and_ids_have_the_lines_of_ip(rt: HostRuntime) {
+    assert_lines(&rt, rt.alloc(), &OTHERS);
 }

@@ -1,9 +1,8 @@
 //! Pcap files made by hand, after pcap-savefile(5) and the page of `LINKTYPE_NETLINK`.
 
-use crate::tests::lines::ADDRESS;
-use netlink_family::Joined;
-use netlink_lines::{Fault, run};
-use netlink_route::RouteTables;
+use crate::tests::lines::{ADDRESS, LINE};
+use crate::tests::shown::{assert_run, ends_with, joined, joined_text, shown};
+use netlink_lines::Fault;
 use std::alloc::{AllocError, Global};
 use std::test::Fail;
 
@@ -17,8 +16,8 @@ const BIG: [u8; 24] = [
     0xa1, 0xb2, 0x3c, 0x4d, 0, 2, 0, 4, 0, 0, 0, 0, 0, 0, 0, 0, 0, 4, 0, 0, 0, 0, 0, 253,
 ];
 
-const LINE: &str =
-    "Deleted 4: if4 inet 10.0.0.1 peer 10.0.0.2/24 brd 10.0.0.255 scope link dynamic abcd\n";
+const CUT: &str =
+    "byte 148: failed deserializing NetlinkMessage caused by invalid netlink buffer length caused by invalid netlink buffer: length field says 60 the buffer is 59 bytes long\n";
 
 /// Returns the header of a packet of this number of bytes, of which some were captured.
 fn packet_header(captured: u8, original: u8, is_big: bool) -> [u8; 16] {
@@ -34,21 +33,8 @@ fn datagram_header(device: u8, family: u8) -> [u8; 16] {
     [0, 4, 3, device, 0, 0, 0, 0, 0, 0, 0, 0, 0, 0, 0, family]
 }
 
-/// Returns the lines for these parts one after another, and the error.
-fn shown(alloc: Global, parts: &[&[u8]]) -> Result<(Vec<u8>, Result<(), Fault>), AllocError> {
-    let mut input = Vec::new(alloc);
-    for part in parts {
-        input.extend_from_slice(part)?;
-    }
-    let mut reader = input.as_slice();
-    let mut output: Vec<u8> = Vec::new(alloc);
-    let result = run::<Joined<RouteTables>, _, _>(alloc, &mut reader, &mut output);
-    Ok((output, result))
-}
-
-/// Returns whether a whole datagram, one that ends early and a whole one have their lines, in a file
-/// with this header.
-fn have_lines(alloc: Global, header: &[u8], is_big: bool) -> Result<bool, AllocError> {
+/// Returns a file with this header and a whole datagram, one that ends early and a whole one.
+fn file(alloc: Global, header: &[u8], is_big: bool) -> Result<Vec<u8>, AllocError> {
     let whole = packet_header(76, 76, is_big);
     let cut = packet_header(75, 75, is_big);
     let of_route = datagram_header(56, 0);
@@ -64,58 +50,67 @@ fn have_lines(alloc: Global, header: &[u8], is_big: bool) -> Result<bool, AllocE
         &of_route,
         &ADDRESS,
     ];
-    let (output, result) = shown(alloc, &parts)?;
-    let wanted = format!(in alloc;
-        "{LINE}byte 148: failed deserializing NetlinkMessage caused by invalid netlink buffer length caused by invalid netlink buffer: length field says 60 the buffer is 59 bytes long\n{LINE}"
-    )?;
-    Ok(output.as_slice() == wanted.as_bytes() && result == Err(Fault::Malformed))
+    joined(alloc, &parts)
 }
 
 /// Both byte orders, and a message after a datagram that ends early.
 #[test]
 fn packets_have_lines(rt: HostRuntime) -> Result<(), Fail> {
-    assert!(rt; have_lines(rt.alloc(), &LITTLE, false)?);
-    assert!(rt; have_lines(rt.alloc(), &BIG, true)?);
+    let alloc = rt.alloc();
+    let wanted = joined_text(alloc, &[LINE, CUT, LINE])?;
+    let little = file(alloc, &LITTLE, false)?;
+    assert_run(&rt, alloc, &little, &wanted, Err(Fault::Malformed));
+    let big = file(alloc, &BIG, true)?;
+    assert_run(&rt, alloc, &big, &wanted, Err(Fault::Malformed));
     Ok(())
 }
 
-/// Packets that are no datagrams of route netlink, each with its line and whether that is an error.
+/// Packets that are no datagrams of route netlink: the size of each, the end of its device type, its
+/// family, its line, and whether that is an error.
+const OTHERS: [(u8, u8, u8, &str, bool); 3] = [
+    (76, 56, 16, "netlink family 16, 60 bytes\n", false),
+    (
+        76,
+        57,
+        0,
+        "byte 24: the device type of a packet is 825 instead of 824 (NETLINK)\n",
+        true,
+    ),
+    (
+        77,
+        56,
+        0,
+        "byte 24: of a packet of 77 bytes, 76 were captured\n",
+        true,
+    ),
+];
+
+/// Returns a file with a packet of this size, device type and family.
+fn other(alloc: Global, original: u8, device: u8, family: u8) -> Result<Vec<u8>, AllocError> {
+    let header = packet_header(76, original, false);
+    let datagram = datagram_header(device, family);
+    joined(alloc, &[&LITTLE, &header, &datagram, &ADDRESS])
+}
+
+/// Returns whether these bytes have this line, and end with an error or without.
+fn has_line(alloc: Global, input: &[u8], line: &str, is_malformed: bool) -> bool {
+    let (output, result) = shown(alloc, input);
+    output.as_slice() == line.as_bytes() && result.is_err() == is_malformed
+}
+
 #[test]
 fn other_packets_have_one_line(rt: HostRuntime) -> Result<(), Fail> {
-    let rows = [
-        (76, 56, 16, "netlink family 16, 60 bytes\n", false),
-        (
-            76,
-            57,
-            0,
-            "byte 24: the device type of a packet is 825 instead of 824 (NETLINK)\n",
-            true,
-        ),
-        (
-            77,
-            56,
-            0,
-            "byte 24: of a packet of 77 bytes, 76 were captured\n",
-            true,
-        ),
-    ];
-    for (original, device, family, line, is_malformed) in rows {
-        let header = packet_header(76, original, false);
-        let datagram = datagram_header(device, family);
-        let (output, result) = shown(rt.alloc(), &[&LITTLE, &header, &datagram, &ADDRESS])?;
-        assert_eq!(rt; output.as_slice(), line.as_bytes());
-        assert_eq!(rt; result.is_err(), is_malformed);
+    for (original, device, family, line, is_malformed) in OTHERS {
+        let input = other(rt.alloc(), original, device, family)?;
+        assert!(rt; has_line(rt.alloc(), &input, line, is_malformed), "{line}");
     }
     Ok(())
 }
 
 /// Returns whether a run over these parts writes nothing and ends with this error.
 fn is_rejected(alloc: Global, parts: &[&[u8]], error: &str) -> Result<bool, AllocError> {
-    let (output, result) = shown(alloc, parts)?;
-    match result {
-        Err(fault) => Ok(output.is_empty() && fault.to_string(alloc)?.as_str() == error),
-        Ok(()) => Ok(false),
-    }
+    let (output, result) = shown(alloc, &joined(alloc, parts)?);
+    Ok(output.is_empty() && ends_with(alloc, result, error)?)
 }
 
 /// Files that are not read, and the error of each.

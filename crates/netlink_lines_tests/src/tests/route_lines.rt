@@ -1,10 +1,7 @@
 //! Routes as a kernel dumped or announced them. `ip` 6.1 printed the lines; a backslash and a
 //! run of spaces in them is one space here, and a link is `if` and its index.
 
-use netlink_family::Joined;
-use netlink_lines::run;
-use netlink_route::RouteTables;
-use std::test::Fail;
+use crate::tests::shown::assert_lines;
 
 /// Routes as a kernel dumped or announced them, the last ones made by hand, and what `ip` 6.1 prints
 /// for each.
@@ -239,26 +236,12 @@ const LOOKED_UP: [(&[u8], &str); 2] = [
 
 /// Each route has the line that `ip` prints for it.
 #[test]
-fn routes_have_the_lines_of_ip(rt: HostRuntime) -> Result<(), Fail> {
-    for (message, line) in ROUTES {
-        let mut reader = message;
-        let mut output: Vec<u8> = Vec::new(rt.alloc());
-        let ended = run::<Joined<RouteTables>, _, _>(rt.alloc(), &mut reader, &mut output);
-        assert!(rt; ended.is_ok());
-        assert_eq!(rt; output.as_slice(), line.as_bytes());
-    }
-    Ok(())
+fn routes_have_the_lines_of_ip(rt: HostRuntime) {
+    assert_lines(&rt, rt.alloc(), &ROUTES);
 }
 
 /// Each route that was looked up has the line that `ip route get` prints for it.
 #[test]
-fn looked_up_routes_have_the_lines_of_ip(rt: HostRuntime) -> Result<(), Fail> {
-    for (message, line) in LOOKED_UP {
-        let mut reader = message;
-        let mut output: Vec<u8> = Vec::new(rt.alloc());
-        let ended = run::<Joined<RouteTables>, _, _>(rt.alloc(), &mut reader, &mut output);
-        assert!(rt; ended.is_ok());
-        assert_eq!(rt; output.as_slice(), line.as_bytes());
-    }
-    Ok(())
+fn looked_up_routes_have_the_lines_of_ip(rt: HostRuntime) {
+    assert_lines(&rt, rt.alloc(), &LOOKED_UP);
 }

@@ -1,16 +1,15 @@
 //! Runs over a reader and a writer, some of which fail.
 
-use crate::tests::lines::ADDRESS;
+use crate::tests::lines::{ADDRESS, LINE};
+use crate::tests::shown::{ends_with, joined, joined_text, push_lines};
 use netlink_family::Joined;
 use netlink_lines::laws::shows_once;
 use netlink_lines::{Fault, run};
 use netlink_route::RouteTables;
+use std::alloc::Global;
 use std::io;
 use std::io::{Read, Write};
 use std::test::Fail;
-
-const LINE: &str =
-    "Deleted 4: if4 inet 10.0.0.1 peer 10.0.0.2/24 brd 10.0.0.255 scope link dynamic abcd\n";
 
 /// A link whose payload is one byte shorter than its header.
 const SHORT: [u8; 31] = [
@@ -21,30 +20,26 @@ const SHORT: [u8; 31] = [
 const SHORT_LINE: &str =
     "byte 0: Failed to parse message with type 16: the payload has 15 bytes, fewer than its header of 16\n";
 
+const CUT: &str =
+    "byte 92: failed deserializing NetlinkMessage caused by invalid netlink buffer length caused by invalid netlink buffer: length field says 60 the buffer is 59 bytes long";
+
+/// Calls the law, which does nothing at run time.
+fn call_law() {
+    shows_once();
+}
+
 /// The lines before a truncated frame are written, also that of a malformed message, and the error
 /// names the byte at which the frame starts. Nothing is lost if the padding is missing.
 #[test]
 fn a_cut_frame_ends_the_lines(rt: HostRuntime) -> Result<(), Fail> {
     let alloc = rt.alloc();
-    let mut input = SHORT.to_vec(alloc)?;
-    let mut reader = input.as_slice();
     let mut output: Vec<u8> = Vec::new(alloc);
-    let result = run::<Joined<RouteTables>, _, _>(alloc, &mut reader, &mut output);
-    assert!(rt; result == Err(Fault::Malformed));
-    input.push(0)?;
-    input.extend_from_slice(&ADDRESS)?;
-    input.extend_from_slice(&ADDRESS[..59])?;
-    let mut reader = input.as_slice();
-    match run::<Joined<RouteTables>, _, _>(alloc, &mut reader, &mut output) {
-        Err(fault) => assert_eq!(rt;
-            fault.to_string(alloc)?.as_str(),
-            "byte 92: failed deserializing NetlinkMessage caused by invalid netlink buffer length caused by invalid netlink buffer: length field says 60 the buffer is 59 bytes long"
-        ),
-        Ok(()) => assert!(rt; false),
-    }
-    let wanted = format!(in alloc; "{SHORT_LINE}{SHORT_LINE}{LINE}")?;
+    assert!(rt; push_lines(alloc, &SHORT, &mut output) == Err(Fault::Malformed));
+    let input = joined(alloc, &[&SHORT, &[0], &ADDRESS, &ADDRESS[..59]])?;
+    assert!(rt; ends_with(alloc, push_lines(alloc, &input, &mut output), CUT)?);
+    let wanted = joined_text(alloc, &[SHORT_LINE, SHORT_LINE, LINE])?;
     assert_eq!(rt; output.as_slice(), wanted.as_bytes());
-    shows_once();
+    call_law();
     Ok(())
 }
 
@@ -68,12 +63,16 @@ impl Write for Broken {
     }
 }
 
+/// Returns how a run over these bytes ends if the writer fails.
+fn ended_writing(alloc: Global, input: &[u8]) -> Result<(), Fault> {
+    let mut reader = input;
+    run::<Joined<RouteTables>, _, _>(alloc, &mut reader, &mut Broken)
+}
+
 #[test]
 fn devices_that_fail(rt: HostRuntime) {
     let mut output: Vec<u8> = Vec::new(rt.alloc());
     let result = run::<Joined<RouteTables>, _, _>(rt.alloc(), &mut Broken, &mut output);
     assert!(rt; result == Err(Fault::Read) && output.is_empty());
-    let mut reader: &[u8] = &ADDRESS;
-    let result = run::<Joined<RouteTables>, _, _>(rt.alloc(), &mut reader, &mut Broken);
-    assert!(rt; result == Err(Fault::Write));
+    assert!(rt; ended_writing(rt.alloc(), &ADDRESS) == Err(Fault::Write));
 }

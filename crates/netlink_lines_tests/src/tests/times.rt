@@ -1,14 +1,9 @@
 //! Times as `rtmon` writes them (iproute2's libnetlink.h and rtmon.c), and the lines after them.
 
-use crate::tests::lines::ADDRESS;
-use netlink_family::Joined;
-use netlink_lines::{Fault, run};
-use netlink_route::RouteTables;
-use std::alloc::{AllocError, Global};
+use crate::tests::lines::{ADDRESS, LINE};
+use crate::tests::shown::{assert_run, joined, joined_text};
+use netlink_lines::Fault;
 use std::test::Fail;
-
-const LINE: &str =
-    "Deleted 4: if4 inet 10.0.0.1 peer 10.0.0.2/24 brd 10.0.0.255 scope link dynamic abcd\n";
 
 /// 1,700,000,000 seconds and 42 microseconds; with the flag NLM_F_DUMP_INTR, which has no effect.
 const FIRST: [u8; 24] = [
@@ -40,47 +35,33 @@ const LONG: [u8; 28] = [
 /// A noop of an interrupted dump.
 const NOOP: [u8; 16] = [16, 0, 0, 0, 1, 0, 0x10, 0, 0, 0, 0, 0, 0, 0, 0, 0];
 
-/// Returns messages, one after another.
-fn joined(alloc: Global, messages: &[&[u8]]) -> Result<Vec<u8>, AllocError> {
-    let mut input = Vec::new(alloc);
-    for message in messages {
-        input.extend_from_slice(message)?;
-    }
-    Ok(input)
-}
+/// Messages, and the lines that all of them have.
+const ROWS: [(&[&[u8]], &[&str]); 5] = [
+    (
+        &[&FIRST, &ADDRESS, &ADDRESS],
+        &["[1700000000.000042] ", LINE, LINE],
+    ),
+    (&[&FIRST, &SECOND, &ADDRESS], &["[1.999999] ", LINE]),
+    (
+        &[&LAST, &ADDRESS, &FIRST],
+        &["[4294967295.4294967295] ", LINE],
+    ),
+    (
+        &[&ADDRESS, &SECOND, &NOOP, &ADDRESS],
+        &[LINE, "[1.999999] interrupted\nnoop\n", LINE],
+    ),
+    (&[&FIRST, &SECOND], &[]),
+];
 
 /// A time precedes the first line of the next message alone. Of two times, the later one counts, and
 /// at the end of the input a time has no effect.
 #[test]
 fn a_time_precedes_the_next_line(rt: HostRuntime) -> Result<(), Fail> {
     let alloc = rt.alloc();
-    let rows: [(&[&[u8]], &[&str]); 5] = [
-        (
-            &[&FIRST, &ADDRESS, &ADDRESS],
-            &["[1700000000.000042] ", LINE, LINE],
-        ),
-        (&[&FIRST, &SECOND, &ADDRESS], &["[1.999999] ", LINE]),
-        (
-            &[&LAST, &ADDRESS, &FIRST],
-            &["[4294967295.4294967295] ", LINE],
-        ),
-        (
-            &[&ADDRESS, &SECOND, &NOOP, &ADDRESS],
-            &[LINE, "[1.999999] interrupted\nnoop\n", LINE],
-        ),
-        (&[&FIRST, &SECOND], &[]),
-    ];
-    for (messages, lines) in rows {
+    for (messages, lines) in ROWS {
         let input = joined(alloc, messages)?;
-        let mut reader = input.as_slice();
-        let mut output: Vec<u8> = Vec::new(alloc);
-        let ended = run::<Joined<RouteTables>, _, _>(alloc, &mut reader, &mut output);
-        assert!(rt; ended.is_ok());
-        let mut wanted = String::new(alloc);
-        for line in lines {
-            wanted.push_str(line)?;
-        }
-        assert_eq!(rt; output.as_slice(), wanted.as_bytes());
+        let wanted = joined_text(alloc, lines)?;
+        assert_run(&rt, alloc, &input, &wanted, Ok(()));
     }
     Ok(())
 }
@@ -88,14 +69,9 @@ fn a_time_precedes_the_next_line(rt: HostRuntime) -> Result<(), Fail> {
 /// A message of the type of a time with another size is malformed. Its line, too, follows a time.
 #[test]
 fn a_time_has_8_bytes(rt: HostRuntime) -> Result<(), Fail> {
-    let alloc = rt.alloc();
-    let input = joined(alloc, &[&SHORT, &SECOND, &LONG, &NOOP])?;
-    let mut reader = input.as_slice();
-    let mut output: Vec<u8> = Vec::new(alloc);
-    let result = run::<Joined<RouteTables>, _, _>(alloc, &mut reader, &mut output);
-    assert!(rt; result == Err(Fault::Malformed));
+    let input = joined(rt.alloc(), &[&SHORT, &SECOND, &LONG, &NOOP])?;
     let wanted =
         "byte 0: Failed to parse message with type 15: the payload has 4 bytes instead of 8\n[1.999999] byte 44: Failed to parse message with type 15: the payload has 12 bytes instead of 8\ninterrupted\nnoop\n";
-    assert_eq!(rt; output.as_slice(), wanted.as_bytes());
+    assert_run(&rt, rt.alloc(), &input, wanted, Err(Fault::Malformed));
     Ok(())
 }
