@@ -173,7 +173,7 @@ pub fn found(case: &str, size: usize, bytes: &[u8], out: &mut [u8]) -> Found {
             true => found.item(0, 16, 0),
             false => attribute(it, &mut found),
         }),
-        "messages" | "reader" | "dump" => frames(bytes, |frame| {
+        "messages" | "read_each" | "dump" => frames(bytes, |frame| {
             let (kind, size, payload) = unsafe { message(frame) };
             found.item(kind, at(payload), size);
         }),

@@ -18,7 +18,7 @@ const SIZES: [usize; 4] = [4, 64, 1024, 32768];
 /// The numbers of attributes, or of frames in a datagram.
 const COUNTS: [usize; 3] = [10, 1000, 10000];
 
-/// The numbers of messages for a reader, whose first message costs most.
+/// The numbers of messages of a walk, whose first message costs most.
 const READS: [usize; 6] = [1, 2, 3, 10, 1000, 10000];
 
 /// The numbers of messages of captured dumps.
@@ -84,7 +84,7 @@ fn input(case: &str, size: usize) -> Vec<u8> {
             bytes.pop();
             bytes
         }
-        "split" | "messages" | "reader" => datagram(size),
+        "split" | "messages" | "read_each" => datagram(size),
         "table" => message(size),
         _ => block(size),
     }
@@ -119,9 +119,9 @@ fn once(case: &str, library: &str, size: usize, bytes: &[u8], out: &mut [u8]) ->
         ("table", "libmnl") => libmnl::table(bytes, size, out),
         ("messages", "ours") => ours::messages(bytes),
         ("messages", "libmnl") => libmnl::messages(bytes),
-        ("reader", "ours") => ours::reader(bytes),
-        ("reader", "libmnl") => libmnl::messages(bytes),
-        ("dump", "ours") => dump(size).iter().map(|it| ours::reader(it)).sum(),
+        ("read_each", "ours") => ours::read_each(bytes),
+        ("read_each", "libmnl") => libmnl::messages(bytes),
+        ("dump", "ours") => dump(size).iter().map(|it| ours::messages(it)).sum(),
         ("dump", "libmnl") => dump(size).iter().map(|it| libmnl::messages(it)).sum(),
         _ => panic!("no such case: {case} {library}"),
     }
@@ -158,8 +158,8 @@ fn print_cases() {
         ("normalise", "ours rust libmnl", &COUNTS[..]),
         ("split", "ours rust libmnl", &COUNTS[..]),
         ("table", "ours libmnl", &COUNTS[..]),
-        ("messages", "ours libmnl", &COUNTS[..]),
-        ("reader", "ours libmnl", &READS[..]),
+        ("messages", "ours libmnl", &READS[..]),
+        ("read_each", "ours libmnl", &COUNTS[..]),
         ("dump", "ours libmnl", &DUMPS[..]),
     ] {
         for size in sizes {

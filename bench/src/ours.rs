@@ -46,7 +46,7 @@ struct Message {
 }
 
 #[repr(C)]
-struct Messages {
+struct MessageBatch {
     cursor: usize,
     count: usize,
     item: [Message; 16],
@@ -59,14 +59,14 @@ extern "C" {
     fn nlp_frames_next(bytes: *const u8, len: usize, cursor: *mut usize, item: *mut Part, fault: *mut Fault) -> u32;
     fn nlp_attrs_next(bytes: *const u8, len: usize, cursor: *mut usize, item: *mut Attr, fault: *mut Fault) -> u32;
     fn nlp_attrs_table(bytes: *const u8, len: usize, table: *mut Attr, count: usize, fault: *mut Fault) -> u32;
-    fn nlp_messages_next(
+    fn nlp_message_read(
         bytes: *const u8,
         len: usize,
         cursor: *mut usize,
         item: *mut Message,
         fault: *mut Fault,
     ) -> u32;
-    fn nlp_messages_fill(bytes: *const u8, len: usize, batch: *mut Messages, fault: *mut Fault) -> u32;
+    fn nlp_messages_fill(bytes: *const u8, len: usize, batch: *mut MessageBatch, fault: *mut Fault) -> u32;
     fn nlp_attr_put_u32(buffer: *mut u8, capacity: usize, cursor: *mut usize, kind: u16, value: u32) -> u32;
     fn nlp_attrs_normalize(
         bytes: *const u8,
@@ -179,13 +179,54 @@ pub fn table(frame: &[u8], count: usize, out: &mut [u8]) -> usize {
     filled(&frame[16..], count, out)[count - 1].size
 }
 
+/// The walk of the header: its inline functions, in Rust.
+struct Messages {
+    bytes: *const u8,
+    len: usize,
+    batch: MessageBatch,
+    next: usize,
+    result: u32,
+    fault: Fault,
+}
+
+/// `nlp_messages_begin`: leaves the messages and the fault as they are.
+unsafe fn messages_begin(walk: *mut Messages, bytes: &[u8]) {
+    addr_of_mut!((*walk).bytes).write(bytes.as_ptr());
+    addr_of_mut!((*walk).len).write(bytes.len());
+    addr_of_mut!((*walk).batch.cursor).write(0);
+    addr_of_mut!((*walk).batch.count).write(0);
+    addr_of_mut!((*walk).next).write(0);
+    addr_of_mut!((*walk).result).write(0);
+}
+
+/// `nlp_messages_next`.
+#[inline(always)]
+unsafe fn messages_next(walk: *mut Messages) -> *const Message {
+    if (*walk).next == (*walk).batch.count {
+        (*walk).result = if (*walk).batch.cursor >= (*walk).len {
+            32
+        } else {
+            let (batch, fault) = (addr_of_mut!((*walk).batch), addr_of_mut!((*walk).fault));
+            nlp_messages_fill((*walk).bytes, (*walk).len, batch, fault)
+        };
+        if (*walk).result != 0 {
+            return std::ptr::null();
+        }
+        (*walk).next = 0;
+    }
+    let at = (*walk).next;
+    (*walk).next = at + 1;
+    addr_of_mut!((*walk).batch.item).cast::<Message>().add(at)
+}
+
 /// Calls `see` for each message of a datagram.
 fn each_message(bytes: &[u8], mut see: impl FnMut(&Message)) {
-    let mut at = 0;
-    let mut item = Message::default();
-    let mut fault = Fault::default();
-    while unsafe { nlp_messages_next(bytes.as_ptr(), bytes.len(), &mut at, &mut item, &mut fault) } == 0 {
-        see(&item);
+    let mut walk = MaybeUninit::<Messages>::uninit();
+    unsafe {
+        messages_begin(walk.as_mut_ptr(), bytes);
+        while let Some(message) = messages_next(walk.as_mut_ptr()).as_ref() {
+            see(message);
+        }
     }
 }
 
@@ -195,58 +236,17 @@ pub fn messages(bytes: &[u8]) -> usize {
     sum
 }
 
-/// The reader of the header: its inline functions, in Rust.
-struct Reader {
-    bytes: *const u8,
-    len: usize,
-    batch: Messages,
-    next: usize,
-    result: u32,
-    fault: Fault,
-}
-
-/// `nlp_reader_begin`: leaves the messages and the fault as they are.
-unsafe fn reader_begin(reader: *mut Reader, bytes: &[u8]) {
-    addr_of_mut!((*reader).bytes).write(bytes.as_ptr());
-    addr_of_mut!((*reader).len).write(bytes.len());
-    addr_of_mut!((*reader).batch.cursor).write(0);
-    addr_of_mut!((*reader).batch.count).write(0);
-    addr_of_mut!((*reader).next).write(0);
-    addr_of_mut!((*reader).result).write(0);
-}
-
-/// `nlp_reader_next`.
-#[inline(always)]
-unsafe fn reader_next(reader: *mut Reader) -> *const Message {
-    if (*reader).next == (*reader).batch.count {
-        (*reader).result = if (*reader).batch.cursor >= (*reader).len {
-            32
-        } else {
-            let (batch, fault) = (addr_of_mut!((*reader).batch), addr_of_mut!((*reader).fault));
-            nlp_messages_fill((*reader).bytes, (*reader).len, batch, fault)
-        };
-        if (*reader).result != 0 {
-            return std::ptr::null();
-        }
-        (*reader).next = 0;
-    }
-    let at = (*reader).next;
-    (*reader).next = at + 1;
-    addr_of_mut!((*reader).batch.item).cast::<Message>().add(at)
-}
-
-/// Calls `see` for each message of a datagram.
+/// Calls `see` for each message of a datagram, with one call of the library for each.
 fn each_read(bytes: &[u8], mut see: impl FnMut(&Message)) {
-    let mut reader = MaybeUninit::<Reader>::uninit();
-    unsafe {
-        reader_begin(reader.as_mut_ptr(), bytes);
-        while let Some(message) = reader_next(reader.as_mut_ptr()).as_ref() {
-            see(message);
-        }
+    let mut at = 0;
+    let mut item = Message::default();
+    let mut fault = Fault::default();
+    while unsafe { nlp_message_read(bytes.as_ptr(), bytes.len(), &mut at, &mut item, &mut fault) } == 0 {
+        see(&item);
     }
 }
 
-pub fn reader(bytes: &[u8]) -> usize {
+pub fn read_each(bytes: &[u8]) -> usize {
     let mut sum = 0;
     each_read(bytes, |it| sum += it.header.message_type as usize + it.payload.size);
     sum
@@ -272,10 +272,10 @@ pub fn found(case: &str, size: usize, bytes: &[u8], out: &mut [u8]) -> Found {
         "walk" => attributes(bytes, |it| found.item(it.kind, it.offset, it.size)),
         "split" => frames(bytes, |it| found.item(0, it.offset, it.size)),
         "table" => filled(&bytes[16..], size, out).iter().for_each(|it| found.item(it.kind, 16 + it.offset, it.size)),
-        "messages" => each_message(bytes, |it| found.item(it.header.message_type, it.payload.offset, it.payload.size)),
-        "reader" | "dump" => {
-            each_read(bytes, |it| found.item(it.header.message_type, it.payload.offset, it.payload.size))
+        "messages" | "dump" => {
+            each_message(bytes, |it| found.item(it.header.message_type, it.payload.offset, it.payload.size))
         }
+        "read_each" => each_read(bytes, |it| found.item(it.header.message_type, it.payload.offset, it.payload.size)),
         _ => panic!("no such case: {case}"),
     }
     found

@@ -33,10 +33,10 @@ static int print_address(const uint8_t *bytes, const struct nlp_message *message
  * message, or -1. */
 static int run(const uint8_t *bytes, size_t len)
 {
-    struct nlp_reader reader;
+    struct nlp_messages walk;
     const struct nlp_message *message;
-    nlp_reader_begin(&reader, bytes, len);
-    while ((message = nlp_reader_next(&reader)) != NULL) {
+    nlp_messages_begin(&walk, bytes, len);
+    while ((message = nlp_messages_next(&walk)) != NULL) {
         if (message->header.message_type == NLMSG_DONE)
             return 0;
         if (message->header.message_type == NLMSG_ERROR)
@@ -44,7 +44,7 @@ static int run(const uint8_t *bytes, size_t len)
         if (message->header.message_type == RTM_NEWADDR && print_address(bytes, message) != 0)
             return -1;
     }
-    return reader.result == NLP_END ? 1 : -1;
+    return walk.result == NLP_END ? 1 : -1;
 }
 
 int main(int count, char **names)

@@ -34,7 +34,7 @@
  *
  * If you know libmnl:
  *
- *   mnl_nlmsg_ok, mnl_nlmsg_next         nlp_reader_next, or nlp_messages_next
+ *   mnl_nlmsg_ok, mnl_nlmsg_next         nlp_messages_next, after nlp_messages_begin
  *   nlh->nlmsg_type, nlh->nlmsg_flags    message.header.message_type, message.header.flags
  *   mnl_nlmsg_get_payload                bytes + message.payload.offset, message.payload.size
  *   mnl_attr_parse with a callback       nlp_message_attrs, and nlp_attrs_table over that block
@@ -189,13 +189,13 @@ struct nlp_message {
 };
 
 /* The most messages that nlp_messages_fill reads in one call. */
-#define NLP_MESSAGES 16
+#define NLP_BATCH 16
 
 /* Several messages of a datagram, and where the next one starts. */
-struct nlp_messages {
+struct nlp_message_batch {
     size_t cursor; /* the offset of the next message; set it to 0 before the first call */
     size_t count;  /* how many entries of `item` are messages that were read */
-    struct nlp_message item[NLP_MESSAGES];
+    struct nlp_message item[NLP_BATCH];
 };
 
 /* The body of an error message. */
@@ -233,8 +233,9 @@ struct nlp_reply {
 
 /* Walks a datagram of route netlink: its messages, and the attributes after a struct ifinfomsg:
  *
- *     nlp_reader_begin(&reader, bytes, len);
- *     while ((message = nlp_reader_next(&reader)) != NULL)
+ *     struct nlp_messages walk;
+ *     nlp_messages_begin(&walk, bytes, len);
+ *     while ((message = nlp_messages_next(&walk)) != NULL)
  *         if (message->header.message_type == RTM_NEWLINK
  *             && nlp_message_attrs(message, sizeof(struct ifinfomsg), &part) == NLP_OK) {
  *             const uint8_t *block = bytes + part.offset;
@@ -243,8 +244,8 @@ struct nlp_reply {
  *                 use(mtu);
  *         }
  *
- * c/examples/rtnl-link-dump.c and addresses.c are complete programs of this kind. The reader is at the end of
- * this header, in plain C over nlp_messages_fill. */
+ * c/examples/rtnl-link-dump.c and addresses.c are complete programs of this kind. nlp_messages_next is at the
+ * end of this header: it is plain C over nlp_messages_fill, which is proved. */
 
 /* Reads the message at `*cursor`; set it to 0 before the first call. Returns NLP_OK, with the header and the
  * payload in `*item`, and the cursor moved past the message and its padding; NLP_END; or NLP_FRAME_SHORT,
@@ -252,23 +253,23 @@ struct nlp_reply {
  * Proved: the bytes at the old cursor are a frame with this header and this payload, its padding, and then the
  * bytes at the new cursor. NLP_END if and only if the cursor is at or past the end. An error is that of the
  * bytes starting at the cursor. */
-uint32_t nlp_messages_next(const uint8_t *bytes, size_t len, size_t *cursor, struct nlp_message *item,
-                           struct nlp_fault *fault) NLP_CHECKED(3, 4, 5);
+uint32_t nlp_message_read(const uint8_t *bytes, size_t len, size_t *cursor, struct nlp_message *item,
+                          struct nlp_fault *fault) NLP_CHECKED(3, 4, 5);
 
 /* Reads the messages at `batch->cursor` and after it; set it to 0 before the first call. Returns NLP_OK, with
  * `batch->count` messages in `batch->item`, as many as there are, up to 16, and the cursor moved past the last
  * of them and its padding; NLP_END; or NLP_FRAME_SHORT, _CUT or _LENGTH, once, with the cursor moved to the
  * end. So an error after some messages is returned by the call after the one that returns these messages.
- * nlp_reader_next returns the messages one by one, with one call of this function for 16.
- * Proved: the messages are those that nlp_messages_next would read, in their order, at least one of them, and
+ * nlp_messages_next returns the messages one by one, with one call of this function for 16.
+ * Proved: the messages are those that nlp_message_read would read, in their order, at least one of them, and
  * fewer than 16 only if no complete frame is at the new cursor. The entries after them are unchanged. NLP_END
  * if and only if the cursor is at or past the end. An error is that of the bytes starting at the cursor. */
-uint32_t nlp_messages_fill(const uint8_t *bytes, size_t len, struct nlp_messages *batch,
+uint32_t nlp_messages_fill(const uint8_t *bytes, size_t len, struct nlp_message_batch *batch,
                            struct nlp_fault *fault) NLP_CHECKED(3, 4);
 
 /* Locates the attributes of a message: what is after a fixed header of `fixed_len` bytes and its padding
  * (struct ifinfomsg, genlmsghdr). NLP_OK; NLP_WRONG_SIZE if the payload has fewer than `fixed_len` bytes; or
- * NLP_NO_PLACE if payload.offset + payload.size does not fit in a size_t, which nlp_messages_next never
+ * NLP_NO_PLACE if payload.offset + payload.size does not fit in a size_t, which nlp_message_read never
  * writes. The offset is from the start of the datagram.
  * Proved: which result, and that the part is the rest of the payload, or is empty if the payload ends
  * within the padding. */
@@ -286,7 +287,7 @@ uint32_t nlp_message_attrs(const struct nlp_message *message, size_t fixed_len, 
 uint32_t nlp_attrs_next(const uint8_t *bytes, size_t len, size_t *cursor, struct nlp_attr *item,
                         struct nlp_fault *fault) NLP_CHECKED(3, 4, 5);
 
-/* Reads the frame at `*cursor`, as nlp_messages_next reads a message; `*item` is the frame, without its padding.
+/* Reads the frame at `*cursor`, as nlp_message_read reads a message; `*item` is the frame, without its padding.
  * Proved: the same. */
 uint32_t nlp_frames_next(const uint8_t *bytes, size_t len, size_t *cursor, struct nlp_part *item,
                          struct nlp_fault *fault) NLP_CHECKED(3, 4, 5);
@@ -603,15 +604,15 @@ static inline uint64_t nlp_u64(const uint8_t *value)
 /* ---- a fault that may be NULL */
 
 /* NAME_opt does what NAME does. Its fault may be NULL. */
-static inline NLP_RESULT uint32_t nlp_messages_next_opt(const uint8_t *bytes, size_t len, size_t *cursor,
-                                                        struct nlp_message *item, struct nlp_fault *fault)
+static inline NLP_RESULT uint32_t nlp_message_read_opt(const uint8_t *bytes, size_t len, size_t *cursor,
+                                                       struct nlp_message *item, struct nlp_fault *fault)
 {
     struct nlp_fault own;
-    return nlp_messages_next(bytes, len, cursor, item, fault == NULL ? &own : fault);
+    return nlp_message_read(bytes, len, cursor, item, fault == NULL ? &own : fault);
 }
 
 static inline NLP_RESULT uint32_t nlp_messages_fill_opt(const uint8_t *bytes, size_t len,
-                                                        struct nlp_messages *batch, struct nlp_fault *fault)
+                                                        struct nlp_message_batch *batch, struct nlp_fault *fault)
 {
     struct nlp_fault own;
     return nlp_messages_fill(bytes, len, batch, fault == NULL ? &own : fault);
@@ -726,62 +727,63 @@ static inline NLP_RESULT uint32_t nlp_describe_opt(const uint8_t *bytes, size_t 
     return nlp_describe(bytes, len, buffer, capacity, size, fault == NULL ? &own : fault);
 }
 
-/* ---- a reader, which returns the messages of a datagram one by one */
+/* ---- the messages of a datagram, one by one */
 
-/* Walks a datagram, with one call of nlp_messages_fill for 16 messages:
+/* A walk over the messages of a datagram, with one call of nlp_messages_fill for 16 of them:
  *
- *     struct nlp_reader reader;
+ *     struct nlp_messages walk;
  *     const struct nlp_message *message;
- *     nlp_reader_begin(&reader, bytes, len);
- *     while ((message = nlp_reader_next(&reader)) != NULL)
+ *     nlp_messages_begin(&walk, bytes, len);
+ *     while ((message = nlp_messages_next(&walk)) != NULL)
  *         use(message);
- *     if (reader.result != NLP_END)
- *         the bytes after the last message are malformed: reader.fault */
-struct nlp_reader {
+ *     if (walk.result != NLP_END)
+ *         the bytes after the last message are malformed: walk.fault */
+struct nlp_messages {
     const uint8_t *bytes;
     size_t len;
-    struct nlp_messages batch;
+    struct nlp_message_batch batch;
     size_t next;            /* the entry of batch.item that is returned next */
     uint32_t result;        /* after NULL: NLP_END, or NLP_FRAME_SHORT, _CUT or _LENGTH; else NLP_OK */
     struct nlp_fault fault; /* the numbers of that error */
 };
 
-/* Begins to read a datagram. */
-static inline void nlp_reader_begin(struct nlp_reader *reader, const uint8_t *bytes, size_t len)
+/* Begins the walk at the first message. */
+static inline void nlp_messages_begin(struct nlp_messages *walk, const uint8_t *bytes, size_t len)
 {
-    reader->bytes = bytes;
-    reader->len = len;
-    reader->batch.cursor = 0;
-    reader->batch.count = 0;
-    reader->next = 0;
-    reader->result = NLP_OK;
+    walk->bytes = bytes;
+    walk->len = len;
+    walk->batch.cursor = 0;
+    walk->batch.count = 0;
+    walk->next = 0;
+    walk->result = NLP_OK;
 }
 
-/* Returns the next message, or NULL at the end and at an error, which are those of nlp_messages_next. The
- * message is valid until the next call for this reader. */
-static inline NLP_RESULT const struct nlp_message *nlp_reader_next(struct nlp_reader *reader)
+/* Returns the next message, or NULL at the end and at an error, which are those of nlp_message_read. The message
+ * is valid until the next call for this walk. This function is plain C over nlp_messages_fill: nlp_messages_fill is
+ * proved, and this function is only tested. */
+static inline NLP_RESULT const struct nlp_message *nlp_messages_next(struct nlp_messages *walk)
 {
-    if (reader->next == reader->batch.count) {
-        if (reader->batch.cursor >= reader->len)
-            reader->result = NLP_END;
+    if (walk->next == walk->batch.count) {
+        if (walk->batch.cursor >= walk->len)
+            walk->result = NLP_END;
         else
-            reader->result = nlp_messages_fill(reader->bytes, reader->len, &reader->batch, &reader->fault);
-        if (reader->result != NLP_OK)
+            walk->result = nlp_messages_fill(walk->bytes, walk->len, &walk->batch, &walk->fault);
+        if (walk->result != NLP_OK)
             return NULL;
-        reader->next = 0;
+        walk->next = 0;
     }
-    return &reader->batch.item[reader->next++];
+    return &walk->batch.item[walk->next++];
 }
 
 /* ---- messages of an answer */
 
 /* Reads the header and locates the payload of what nlp_replies_next wrote for the same bytes, as
- * nlp_messages_next does for a frame: NLP_OK, because that frame is complete. */
+ * nlp_message_read does for a frame: NLP_OK, because that frame is complete. */
 static inline uint32_t nlp_reply_message(const uint8_t *bytes, const struct nlp_reply *reply,
                                          struct nlp_message *message)
 {
     size_t at = reply->frame.offset;
-    return nlp_messages_next_opt(bytes, at + reply->frame.size, &at, message, NULL);
+    return nlp_message_read_opt(bytes, at + reply->frame.size, &at, message, NULL);
 }
 
 /* ---- a writer, which remembers a failure */

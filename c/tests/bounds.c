@@ -129,7 +129,7 @@ static bool reads_message(const uint8_t *bytes, size_t len, size_t at)
     struct nlp_message item = { { 1, 2, 3, 4, 5 }, { 6, 7 } }, expected = item;
     size_t next = at, cursor = at;
     uint32_t result = message_step(bytes, len, &next, &expected, &wanted);
-    return nlp_messages_next(bytes, len, &cursor, &item, &fault) == result && cursor == next && same_fault(&fault, &wanted)
+    return nlp_message_read(bytes, len, &cursor, &item, &fault) == result && cursor == next && same_fault(&fault, &wanted)
         && memcmp(&item, &expected, sizeof item) == 0;
 }
 
@@ -137,7 +137,7 @@ static bool reads_message(const uint8_t *bytes, size_t len, size_t at)
 static uint32_t fills_batch(const uint8_t *bytes, size_t len, size_t *at, bool at_end, bool *holds)
 {
     struct nlp_fault fault = { 99, 98, 97, 96 }, wanted = fault;
-    struct nlp_messages *batch = place(1, sizeof *batch, at_end), expected;
+    struct nlp_message_batch *batch = place(1, sizeof *batch, at_end), expected;
     memset(batch, 0xee, sizeof *batch);
     batch->cursor = *at;
     expected = *batch;

@@ -252,16 +252,16 @@ static void messages(void)
     struct nlp_fault fault = { 0, 0, 0, 0 };
     struct nlp_message m = { { 1, 1, 1, 1, 1 }, { 1, 1 } };
     size_t at = 0;
-    expect("no message in no bytes", nlp_messages_next(NULL, 0, &at, &m, &fault) == NLP_END && at == 0 && is_message(&m, 1, 1, 1, 1));
-    expect("a truncated message", nlp_messages_next(bytes, 16, &at, &m, &fault) == NLP_FRAME_CUT && at == 16 && is_fault(&fault, 10, 16, 17) && is_message(&m, 1, 1, 1, 1));
+    expect("no message in no bytes", nlp_message_read(NULL, 0, &at, &m, &fault) == NLP_END && at == 0 && is_message(&m, 1, 1, 1, 1));
+    expect("a truncated message", nlp_message_read(bytes, 16, &at, &m, &fault) == NLP_FRAME_CUT && at == 16 && is_fault(&fault, 10, 16, 17) && is_message(&m, 1, 1, 1, 1));
     at = 0;
-    expect("the first message", nlp_messages_next(bytes, sizeof bytes, &at, &m, &fault) == NLP_OK && at == 20 && is_message(&m, 17, 18, 16, 1)
+    expect("the first message", nlp_message_read(bytes, sizeof bytes, &at, &m, &fault) == NLP_OK && at == 20 && is_message(&m, 17, 18, 16, 1)
         && m.header.flags == 0x301 && m.header.sequence_number == 7 && m.header.port_number == 9);
-    expect("the second message", nlp_messages_next(bytes, sizeof bytes, &at, &m, &fault) == NLP_OK && at == 36 && is_message(&m, 16, 20, 36, 0));
-    expect("no third message", nlp_messages_next(bytes, sizeof bytes, &at, &m, &fault) == NLP_FRAME_SHORT && at == 40 && is_fault(&fault, 9, 4, 0) && is_message(&m, 16, 20, 36, 0));
-    expect("the end of the messages", nlp_messages_next(bytes, sizeof bytes, &at, &m, &fault) == NLP_END && at == 40);
+    expect("the second message", nlp_message_read(bytes, sizeof bytes, &at, &m, &fault) == NLP_OK && at == 36 && is_message(&m, 16, 20, 36, 0));
+    expect("no third message", nlp_message_read(bytes, sizeof bytes, &at, &m, &fault) == NLP_FRAME_SHORT && at == 40 && is_fault(&fault, 9, 4, 0) && is_message(&m, 16, 20, 36, 0));
+    expect("the end of the messages", nlp_message_read(bytes, sizeof bytes, &at, &m, &fault) == NLP_END && at == 40);
     at = SIZE_MAX;
-    expect("messages past the end", nlp_messages_next(bytes, sizeof bytes, &at, &m, &fault) == NLP_END && at == SIZE_MAX);
+    expect("messages past the end", nlp_message_read(bytes, sizeof bytes, &at, &m, &fault) == NLP_END && at == SIZE_MAX);
 }
 
 /* The same messages in one call. */
@@ -270,7 +270,7 @@ static void batches(void)
     static const uint8_t bytes[40] = { 17, 0, 0, 0, 18, 0, 1, 3, 7, 0, 0, 0, 9, 0, 0, 0, 0xbb, 0, 0, 0, 16, 0, 0, 0, 20, 0, 0, 0, 0, 0, 0, 0, 0, 0, 0, 0, 1, 2, 3, 4 };
     uint8_t many[17 * 16], damaged[40];
     struct nlp_fault fault = { 0, 0, 0, 0 };
-    struct nlp_messages all = { 0, 77, { { { 0, 0, 0, 0, 0 }, { 0, 0 } } } };
+    struct nlp_message_batch all = { 0, 77, { { { 0, 0, 0, 0, 0 }, { 0, 0 } } } };
     struct nlp_message *m = all.item;
     m[1] = m[2] = m[15] = (struct nlp_message){ { 1, 1, 1, 1, 1 }, { 1, 1 } };
     expect("no messages in no bytes", nlp_messages_fill(NULL, 0, &all, &fault) == NLP_END && all.cursor == 0 && all.count == 77);

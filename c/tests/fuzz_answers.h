@@ -25,7 +25,7 @@ static void walk_frames(const struct input *in)
         struct nlp_message expected = *item = no_message;
         *at = start;
         result = message_step(in->bytes, in->len, &next, &expected, &wanted);
-        RESULT(OPT(nlp_messages_next, in->bytes, in->len, at, item), result);
+        RESULT(OPT(nlp_message_read, in->bytes, in->len, at, item), result);
         CHECK(*at == next);
         CHECK(same_header(&item->header, &expected.header));
         CHECK(same_part(&item->payload, &expected.payload));
@@ -45,7 +45,7 @@ static void walk_frames(const struct input *in)
 /* The same messages, up to 16 in a call. */
 static void walk_batches(const struct input *in)
 {
-    struct nlp_messages *batch = place(EXTRA, sizeof *batch), expected;
+    struct nlp_message_batch *batch = place(EXTRA, sizeof *batch), expected;
     uint32_t result;
     memset(batch, 0xee, sizeof *batch);
     batch->cursor = in->args[0] < 192 ? 0 : near(in->args[1], in->len);
@@ -62,21 +62,21 @@ static void walk_batches(const struct input *in)
 /* And one by one. */
 static void read_messages(const struct input *in)
 {
-    struct nlp_reader *reader = place(EXTRA, sizeof *reader);
+    struct nlp_messages *walk = place(EXTRA, sizeof *walk);
     size_t at = 0;
     uint32_t result;
-    memset(reader, 0xee, sizeof *reader);
-    nlp_reader_begin(reader, in->bytes, in->len);
+    memset(walk, 0xee, sizeof *walk);
+    nlp_messages_begin(walk, in->bytes, in->len);
     do {
-        struct nlp_fault wanted = reader->fault = no_fault;
+        struct nlp_fault wanted = walk->fault = no_fault;
         struct nlp_message expected = no_message;
         result = message_step(in->bytes, in->len, &at, &expected, &wanted);
-        const struct nlp_message *item = nlp_reader_next(reader);
+        const struct nlp_message *item = nlp_messages_next(walk);
         CHECK((item != NULL) == (result == NLP_OK));
-        RESULT(reader->result, result);
+        RESULT(walk->result, result);
         CHECK(item == NULL || same_header(&item->header, &expected.header));
         CHECK(item == NULL || same_part(&item->payload, &expected.payload));
-        CHECK(same_fault(&reader->fault, &wanted));
+        CHECK(same_fault(&walk->fault, &wanted));
     } while (result != NLP_END);
 }
 

@@ -34,7 +34,7 @@ static void constants(void)
         { "NLP_AT_MOST", NLP_AT_MOST, 3 }, { "NLP_U8", NLP_U8, 4 }, { "NLP_U16", NLP_U16, 5 }, { "NLP_U32", NLP_U32, 6 },
         { "NLP_U64", NLP_U64, 7 }, { "NLP_FLAG", NLP_FLAG, 8 }, { "NLP_STRING", NLP_STRING, 9 },
         { "NLP_NUL_STRING", NLP_NUL_STRING, 10 }, { "NLP_NESTED", NLP_NESTED, 11 }, { "NLA_F_NESTED", NLP_KIND_NESTED, 1 << 15 },
-        { "NLA_F_NET_BYTEORDER", NLP_KIND_NET_BYTEORDER, 1 << 14 }, { "NLA_TYPE_MASK", NLP_KIND_MASK, 0x3fff }, { "NLP_MESSAGES", NLP_MESSAGES, 16 },
+        { "NLA_F_NET_BYTEORDER", NLP_KIND_NET_BYTEORDER, 1 << 14 }, { "NLA_TYPE_MASK", NLP_KIND_MASK, 0x3fff }, { "NLP_BATCH", NLP_BATCH, 16 },
     };
     for (size_t at = 0; at < sizeof rows / sizeof rows[0]; at++)
         expect(rows[at].name, rows[at].value == rows[at].wanted);
@@ -72,10 +72,10 @@ AT(nlp_policy, 2, uint16_t, shape);
 AT(nlp_policy, 8, size_t, size);
 AT(nlp_message, 0, struct nlp_header, header);
 AT(nlp_message, 16, struct nlp_part, payload);
-AT(nlp_messages, 0, size_t, cursor);
-AT(nlp_messages, 8, size_t, count);
-AT(nlp_messages, 16, struct nlp_message, item[0]);
-_Static_assert(sizeof(struct nlp_messages) == 16 + 16 * 32, "nlp_messages");
+AT(nlp_message_batch, 0, size_t, cursor);
+AT(nlp_message_batch, 8, size_t, count);
+AT(nlp_message_batch, 16, struct nlp_message, item[0]);
+_Static_assert(sizeof(struct nlp_message_batch) == 16 + 16 * 32, "nlp_message_batch");
 AT(nlp_error, 0, int32_t, code);
 AT(nlp_error, 8, struct nlp_part, request);
 AT(nlp_error, 24, struct nlp_part, attributes);
@@ -91,12 +91,12 @@ AT(nlp_reply, 4, int32_t, code);
 AT(nlp_reply, 8, struct nlp_part, frame);
 AT(nlp_reply, 24, struct nlp_part, request);
 AT(nlp_reply, 40, struct nlp_part, attributes);
-AT(nlp_reader, 0, const uint8_t *, bytes);
-AT(nlp_reader, 8, size_t, len);
-AT(nlp_reader, 16, struct nlp_messages, batch);
-AT(nlp_reader, 544, size_t, next);
-AT(nlp_reader, 552, uint32_t, result);
-AT(nlp_reader, 560, struct nlp_fault, fault);
+AT(nlp_messages, 0, const uint8_t *, bytes);
+AT(nlp_messages, 8, size_t, len);
+AT(nlp_messages, 16, struct nlp_message_batch, batch);
+AT(nlp_messages, 544, size_t, next);
+AT(nlp_messages, 552, uint32_t, result);
+AT(nlp_messages, 560, struct nlp_fault, fault);
 AT(nlp_writer, 0, uint8_t *, buffer);
 AT(nlp_writer, 8, size_t, capacity);
 AT(nlp_writer, 16, size_t, at);
@@ -112,7 +112,7 @@ typedef struct nlp_part *part;
 typedef const struct nlp_attr *attr;
 typedef const struct nlp_policy *policy;
 typedef struct nlp_writer *writer;
-typedef struct nlp_reader *reader;
+typedef struct nlp_messages *messages;
 
 /* Each function has exactly this type. */
 #define IS(name, result, ...) _Static_assert(_Generic(&name, result (*)(__VA_ARGS__): 1, default: 0), #name)
@@ -125,8 +125,8 @@ IS_CALL(nlp_error_body, in, size_t, uint16_t, struct nlp_error *, fault);
 IS_CALL(nlp_done_body, in, size_t, int32_t *, part, fault);
 IS_CALL(nlp_frames_next, in, size_t, place, part, fault);
 IS_CALL(nlp_attrs_next, in, size_t, place, struct nlp_attr *, fault);
-IS_CALL(nlp_messages_next, in, size_t, place, struct nlp_message *, fault);
-IS_CALL(nlp_messages_fill, in, size_t, struct nlp_messages *, fault);
+IS_CALL(nlp_message_read, in, size_t, place, struct nlp_message *, fault);
+IS_CALL(nlp_messages_fill, in, size_t, struct nlp_message_batch *, fault);
 IS_CALL(nlp_message_attrs, const struct nlp_message *, size_t, part);
 IS_CALL(nlp_attrs_find, in, size_t, uint16_t, struct nlp_attr *, fault);
 IS_CALL(nlp_attrs_table, in, size_t, struct nlp_attr *, size_t, fault);
@@ -173,8 +173,8 @@ IS_CALL(nlp_describe, in, size_t, out, size_t, place, fault);
 IS(nlp_u16, uint16_t, in);
 IS(nlp_u32, uint32_t, in);
 IS(nlp_u64, uint64_t, in);
-IS_CALL(nlp_messages_next_opt, in, size_t, place, struct nlp_message *, fault);
-IS_CALL(nlp_messages_fill_opt, in, size_t, struct nlp_messages *, fault);
+IS_CALL(nlp_message_read_opt, in, size_t, place, struct nlp_message *, fault);
+IS_CALL(nlp_messages_fill_opt, in, size_t, struct nlp_message_batch *, fault);
 IS_CALL(nlp_attrs_next_opt, in, size_t, place, struct nlp_attr *, fault);
 IS_CALL(nlp_frames_next_opt, in, size_t, place, part, fault);
 IS_CALL(nlp_replies_next_opt, in, size_t, place, struct nlp_replies *, struct nlp_reply *, fault);
@@ -190,8 +190,8 @@ IS_CALL(nlp_attrs_normalize_opt, in, size_t, out, size_t, place, fault);
 IS_CALL(nlp_frame_is_canonical_opt, in, size_t, uint32_t *, fault);
 IS_CALL(nlp_frame_normalize_opt, in, size_t, out, size_t, place, fault);
 IS_CALL(nlp_describe_opt, in, size_t, out, size_t, place, fault);
-IS(nlp_reader_begin, void, reader, in, size_t);
-IS(nlp_reader_next, const struct nlp_message *, reader);
+IS(nlp_messages_begin, void, messages, in, size_t);
+IS(nlp_messages_next, const struct nlp_message *, messages);
 IS_CALL(nlp_reply_message, in, const struct nlp_reply *, struct nlp_message *);
 IS(nlp_writer_begin, struct nlp_writer, out, size_t);
 IS(nlp_writer_frame, struct nlp_frame_mark, writer, const struct nlp_header *, const void *, size_t);

@@ -96,7 +96,7 @@ static inline uint32_t message_step(const uint8_t *bytes, size_t len, size_t *at
 }
 
 /* Up to 16 steps of that walk: the messages before the end or an error, or else that. */
-static inline uint32_t model_fill(const uint8_t *bytes, size_t len, struct nlp_messages *batch, struct nlp_fault *fault)
+static inline uint32_t model_fill(const uint8_t *bytes, size_t len, struct nlp_message_batch *batch, struct nlp_fault *fault)
 {
     struct nlp_fault found = *fault;
     struct nlp_message item;

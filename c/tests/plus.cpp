@@ -18,7 +18,7 @@ int main()
     nlp_attr table[5];
     uint32_t value = 0;
     size_t next = 0;
-    if (writer.failed != NLP_OK || nlp_messages_next_opt(buffer.data(), writer.at, &next, &message, nullptr) != NLP_OK
+    if (writer.failed != NLP_OK || nlp_message_read_opt(buffer.data(), writer.at, &next, &message, nullptr) != NLP_OK
         || nlp_message_attrs(&message, 0, &block) != NLP_OK
         || nlp_attrs_table_opt(buffer.data() + block.offset, block.size, table, 5, nullptr) != NLP_OK
         || nlp_get_u32(buffer.data() + block.offset, block.size, &table[4], &value) != NLP_OK)

@@ -37,8 +37,8 @@ static void walks(void)
     for (int with = 0; with < 2; with++) {
         struct nlp_fault *to = with ? &fault : NULL;
         size_t at = 0;
-        expect("a message", nlp_messages_next_opt(bytes, sizeof bytes, &at, &message, to) == NLP_OK && at == 24 && message.header.message_type == 18);
-        expect("no message", nlp_messages_next_opt(bytes, sizeof bytes, &at, &message, to) == NLP_FRAME_SHORT && at == 28);
+        expect("a message", nlp_message_read_opt(bytes, sizeof bytes, &at, &message, to) == NLP_OK && at == 24 && message.header.message_type == 18);
+        expect("no message", nlp_message_read_opt(bytes, sizeof bytes, &at, &message, to) == NLP_FRAME_SHORT && at == 28);
         expect("its fault", is_fault(&fault, with ? 9 : 0, with ? 4 : 0, 0));
         at = 0;
         expect("a frame", nlp_frames_next_opt(bytes, sizeof bytes, &at, &part, to) == NLP_OK && at == 24 && part.offset == 0 && part.size == 24);
@@ -59,36 +59,36 @@ static void reads(void)
 {
     uint8_t many[40 * 20];
     struct nlp_fault fault = { 0, 0, 0, 0 };
-    struct nlp_messages batch;
-    struct nlp_reader reader;
+    struct nlp_message_batch batch;
+    struct nlp_messages walk;
     const struct nlp_message *message;
     for (int with = 0; with < 2; with++) {
         batch.cursor = 0;
         expect("a batch", nlp_messages_fill_opt(bytes, sizeof bytes, &batch, with ? &fault : NULL) == NLP_OK && batch.count == 1 && batch.item[0].payload.size == 8);
         expect("no batch", nlp_messages_fill_opt(bytes, sizeof bytes, &batch, with ? &fault : NULL) == NLP_FRAME_SHORT && is_fault(&fault, with ? 9 : 0, with ? 4 : 0, 0));
     }
-    memset(&reader, 0xee, sizeof reader);
-    nlp_reader_begin(&reader, bytes, sizeof bytes);
-    expect("a reader that begins", reader.bytes == bytes && reader.len == sizeof bytes && reader.batch.cursor == 0 && reader.batch.count == 0 && reader.next == 0
-        && reader.result == NLP_OK);
-    message = nlp_reader_next(&reader);
-    expect("a message of a reader", message == reader.batch.item && message->payload.offset == 16 && message->header.message_type == 18 && reader.result == NLP_OK);
-    expect("the error of a reader", nlp_reader_next(&reader) == NULL && reader.result == NLP_FRAME_SHORT && is_fault(&reader.fault, 9, 4, 0));
-    expect("the end of a reader", nlp_reader_next(&reader) == NULL && reader.result == NLP_END && nlp_reader_next(&reader) == NULL && reader.result == NLP_END);
-    nlp_reader_begin(&reader, NULL, 0);
-    expect("a reader of no bytes", nlp_reader_next(&reader) == NULL && reader.result == NLP_END);
+    memset(&walk, 0xee, sizeof walk);
+    nlp_messages_begin(&walk, bytes, sizeof bytes);
+    expect("a walk that begins", walk.bytes == bytes && walk.len == sizeof bytes && walk.batch.cursor == 0 && walk.batch.count == 0 && walk.next == 0
+        && walk.result == NLP_OK);
+    message = nlp_messages_next(&walk);
+    expect("a message of a walk", message == walk.batch.item && message->payload.offset == 16 && message->header.message_type == 18 && walk.result == NLP_OK);
+    expect("the error of a walk", nlp_messages_next(&walk) == NULL && walk.result == NLP_FRAME_SHORT && is_fault(&walk.fault, 9, 4, 0));
+    expect("the end of a walk", nlp_messages_next(&walk) == NULL && walk.result == NLP_END && nlp_messages_next(&walk) == NULL && walk.result == NLP_END);
+    nlp_messages_begin(&walk, NULL, 0);
+    expect("a walk over no bytes", nlp_messages_next(&walk) == NULL && walk.result == NLP_END);
     memset(many, 0, sizeof many);
     for (size_t i = 0; i < 40; i++)
         many[20 * i] = 20;
     bool holds = true;
     for (size_t count = 1; count <= 40; count++) {
         size_t seen = 0;
-        nlp_reader_begin(&reader, many, 20 * count);
-        while ((message = nlp_reader_next(&reader)) != NULL)
+        nlp_messages_begin(&walk, many, 20 * count);
+        while ((message = nlp_messages_next(&walk)) != NULL)
             seen += message->payload.offset == 20 * seen + 16;
-        holds = holds && seen == count && reader.result == NLP_END;
+        holds = holds && seen == count && walk.result == NLP_END;
     }
-    expect("each message of a reader", holds);
+    expect("each message of a walk", holds);
 }
 
 static void kinds(void)

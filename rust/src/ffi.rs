@@ -77,7 +77,7 @@ extern "C" {
     pub fn nlp_error_body(bytes: In, len: usize, flags: u16, body: *mut ErrorBody, fault: *mut Fault) -> u32;
     pub fn nlp_done_body(bytes: In, len: usize, code: *mut i32, rest: *mut Part, fault: *mut Fault) -> u32;
     pub fn nlp_frames_next(bytes: In, len: usize, cursor: *mut usize, item: *mut Part, fault: *mut Fault) -> u32;
-    pub fn nlp_messages_next(bytes: In, len: usize, cursor: *mut usize, item: *mut Message, fault: *mut Fault) -> u32;
+    pub fn nlp_message_read(bytes: In, len: usize, cursor: *mut usize, item: *mut Message, fault: *mut Fault) -> u32;
     pub fn nlp_message_attrs(message: *const Message, fixed_len: usize, attributes: *mut Part) -> u32;
     pub fn nlp_attrs_next(bytes: In, len: usize, cursor: *mut usize, item: *mut Attr, fault: *mut Fault) -> u32;
     pub fn nlp_attrs_find(block: In, len: usize, kind: u16, item: *mut Attr, fault: *mut Fault) -> u32;

@@ -227,7 +227,7 @@ impl<'a> Iterator for Messages<'a> {
         let mut fault = ffi::Fault::default();
         // SAFETY: the slice is live, and so are the three values.
         let answer = unsafe {
-            ffi::nlp_messages_next(self.bytes.as_ptr(), self.bytes.len(), &mut self.cursor, &mut item, &mut fault)
+            ffi::nlp_message_read(self.bytes.as_ptr(), self.bytes.len(), &mut self.cursor, &mut item, &mut fault)
         };
         match answer {
             OK => Some(Ok(Message { header: Header::of(&item.header), payload: part(self.bytes, item.payload) })),

@@ -16,10 +16,10 @@ use netlink_packet_core::{NETLINK_HEADER_LEN, NetlinkBuffer, nla_align};
 /// The largest number of messages that one call reads.
 const BATCH: usize = 16;
 
-/// Several messages of a datagram (`struct nlp_messages`), and where the next one starts.
+/// Several messages of a datagram (`struct nlp_message_batch`), and where the next one starts.
 #[derive(Clone, Copy, Debug, PartialEq, Eq)]
 #[repr(C)]
-pub struct Messages {
+pub struct MessageBatch {
     /// The offset of the next message, in bytes from the start of the datagram.
     pub cursor: usize,
     /// How many of `items` are messages that were read.
@@ -40,7 +40,7 @@ pub struct Messages {
 #[unsafe(no_mangle)]
 pub extern "C" fn nlp_messages_fill(
     bytes: &[u8],
-    batch: &mut Messages,
+    batch: &mut MessageBatch,
     fault: &mut FaultNumbers,
 ) -> u32
     ensures end { (result ≡ 32) ↔ (length bytes.now ≤ batch.old.cursor) }

@@ -29,7 +29,7 @@ pub struct MessageItem {
 /// not allocate.
 #[tactic(auto, using(crate::proofs::MessageLemmas::frame_least))]
 #[unsafe(no_mangle)]
-pub extern "C" fn nlp_messages_next(
+pub extern "C" fn nlp_message_read(
     bytes: &[u8],
     cursor: &mut usize,
     item: &mut MessageItem,
@@ -57,7 +57,7 @@ pub extern "C" fn nlp_messages_next(
 /// header of `fixed` bytes and its padding. The offset is relative to what that of the payload is.
 ///
 /// Returns 0; `NO_PLACE` if the payload's offset and size have a sum that is not a `usize`, which
-/// `nlp_messages_next` never writes; otherwise `WRONG_SIZE` if the payload has fewer than `fixed`
+/// `nlp_message_read` never writes; otherwise `WRONG_SIZE` if the payload has fewer than `fixed`
 /// bytes. Changes `attributes` only if it returns 0. Does not allocate.
 #[unsafe(no_mangle)]
 pub extern "C" fn nlp_message_attrs(
