@@ -1,8 +1,8 @@
 //! Acknowledgements and errors, and their attributes.
 
 use crate::tests::captured::{LINK_MTU_0, LINK_MTU_REFUSED_0, LINK_UNKNOWN_0};
-use crate::tests::helpers::{acknowledged, dump, gives};
-use netlink_replies::{ExtendedAck, Reply};
+use crate::tests::helpers::{Value, acknowledged, dump, gives, has_values};
+use netlink_replies::Reply;
 use std::test::Fail;
 
 #[test]
@@ -19,6 +19,13 @@ fn an_acknowledgement_ends_the_answer(rt: HostRuntime) -> Result<(), Fail> {
     Ok(())
 }
 
+/// The values of `LINK_MTU_REFUSED_0`.
+const REFUSED: [Value<'static>; 3] = [
+    Value::Text(Some("mtu less than device minimum")),
+    Value::Message(Some(b"mtu less than device minimum")),
+    Value::Offset(None),
+];
+
 #[test]
 fn a_capped_error_has_its_attributes_after_the_header(rt: HostRuntime) -> Result<(), Fail> {
     let mut replies = acknowledged();
@@ -34,12 +41,7 @@ fn a_capped_error_has_its_attributes_after_the_header(rt: HostRuntime) -> Result
         )
     );
     assert!(rt; replies.has_ended());
-    let ack = ExtendedAck {
-        attributes: &LINK_MTU_REFUSED_0[36..],
-    };
-    assert!(rt; ack.text() == Some("mtu less than device minimum"));
-    assert!(rt; ack.message() == Some(b"mtu less than device minimum".as_slice()));
-    assert!(rt; ack.offset() == None);
+    assert!(rt; has_values(&LINK_MTU_REFUSED_0[36..], &REFUSED));
     Ok(())
 }
 
@@ -71,6 +73,13 @@ const NOT_CAPPED: [u8; 56] = [
     8, 0, 5, 0, 3, 0, 0, 0, // NLMSGERR_ATTR_MISS_TYPE
 ];
 
+const NOT_CAPPED_VALUES: [Value<'static>; 4] = [
+    Value::Offset(Some(16)),
+    Value::MissingType(Some(3)),
+    Value::MissingNest(None),
+    Value::Text(None),
+];
+
 #[test]
 fn attributes_follow_the_padding_of_the_request(rt: HostRuntime) -> Result<(), Fail> {
     let mut replies = dump();
@@ -86,13 +95,7 @@ fn attributes_follow_the_padding_of_the_request(rt: HostRuntime) -> Result<(), F
         )
     );
     assert!(rt; replies.has_ended());
-    let ack = ExtendedAck {
-        attributes: &NOT_CAPPED[40..],
-    };
-    assert!(rt; ack.offset() == Some(16));
-    assert!(rt; ack.missing_type() == Some(3));
-    assert!(rt; ack.missing_nest() == None);
-    assert!(rt; ack.text() == None);
+    assert!(rt; has_values(&NOT_CAPPED[40..], &NOT_CAPPED_VALUES));
     Ok(())
 }
 
@@ -116,53 +119,43 @@ fn a_done_message_has_a_code_and_attributes(rt: HostRuntime) -> Result<(), Fail>
         )
     );
     assert!(rt; replies.has_ended());
-    assert!(rt;
-        ExtendedAck {
-            attributes: &DONE[20..]
-        }
-        .text()
-            == Some("full")
-    );
+    assert!(rt; has_values(&DONE[20..], &[Value::Text(Some("full"))]));
     Ok(())
 }
 
 /// A cookie, a policy, a nest that lacks an attribute, and a text that is not UTF-8.
-const VALUES: [u8; 32] = [
+const ATTRIBUTES: [u8; 32] = [
     7, 0, 3, 0, 1, 2, 3, 0, // NLMSGERR_ATTR_COOKIE
     8, 0, 4, 0x80, 4, 0, 9, 0, // NLMSGERR_ATTR_POLICY with NLA_F_NESTED
     8, 0, 6, 0, 32, 0, 0, 0, // NLMSGERR_ATTR_MISS_NEST
     6, 0, 1, 0, 0xff, 0, 0, 0, // NLMSGERR_ATTR_MSG
 ];
 
+const VALUES: [Value<'static>; 6] = [
+    Value::Cookie(Some(&[1, 2, 3])),
+    Value::Policy(Some(&[4, 0, 9, 0])),
+    Value::MissingNest(Some(32)),
+    Value::Message(Some(&[0xff])),
+    Value::Text(None),
+    Value::MissingType(None),
+];
+
 #[test]
 fn each_value_is_found_by_its_kind(rt: HostRuntime) -> Result<(), Fail> {
-    let ack = ExtendedAck {
-        attributes: &VALUES,
-    };
-    assert!(rt; ack.cookie() == Some([1, 2, 3].as_slice()));
-    assert!(rt; ack.policy() == Some([4, 0, 9, 0].as_slice()));
-    assert!(rt; ack.missing_nest() == Some(32));
-    assert!(rt; ack.message() == Some([0xff].as_slice()));
-    assert!(rt; ack.text() == None);
-    assert!(rt; ack.missing_type() == None);
+    assert!(rt; has_values(&ATTRIBUTES, &VALUES));
     Ok(())
 }
 
 #[test]
 fn a_number_has_4_bytes(rt: HostRuntime) -> Result<(), Fail> {
-    let ack = ExtendedAck {
-        attributes: &[6, 0, 2, 0, 1, 0, 0, 0],
-    };
-    assert!(rt; ack.offset() == None);
+    assert!(rt; has_values(&[6, 0, 2, 0, 1, 0, 0, 0], &[Value::Offset(None)]));
     Ok(())
 }
 
 #[test]
 fn values_before_an_error_are_found(rt: HostRuntime) -> Result<(), Fail> {
-    let ack = ExtendedAck {
-        attributes: &[8, 0, 2, 0, 20, 0, 0, 0, 3, 0, 1, 0],
-    };
-    assert!(rt; ack.offset() == Some(20));
-    assert!(rt; ack.message() == None);
+    let attributes = [8, 0, 2, 0, 20, 0, 0, 0, 3, 0, 1, 0];
+    let values = [Value::Offset(Some(20)), Value::Message(None)];
+    assert!(rt; has_values(&attributes, &values));
     Ok(())
 }

@@ -1,7 +1,7 @@
 //! Requests, and calls that compare what they return.
 
 use netlink_packet_core::{DecodeError, NLM_F_ACK, NLM_F_REQUEST, NetlinkHeader};
-use netlink_replies::{Replies, Reply, Request};
+use netlink_replies::{ExtendedAck, Replies, Reply, Request};
 
 /// The header of a request with sequence number 1 and port number 0.
 fn header(flags: u16) -> NetlinkHeader {
@@ -43,6 +43,42 @@ pub fn done() -> Reply<&'static [u8]> {
         code: 0,
         attributes: &[],
     }
+}
+
+/// A function of `ExtendedAck`, and what it returns.
+#[derive(Clone, Copy)]
+pub enum Value<'a> {
+    Message(Option<&'a [u8]>),
+    Text(Option<&'a str>),
+    Offset(Option<u32>),
+    Cookie(Option<&'a [u8]>),
+    Policy(Option<&'a [u8]>),
+    MissingType(Option<u32>),
+    MissingNest(Option<u32>),
+}
+
+/// Whether the function returns this for these attributes.
+fn has_value(attributes: &[u8], value: Value<'_>) -> bool {
+    let ack = ExtendedAck { attributes };
+    match value {
+        Value::Message(message) => ack.message() == message,
+        Value::Text(text) => ack.text() == text,
+        Value::Offset(offset) => ack.offset() == offset,
+        Value::Cookie(cookie) => ack.cookie() == cookie,
+        Value::Policy(policy) => ack.policy() == policy,
+        Value::MissingType(kind) => ack.missing_type() == kind,
+        Value::MissingNest(offset) => ack.missing_nest() == offset,
+    }
+}
+
+/// Whether each of these functions returns this for these attributes.
+pub fn has_values(attributes: &[u8], values: &[Value<'_>]) -> bool {
+    for value in values {
+        if !has_value(attributes, *value) {
+            return false;
+        }
+    }
+    true
 }
 
 /// Whether reading the datagram gives these replies, and nothing else.

@@ -4,21 +4,20 @@
 //! passes and allocates nothing after the marker.
 
 use crate::tests::captured::{ADDRESSES_1, LINK_MTU_REFUSED_0};
-use crate::tests::helpers::{acknowledged, done, dump, gives, gives_next};
+use crate::tests::helpers::{Value, acknowledged, done, dump, gives, gives_next, has_values};
 use crate::tests::mark::refuse_from_here;
 use crate::tests::paths::leads;
-use netlink_replies::{ExtendedAck, Reply, SequenceNumbers};
+use netlink_replies::{Reply, SequenceNumbers};
 
-/// Whether the error's attributes are read as they were captured.
-fn has_text(attributes: &[u8]) -> bool {
-    let ack = ExtendedAck { attributes };
-    ack.text() == Some("mtu less than device minimum")
-        && ack.offset().is_none()
-        && ack.cookie().is_none()
-        && ack.policy().is_none()
-        && ack.missing_type().is_none()
-        && ack.missing_nest().is_none()
-}
+/// The values of the captured error.
+const REFUSED: [Value<'static>; 6] = [
+    Value::Text(Some("mtu less than device minimum")),
+    Value::Offset(None),
+    Value::Cookie(None),
+    Value::Policy(None),
+    Value::MissingType(None),
+    Value::MissingNest(None),
+];
 
 /// Whether the captured error is read as it was captured.
 fn is_refused() -> bool {
@@ -42,6 +41,6 @@ fn answers(rt: HostRuntime) {
     assert!(rt; SequenceNumbers::new(0).next() == 1);
     assert!(rt; gives(&mut dump(), &ADDRESSES_1, &[done()]));
     assert!(rt; is_refused());
-    assert!(rt; has_text(&LINK_MTU_REFUSED_0[36..]));
+    assert!(rt; has_values(&LINK_MTU_REFUSED_0[36..], &REFUSED));
     assert!(rt; leads(68, &[18, 2, 5]));
 }
