@@ -72,7 +72,8 @@ def is_built(crate, archive):
     proved. Builds with the libraries of `rt ci`, without kept work, if it left all of them; otherwise by `rt lib`."""
     words = ["rt", "lib"]
     if all(map(is_left_by_ci, below(crate, dependencies()))):
-        words = [*words_over_rlibs(crate, "build"), "--jobs", "2"]
+        # ./check sets RT_JOBS. There, the edits use the other processors, and one process takes less processor time.
+        words = [*words_over_rlibs(crate, "build"), "--jobs", "1" if "RT_JOBS" in os.environ else "2"]
         words += ["--toolchain", f"{kit()}/toolchain", "--backend", "llvm", "-o", archive]
     how = {"stdin": subprocess.DEVNULL, "stdout": subprocess.PIPE, "stderr": subprocess.STDOUT, "text": True}
     verdict = False
