@@ -59,13 +59,8 @@ extern "C" {
     fn nlp_frames_next(bytes: *const u8, len: usize, cursor: *mut usize, item: *mut Part, fault: *mut Fault) -> u32;
     fn nlp_attrs_next(bytes: *const u8, len: usize, cursor: *mut usize, item: *mut Attr, fault: *mut Fault) -> u32;
     fn nlp_attrs_table(bytes: *const u8, len: usize, table: *mut Attr, count: usize, fault: *mut Fault) -> u32;
-    fn nlp_message_read(
-        bytes: *const u8,
-        len: usize,
-        cursor: *mut usize,
-        item: *mut Message,
-        fault: *mut Fault,
-    ) -> u32;
+    fn nlp_message_read(bytes: *const u8, len: usize, cursor: *mut usize, item: *mut Message, fault: *mut Fault)
+        -> u32;
     fn nlp_messages_fill(bytes: *const u8, len: usize, batch: *mut MessageBatch, fault: *mut Fault) -> u32;
     fn nlp_attr_put_u32(buffer: *mut u8, capacity: usize, cursor: *mut usize, kind: u16, value: u32) -> u32;
     fn nlp_attrs_normalize(
