@@ -51,9 +51,11 @@ pub message_found : (bytes : List ℕ) (at size next : ℕ) (item : MessageItem)
 message_found bytes at size next item inside holds said same behind forward =
     (record { offset = at; size = size }, frame_found bytes (drop at bytes) at size next inside refl holds said behind forward, same)
 
--- no frame fits into fewer than 16 bytes
-pub no_frame : (bytes : List ℕ) (at : ℕ) → length bytes < at + 16 → HoldsFrame (drop at bytes) → ⊥
-no_frame bytes at short holds =
-    let size = length-drop at bytes in
-    let header = holds.header in
-    omega arith
+-- and of one whose padding ends within the bytes
+pub message_padded : (bytes : List ℕ) (at size whole : ℕ) (item : MessageItem) → HoldsFrame (drop at bytes)
+    → size ≡ field 0 4 (drop at bytes) → item ≡ message_at bytes (record { offset = at; size = size })
+    → whole ≡ size + padding size → at + whole ≤ length bytes → StartsMessageAt bytes at item (at + whole)
+message_padded bytes at size whole item holds said same padded inside =
+    let least = holds.least in
+    message_found bytes at size (at + whole) item (omega arith) holds said same
+    (sym (drop-drop whole at bytes) ∙ ap (λ (n : ℕ). drop n (drop at bytes)) padded) (omega arith, omega arith)

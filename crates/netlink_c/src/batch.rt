@@ -7,7 +7,7 @@ ghost use Rattle.netlink_c.specs.Fault.{Refuses};
 ghost use Rattle.netlink_c.specs.Messages.{MessagesAt};
 
 use crate::fault::FaultNumbers;
-use crate::frame::{Part, frame_fault, frame_size};
+use crate::frame::{Part, frame_fault};
 use crate::messages::{MessageItem, message_of};
 use crate::results::{END, OK};
 use crate::walk::after;
@@ -60,13 +60,11 @@ pub extern "C" fn nlp_messages_fill(
     ensures unfaulted { (result ≡ 0) ⊎ (result ≡ 32) → fault.new ≡ fault.old }
 {
     let start = batch.cursor;
-    if start < bytes.len() {
-        if frame_size(&bytes[start..]).is_some() {
-            let (count, next) = fill(bytes, start, &mut batch.items);
-            batch.count = count;
-            batch.cursor = next;
-            return OK;
-        }
+    if let Some(size) = size_at(bytes, start) {
+        let (count, next) = fill(bytes, start, size, &mut batch.items);
+        batch.count = count;
+        batch.cursor = next;
+        return OK;
     }
     ended(bytes, &mut batch.cursor, fault)
 }
@@ -94,22 +92,33 @@ fn ended(bytes: &[u8], cursor: &mut usize, fault: &mut FaultNumbers) -> u32
 }
 
 /// Writes the messages at offset `start` and after it into `items`, as far as there is room.
-/// Returns their number, and the offset of what follows.
+/// Returns their number, and the offset of what follows. Requires a complete frame of `size` bytes
+/// at `start`, and room for it.
+///
+/// Writes the first message before the loop, because its frame is already checked.
+#[tactic(auto, using(crate::proofs::WalkLemmas::held_fits))]
 #[inline(always)]
-fn fill(bytes: &[u8], start: usize, items: &mut [MessageItem]) -> (usize, usize)
-    requires inside { start ≤ length bytes.now }
+fn fill(bytes: &[u8], start: usize, size: usize, items: &mut [MessageItem]) -> (usize, usize)
+    requires inside { start + 16 ≤ length bytes.now }
+    requires holds { HoldsFrame (drop start bytes.now) }
+    requires said { size ≡ field 0 4 (drop start bytes.now) }
+    requires one { 0 < length items.now }
     ensures filled { MessagesAt bytes.now start (take result.0 items.new) result.1 }
     ensures most { result.0 < length items.old → HoldsFrame (drop result.1 bytes.now) → ⊥ }
     ensures fits { result.0 ≤ length items.old }
     ensures rest { drop result.0 items.new ≡ drop result.0 items.old }
 {
-    if bytes.len() - start < NETLINK_HEADER_LEN {
-        return (0, start);
-    }
     let mut at = start;
     // How many bytes there are after a header at `at`.
-    let mut room = bytes.len() - start - NETLINK_HEADER_LEN;
-    let mut count = 0;
+    let mut room = bytes.len() - NETLINK_HEADER_LEN - start;
+    items[0] = message_of(bytes, &Part { offset: at, size });
+    let padded = nla_align(size);
+    if padded > room {
+        return (1, after(bytes, at, size));
+    }
+    at += padded;
+    room -= padded;
+    let mut count = 1;
     while count < items.len() {
         match size_within(bytes, at, room) {
             Some(size) => {
@@ -129,7 +138,24 @@ fn fill(bytes: &[u8], start: usize, items: &mut [MessageItem]) -> (usize, usize)
 }
 
 /// Returns the length field at offset `at` if there is a complete frame, and `None` otherwise.
-/// Requires that there are `room` bytes after a header there.
+#[inline(always)]
+fn size_at(bytes: &[u8], at: usize) -> Option<usize>
+    ensures whole { IfSome result (λ size. (at + 16 ≤ length bytes.now)
+        × HoldsFrame (drop at bytes.now) × (size ≡ field 0 4 (drop at bytes.now))) }
+    ensures none { IfNone result (HoldsFrame (drop at bytes.now) → ⊥) }
+{
+    if bytes.len() < NETLINK_HEADER_LEN {
+        return None;
+    }
+    // Where the last header can start. One comparison shows that one fits at `at`.
+    let last = bytes.len() - NETLINK_HEADER_LEN;
+    if at > last {
+        return None;
+    }
+    size_within(bytes, at, last - at)
+}
+
+/// Returns what `size_at` returns. Requires that there are `room` bytes after a header at `at`.
 #[inline(always)]
 fn size_within(bytes: &[u8], at: usize, room: usize) -> Option<usize>
     requires room { at + 16 + room ≡ length bytes.now }

@@ -159,6 +159,6 @@ pub(crate) fn after(bytes: &[u8], at: usize, size: usize) -> usize
     ensures forward { (at < result) × (result ≤ length bytes.now) }
 {
     let end = bytes.len();
-    let whole = nla_align(size);
-    if whole < end - at { at + whole } else { end }
+    let next = at + nla_align(size);
+    if next < end { next } else { end }
 }
