@@ -2,14 +2,13 @@
 
 use crate::tests::calls::{has_attributes, neighbour_of, normal};
 use crate::tests::samples::{NEIGHBOUR, decoded, wrong_size};
-use netlink_family::{FamilyError, MessageView, OwnedMessage, Value};
+use netlink_family::{MessageView, OwnedMessage, Value};
 use netlink_packet_core::NetlinkMessage;
 use netlink_route::neighbours::{
     NDA_CACHEINFO, NDA_DST, NDA_LLADDR, NDA_PORT, NDA_PROBES, NDA_VLAN, NDM_FAMILY, NDM_FLAGS,
     NDM_IFINDEX, NDM_STATE, NDM_TYPE, RTM_GETNEIGH, RTM_NEWNEIGH,
 };
 use netlink_route::{NeighbourMessage, Neighbours};
-use std::alloc::Global;
 use std::test::Fail;
 
 /// Returns whether the fields of the header are those of `NEIGHBOUR`.
@@ -72,19 +71,14 @@ const REQUEST: [u8; 36] = [
     8, 0, 1, 0, 192, 0, 2, 7, // NDA_DST
 ];
 
-/// Returns the message of `REQUEST`.
-fn request(alloc: Global) -> Result<NeighbourMessage, FamilyError> {
+#[test]
+fn a_request_is_made(rt: HostRuntime) -> Result<(), Fail> {
+    let alloc = rt.alloc();
     let mut request: NeighbourMessage = OwnedMessage::new(alloc, RTM_GETNEIGH)?;
     request.set_u8(NDM_FAMILY, 2);
     request.set_i32(NDM_IFINDEX, 4);
     request.push(alloc, NDA_DST, Value::Ip(&[192, 0, 2, 7]))?;
-    Ok(request)
-}
-
-#[test]
-fn a_request_is_made(rt: HostRuntime) -> Result<(), Fail> {
-    let request = request(rt.alloc())?;
-    let frame = NetlinkMessage::from_inner(request).into_frame(rt.alloc())?;
+    let frame = NetlinkMessage::from_inner(request).into_frame(alloc)?;
     assert_eq!(rt; frame.as_slice(), REQUEST.as_slice());
     Ok(())
 }
