@@ -7,4 +7,5 @@ pub mod CanonicalPayloads
 pub mod ZeroPadding
 pub mod Normalizing
 pub mod RowSearch
+pub mod PolicyRows
 pub mod Payloads

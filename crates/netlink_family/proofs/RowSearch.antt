@@ -1,8 +1,8 @@
 -- Binary search in sorted rows.
-use Rattle.std.proofs.Common.{◌≡◌, ◌+◌, ◌-◌, ◌<◌, ◌≤◌, arith, length, slice_index_or, Bor, ◌==◌, ◌&&◌, ℕ, Bool, true, false, List, [], ◌∷◌, ◌++◌, take, drop, ap, sym, ◌∙◌, subst, refl, Option, Some}
+use Rattle.std.proofs.Common.{◌≡◌, ◌+◌, ◌-◌, ◌<◌, ◌≤◌, arith, length, slice_index_or, Bor, ◌==◌, ◌&&◌, ℕ, Bool, true, false, List, [], ◌∷◌, ◌++◌, take, drop, ap, sym, ◌∙◌, subst, refl, Option, Some, None}
 use Rattle.std.specs.Prelude.{if◌then◌else◌}
 use Rattle.std.proofs.lemmas.Bool.{and_parts, eqb-true}
-use Rattle.std.proofs.lemmas.List.{drop_more, map-append, take-append-drop, take_all}
+use Rattle.std.proofs.lemmas.List.{drop_all, drop_more, map-append, take-append-drop, take_all}
 use Rattle.netlink_family.specs.Shapes.{Row, stored_row, row_at, rows_in, are_sorted, key_before}
 use Rattle.netlink_family.specs.SortedLaws.{at_row, back_sorted, before_row, after_row, front_sorted, is_after, key_less}
 use Rattle.netlink_family.specs.declared.shape.Shape.{Shape}
@@ -29,7 +29,7 @@ pub record AreLeft (p k : ℕ) (rows rest : List StoredRow) : Type 0 where
   pub same : row_at (rows_in rows) p k ≡ row_at (rows_in rest) p k
   pub sorted : are_sorted (rows_in rest) ≡ true
 
-parts : (rest : List StoredRow) (m : ℕ) (front tail back : List StoredRow) (row : StoredRow)
+pub parts : (rest : List StoredRow) (m : ℕ) (front tail back : List StoredRow) (row : StoredRow)
     → front ≡ take m rest → tail ≡ drop m rest → tail ≡ row ∷ back
     → rows_in rest ≡ rows_in front ++ (stored_row row ∷ rows_in back)
 parts rest m front tail back row head after is =
@@ -87,3 +87,13 @@ pub found_at : (p k : ℕ) (rows : List StoredRow) (at : ℕ) → are_sorted (ro
 found_at p k rows at sorted inside =
     found p k rows rows at (take at rows) (drop at rows) (drop (at + 1) rows) (slice_index_or rows at blank)
     (record { same = refl; sorted = sorted }) refl refl (drop_more rows at blank inside)
+
+-- if the last row precedes the key, it has no row
+pub none_after : (p k : ℕ) (rows : List StoredRow) (at : ℕ) → are_sorted (rows_in rows) ≡ true → at + 1 ≡ length rows
+    → key_before (slice_index_or rows at blank).0 (slice_index_or rows at blank).1 p k ≡ true
+    → row_at (rows_in rows) p k ≡ None
+none_after p k rows at sorted last before =
+    let row = slice_index_or rows at blank in
+    let left = goes_back p k rows rows at (take at rows) (drop at rows) (drop (at + 1) rows) row
+    (record { same = refl; sorted = sorted }) refl refl (drop_more rows at blank (omega arith)) before in
+    left.same ∙ ap (λ (r : List StoredRow). row_at (rows_in r) p k) (drop_all (at + 1) rows (omega arith))

@@ -14,6 +14,7 @@ pub mod Message
 pub mod MessageLaws
 pub mod NestLaws
 pub mod PayloadReading
+pub mod Policies
 pub mod Pushing
 pub mod PushingLaws
 pub mod Shapes

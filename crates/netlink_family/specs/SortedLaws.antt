@@ -27,7 +27,7 @@ key_less p k q l is =
           record { low = omega arith; tie = λ e. omega arith })
     ]
 
-before_less : (a b : Row) → is_before a b ≡ true → IsLess a.0 a.1 b.0 b.1
+pub before_less : (a b : Row) → is_before a b ≡ true → IsLess a.0 a.1 b.0 b.1
 before_less a b is = key_less a.0 a.1 b.0 b.1 is
 
 -- if it does not precede the other
@@ -94,7 +94,7 @@ misses row (b ∷ more) p k sorted less =
     ∙ misses b more p k parts.1 next
 
 -- a row precedes all rows after it
-before_later : (a : Row) (front : List Row) (r : Row) (back : List Row)
+pub before_later : (a : Row) (front : List Row) (r : Row) (back : List Row)
     → sorted_from a (front ++ (r ∷ back)) ≡ true → IsLess a.0 a.1 r.0 r.1
 before_later a [] r back sorted =
     before_less a r (and_parts (is_before a r) (sorted_from r back) sorted).0
@@ -102,7 +102,7 @@ before_later a (b ∷ front) r back sorted =
     let parts = and_parts (is_before a b) (sorted_from b (front ++ (r ∷ back))) sorted in
     chain a.0 a.1 b.0 b.1 r.0 r.1 (before_less a b parts.0) (before_later b front r back parts.1)
 
-tail_sorted : (a : Row) (more : List Row) → sorted_from a more ≡ true → are_sorted more ≡ true
+pub tail_sorted : (a : Row) (more : List Row) → sorted_from a more ≡ true → are_sorted more ≡ true
 tail_sorted a [] sorted = refl
 tail_sorted a (b ∷ more) sorted = (and_parts (is_before a b) (sorted_from b more) sorted).1
 

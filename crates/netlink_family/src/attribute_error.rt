@@ -1,14 +1,18 @@
 //! Errors in attributes, each with its offset.
 
-ghost use Rattle.std.specs.Prelude.{◌≡◌, ◌+◌, ◌≤◌, ◌<◌, ◌^◌, Some, length, true};
+ghost use Rattle.std.specs.Prelude.{ℕ, ◌≡◌, ◌+◌, ◌≤◌, ◌<◌, ◌^◌, List, Some, length, true};
 ghost use Rattle.netlink_family.specs.ErrorTexts.{attribute_error_text, reason_text};
 ghost use Rattle.netlink_family.specs.Errors.{reason_of, decode_reason, left_after, nest_error, value_error};
-ghost use Rattle.netlink_family.specs.Shapes.{rows_in, within, are_sorted};
+ghost use Rattle.netlink_family.specs.Policies.{IsPart};
+ghost use Rattle.netlink_family.specs.Shapes.{rows_in, shape_among, within, are_sorted};
 
-use crate::choice::shape_among;
-use crate::shape::{Row, Shape, has_shape, nest_block, policy_of};
+use crate::choice::{own_shape_among, shape_among};
+use crate::shape::{Row, Shape, has_shape, nest_block, policy_of, policy_rows};
 use netlink_packet_core::{DecodeError, NlasIterator, nla_align};
 use std::fmt;
+
+/// The size of two attributes with values of 4 bytes.
+const SEVERAL: usize = 16;
 
 /// The first error in the attributes of a payload, and its offset.
 #[derive(Clone, Copy, Debug, PartialEq, Eq)]
@@ -159,7 +163,6 @@ impl fmt::Display for AttributeError {
 
 /// Returns the error of the value of the attribute at offset `at` in the block `around`, if it has
 /// one.
-#[cycle(errors)]
 pub(crate) fn value_error(
     levels: u8,
     rows: &[Row],
@@ -174,6 +177,25 @@ pub(crate) fn value_error(
     ensures { result ≡ value_error levels (within (rows_in rows.now) around.now) policy at kind value.now }
 {
     let shape = shape_among(rows, policy, around, kind);
+    shape_error(levels, rows, policy, shape, at, kind, value)
+}
+
+/// The same if the shape of the kind is already known.
+#[cycle(errors)]
+pub(crate) fn shape_error(
+    levels: u8,
+    rows: &[Row],
+    policy: u16,
+    shape: Shape,
+    at: usize,
+    kind: u16,
+    value: &[u8],
+) -> Option<AttributeError>
+    requires sorted { are_sorted (rows_in rows.now) ≡ true }
+    requires inside { at + 4 + length value.now < 2 ^ 64 }
+    ensures { (around : List ℕ) → shape ≡ shape_among (within (rows_in rows.now) around) policy kind
+        → result ≡ value_error levels (within (rows_in rows.now) around) policy at kind value.now }
+{
     if !has_shape(shape, value) {
         return Some(AttributeError {
             offset: at,
@@ -198,6 +220,7 @@ pub(crate) fn value_error(
 }
 
 /// Returns the first error in the attributes of a block that ends at offset `end`, if there is one.
+/// Looks the kinds up among the rows of their policy, which are few.
 #[cycle(errors)]
 pub(crate) fn error_in(
     levels: u8,
@@ -210,13 +233,15 @@ pub(crate) fn error_in(
     requires inside { length block.now ≤ end }
     ensures { result ≡ nest_error levels (rows_in rows.now) policy end block.now }
 {
+    let own = rows_for(rows, policy, block);
     let mut left = block.len();
     for item in NlasIterator::new(block) {
         let offset = end - left;
         match item {
             Ok(nla) => {
                 let kind = nla.raw_kind();
-                let error = value_error(levels, rows, policy, block, offset, kind, nla.value());
+                let shape = own_shape_among(rows, own, policy, block, kind);
+                let error = shape_error(levels, rows, policy, shape, offset, kind, nla.value());
                 if error.is_some() {
                     return error;
                 }
@@ -232,6 +257,20 @@ pub(crate) fn error_in(
         }
     }
     None
+}
+
+/// Returns the rows in which to look up the kinds of a block: those of its policy. If the block can
+/// hold only one attribute or two, all rows, because finding those of the policy takes longer than
+/// one lookup.
+#[inline(always)]
+fn rows_for<'a>(rows: &'a [Row], policy: u16, block: &[u8]) -> &'a [Row]
+    requires sorted { are_sorted (rows_in rows.now) ≡ true }
+    ensures { IsPart policy (rows_in rows.now) (rows_in result.now) }
+{
+    if block.len() < SEVERAL {
+        return rows;
+    }
+    policy_rows(rows, policy)
 }
 
 /// Returns the reason for an error of the walk.

@@ -2,6 +2,7 @@
 
 ghost use Rattle.std.specs.Prelude.{◌≡◌, ◌==◌, ◌&&◌, bytes_eq, true};
 ghost use Rattle.netlink_family.specs.Listing.{first_of, listed};
+ghost use Rattle.netlink_family.specs.Policies.{IsPart};
 ghost use Rattle.netlink_family.specs.Shapes.{CachesOther, choice_at, choice_by, resolved, rows_in, shape_among, within, are_sorted};
 
 use crate::find::first_value;
@@ -15,6 +16,21 @@ pub(crate) fn shape_among(rows: &[Row], policy: u16, block: &[u8], kind: u16) ->
     ensures { result ≡ shape_among (within (rows_in rows.now) block.now) policy kind }
 {
     resolved(rows, block, row_shape(rows, policy, kind))
+}
+
+/// Like `shape_among`, for a kind that is looked up among `own`, the rows of the policy.
+#[inline(always)]
+pub(crate) fn own_shape_among(
+    rows: &[Row],
+    own: &[Row],
+    policy: u16,
+    block: &[u8],
+    kind: u16,
+) -> Shape
+    requires own { IsPart policy (rows_in rows.now) (rows_in own.now) }
+    ensures { result ≡ shape_among (within (rows_in rows.now) block.now) policy kind }
+{
+    resolved(rows, block, row_shape(own, policy, kind))
 }
 
 /// Like `shape_among`, with the shape of the kinds without a row kept in `other`.

@@ -1,8 +1,9 @@
 //! The shapes of values, and the lookup of rows.
 
-ghost use Rattle.std.specs.Prelude.{◌≡◌, ◌==◌, ◌&&◌, true, if◌then◌else◌};
+ghost use Rattle.std.specs.Prelude.{◌≡◌, ◌==◌, ◌&&◌, None, true, if◌then◌else◌};
 ghost use Rattle.std.specs.Option.{option_map};
 ghost use Rattle.netlink_packet_core.specs.Views.{masked};
+ghost use Rattle.netlink_family.specs.Policies.{IsPart};
 ghost use Rattle.netlink_family.specs.Shapes.{CachesOther, any_kind, borrowed_row, has_shape, nest_block, nest_of, nest_start, row_at, row_in, rows_in, shape_by, shape_in, nul_terminated, nul_only_last, are_sorted, key_before};
 
 use netlink_packet_core::NLA_TYPE_MASK;
@@ -160,11 +161,15 @@ fn row_at(rows: &[Row], policy: u16, kind: u16) -> Option<&Row>
     search_row(rows, policy, kind)
 }
 
-/// Returns the row of a policy and a kind, by binary search.
+/// Returns the row of a policy and a kind, by binary search. First compares the last row, because
+/// many kinds without a row are greater than all those with one.
 fn search_row(rows: &[Row], policy: u16, kind: u16) -> Option<&Row>
     requires sorted { are_sorted (rows_in rows.now) ≡ true }
     ensures { option_map borrowed_row result ≡ row_at (rows_in rows.now) policy kind }
 {
+    if all_precede(rows, policy, kind) {
+        return None;
+    }
     let mut rest = rows;
     while !rest.is_empty() {
         let (front, tail) = rest.split_at(rest.len() / 2);
@@ -179,6 +184,65 @@ fn search_row(rows: &[Row], policy: u16, kind: u16) -> Option<&Row>
         }
     }
     None
+}
+
+/// Returns whether all rows precede a policy and a kind, which then have no row.
+#[inline(always)]
+fn all_precede(rows: &[Row], policy: u16, kind: u16) -> bool
+    requires sorted { are_sorted (rows_in rows.now) ≡ true }
+    ensures { result ≡ true → row_at (rows_in rows.now) policy kind ≡ None }
+{
+    let size = rows.len();
+    if size == 0 {
+        return true;
+    }
+    let last = &rows[size - 1];
+    is_before(last.0, last.1, policy, kind)
+}
+
+/// Returns the rows of a policy. A caller that looks up many kinds of the policy searches these in
+/// place of the whole table.
+pub(crate) fn policy_rows(rows: &[Row], policy: u16) -> &[Row]
+    requires sorted { are_sorted (rows_in rows.now) ≡ true }
+    ensures { IsPart policy (rows_in rows.now) (rows_in result.now) }
+{
+    rows_until(rows_from(rows, policy), policy)
+}
+
+/// Returns the rows from the first row of a policy on.
+pub(crate) fn rows_from(rows: &[Row], policy: u16) -> &[Row]
+    requires sorted { are_sorted (rows_in rows.now) ≡ true }
+    ensures { IsPart policy (rows_in rows.now) (rows_in result.now) }
+{
+    let mut low = 0;
+    let mut high = rows.len();
+    while low < high {
+        let middle = low + (high - low) / 2;
+        if rows[middle].0 < policy {
+            low = middle + 1;
+        } else {
+            high = middle;
+        }
+    }
+    &rows[low..]
+}
+
+/// Returns the rows up to the last row of a policy.
+fn rows_until(rows: &[Row], policy: u16) -> &[Row]
+    requires sorted { are_sorted (rows_in rows.now) ≡ true }
+    ensures { IsPart policy (rows_in rows.now) (rows_in result.now) }
+{
+    let mut low = 0;
+    let mut high = rows.len();
+    while low < high {
+        let middle = low + (high - low) / 2;
+        if rows[middle].0 > policy {
+            high = middle;
+        } else {
+            low = middle + 1;
+        }
+    }
+    &rows[..high]
 }
 
 /// Returns the rows after a row, or those before it.

@@ -9,34 +9,34 @@ use Rattle.netlink_family.specs.declared.attribute_error.Reason.{Reason}
 use Rattle.netlink_family.proofs.FirstErrors.{at_attribute, malformed_here, fine_ends, fine_later, first_found, none_found}
 use Rattle.netlink_family.proofs.attribute_error.+errors.Goals as goal
 
-pub value_error-returns-then-not-has_shape : goal.value_error-returns-then-not-has_shape
-value_error-returns-then-not-has_shape t c =
-    let has : has_shape c.shape_among-shape.result c.args.value.now ≡ false = search rules in
+pub shape_error-returns-then-not-has_shape : goal.shape_error-returns-then-not-has_shape
+shape_error-returns-then-not-has_shape t c = λ around same.
+    let has : has_shape c.args.shape c.args.value.now ≡ false = search rules in
     let why = c.reason_of.ensures in
     ap (λ (w : Reason). Some (error_at c.args.policy c.args.at w)) why
-    ∙ sym (value_other c.args.levels (within (rows_in c.args.rows.now) c.args.around.now) c.args.policy c.args.at c.args.kind c.args.value.now c.shape_among-shape.result
-    c.shape_among-shape.ensures has)
+    ∙ sym (value_other c.args.levels (within (rows_in c.args.rows.now) around) c.args.policy c.args.at c.args.kind c.args.value.now c.args.shape
+    same has)
 
-pub value_error-returns-in-None : goal.value_error-returns-in-None
-value_error-returns-in-None t c =
-    let has : has_shape c.shape_among-shape.result c.args.value.now ≡ true = search rules in
-    sym (value_flat c.args.levels (within (rows_in c.args.rows.now) c.args.around.now) c.args.policy c.args.at c.args.kind c.args.value.now c.shape_among-shape.result
-    c.shape_among-shape.ensures (sym c.policy_of.ensures ∙ c.in-None.is) has)
+pub shape_error-returns-in-None : goal.shape_error-returns-in-None
+shape_error-returns-in-None t c = λ around same.
+    let has : has_shape c.args.shape c.args.value.now ≡ true = search rules in
+    sym (value_flat c.args.levels (within (rows_in c.args.rows.now) around) c.args.policy c.args.at c.args.kind c.args.value.now c.args.shape
+    same (sym c.policy_of.ensures ∙ c.in-None.is) has)
 
-pub value_error-returns-then-levels-eq0 : goal.value_error-returns-then-levels-eq0
-value_error-returns-then-levels-eq0 t c =
-    let has : has_shape c.shape_among-shape.result c.args.value.now ≡ true = search rules in
-    sym (value_deep c.args.levels (within (rows_in c.args.rows.now) c.args.around.now) c.args.policy c.args.at c.args.kind c.args.value.now c.shape_among-shape.result c.in-Some.inner
-    c.shape_among-shape.ensures (sym c.policy_of.ensures ∙ c.in-Some.is) has (omega arith))
+pub shape_error-returns-then-levels-eq0 : goal.shape_error-returns-then-levels-eq0
+shape_error-returns-then-levels-eq0 t c = λ around same.
+    let has : has_shape c.args.shape c.args.value.now ≡ true = search rules in
+    sym (value_deep c.args.levels (within (rows_in c.args.rows.now) around) c.args.policy c.args.at c.args.kind c.args.value.now c.args.shape c.in-Some.inner
+    same (sym c.policy_of.ensures ∙ c.in-Some.is) has (omega arith))
 
-pub value_error-returns-else-levels-eq0 : goal.value_error-returns-else-levels-eq0
-value_error-returns-else-levels-eq0 t c =
-    let has : has_shape c.shape_among-shape.result c.args.value.now ≡ true = search rules in
+pub shape_error-returns-else-levels-eq0 : goal.shape_error-returns-else-levels-eq0
+shape_error-returns-else-levels-eq0 t c = λ around same.
+    let has : has_shape c.args.shape c.args.value.now ≡ true = search rules in
     let some : 0 < c.args.levels = omega arith in
     c.error_in.ensures
     ∙ ap (nest_error (c.args.levels - 1) (rows_in c.args.rows.now) c.in-Some.inner (c.args.at + 4 + length c.args.value.now)) c.nest_block-block.ensures
-    ∙ sym (value_nest c.args.levels (within (rows_in c.args.rows.now) c.args.around.now) c.args.policy c.args.at c.args.kind c.args.value.now c.shape_among-shape.result c.in-Some.inner
-    c.shape_among-shape.ensures (sym c.policy_of.ensures ∙ c.in-Some.is) has some)
+    ∙ sym (value_nest c.args.levels (within (rows_in c.args.rows.now) around) c.args.policy c.args.at c.args.kind c.args.value.now c.args.shape c.in-Some.inner
+    same (sym c.policy_of.ensures ∙ c.in-Some.is) has some)
 
 pub error_in-returns-then-is_some : goal.error_in-returns-then-is_some
 error_in-returns-then-is_some t c =
@@ -44,11 +44,11 @@ error_in-returns-then-is_some t c =
     let bytes : List ℕ = unread c.loop-item.item-iterator in
     let kind : c.raw_kind-kind.result ≡ (attribute_of bytes).kind = c.raw_kind-kind.ensures.number ∙ ap (λ (b : List ℕ). (attribute_of b).kind) step.0 in
     let value : c.value.result.now ≡ (attribute_of bytes).value = c.value.ensures.bytes ∙ ap (λ (b : List ℕ). (attribute_of b).value) step.0 in
-    let is : is_some c.value_error-error.result ≡ true = search rules in
+    let is : is_some c.shape_error-error.result ≡ true = search rules in
     sym (at_attribute c.args.levels (within (rows_in c.args.rows.now) c.args.block.now) c.args.policy c.args.end c.args.block.now c.loop-item.left bytes (unread c.next.new.self)
-    (c.args.end - c.loop-item.left) c.raw_kind-kind.result c.value.result.now c.value_error-error.result c.loop-item.invariant step.2 refl kind value
-    c.value_error-error.ensures
-    ∙ first_found c.value_error-error.result (error_in c.args.levels (within (rows_in c.args.rows.now) c.args.block.now) c.args.policy c.args.end (unread c.next.new.self)) is)
+    (c.args.end - c.loop-item.left) c.raw_kind-kind.result c.value.result.now c.shape_error-error.result c.loop-item.invariant step.2 refl kind value
+    (c.shape_error-error.ensures c.args.block.now c.own_shape_among-shape.ensures)
+    ∙ first_found c.shape_error-error.result (error_in c.args.levels (within (rows_in c.args.rows.now) c.args.block.now) c.args.policy c.args.end (unread c.next.new.self)) is)
 
 pub error_in-loop-item-preserved : goal.error_in-loop-item-preserved
 error_in-loop-item-preserved t c =
@@ -56,10 +56,10 @@ error_in-loop-item-preserved t c =
     let bytes : List ℕ = unread c.loop-item.item-iterator in
     let kind : c.raw_kind-kind.result ≡ (attribute_of bytes).kind = c.raw_kind-kind.ensures.number ∙ ap (λ (b : List ℕ). (attribute_of b).kind) step.0 in
     let value : c.value.result.now ≡ (attribute_of bytes).value = c.value.ensures.bytes ∙ ap (λ (b : List ℕ). (attribute_of b).value) step.0 in
-    let is : is_some c.value_error-error.result ≡ false = search rules in
+    let is : is_some c.shape_error-error.result ≡ false = search rules in
     fine_later c.args.levels (within (rows_in c.args.rows.now) c.args.block.now) c.args.policy c.args.end c.args.block.now c.loop-item.left bytes (unread c.next.new.self)
-    (c.args.end - c.loop-item.left) c.raw_kind-kind.result c.value.result.now c.value_error-error.result c.length.result c.left_after-left.result
-    c.loop-item.invariant step.2 refl kind value c.value_error-error.ensures (none_found c.value_error-error.result is)
+    (c.args.end - c.loop-item.left) c.raw_kind-kind.result c.value.result.now c.shape_error-error.result c.length.result c.left_after-left.result
+    c.loop-item.invariant step.2 refl kind value (c.shape_error-error.ensures c.args.block.now c.own_shape_among-shape.ensures) (none_found c.shape_error-error.result is)
     (c.length.ensures.number ∙ ap length_field step.0) c.left_after-left.ensures
 
 pub error_in-returns-in-Err : goal.error_in-returns-in-Err

@@ -4,8 +4,8 @@ use Rattle.netlink_family.specs.Shapes.{rows_in, within}
 use Rattle.netlink_family.proofs.FirstErrors.{AreFine}
 use Rattle.netlink_family.proofs.attribute_error.+errors.Given as goal
 
-abbrev pub decreases-value_error : goal.decreases-value_error
-decreases-value_error l = 2 * l.levels
+abbrev pub decreases-shape_error : goal.decreases-shape_error
+decreases-shape_error l = 2 * l.levels
 
 abbrev pub decreases-error_in : goal.decreases-error_in
 decreases-error_in l = 2 * l.levels + 1
