@@ -1,12 +1,14 @@
 -- What is looked up in a policy is found among its rows.
 use Rattle.std.proofs.Common.{ℕ, ◌≡◌, ◌==◌, ◌+◌, ◌<◌, ◌≤◌, Bool, true, false, ◌&&◌, List, [], ◌∷◌, ◌++◌, length, slice_index_or, take, drop, Option, Some, refl, arith, ap, sym, ◌∙◌}
-use Rattle.std.specs.Prelude.{if◌then◌else◌}
+use Rattle.std.specs.Prelude.{bytes_eq, if◌then◌else◌}
 use Rattle.std.proofs.lemmas.Bool.{and_parts, eqb-true}
 use Rattle.std.proofs.lemmas.List.{drop_more}
 use Rattle.netlink_packet_core.specs.Views.{masked}
 use Rattle.netlink_family.specs.Policies.{IsPart, of_policy}
-use Rattle.netlink_family.specs.Shapes.{Row, any_kind, are_sorted, is_before, or_first, row_at, rows_in, shape_by, shape_in, sorted_from, stored_row}
+use Rattle.netlink_family.specs.Shapes.{Row, any_kind, are_sorted, choice_at, is_before, or_first, row_at, rows_in, shape_by, shape_in, sorted_from, stored_row}
 use Rattle.netlink_family.specs.SortedLaws.{back_sorted, before_later, before_less, front_sorted, if_not, tail_sorted}
+use Rattle.netlink_family.specs.declared.shape.Shape.{Shape}
+use Rattle.netlink_family.specs.declared.shape.Shape.TheVariants.{Bytes}
 use Rattle.netlink_family.proofs.RowSearch.{StoredRow, blank, parts}
 
 -- ---- a lookup in a policy reads only its rows
@@ -94,3 +96,41 @@ take_smaller p rows at sorted inside more =
       same = sym (ap (of_policy p) whole ∙ before_greater p front row back order more);
       sorted = front_sorted front (row ∷ back) order;
     }
+
+-- ---- a choice among the rows of a policy
+
+choice_step : (p : ℕ) (name : List ℕ) (row : Row) (part rows : List Row) (b : Bool) → (row.0 == p) ≡ b
+    → choice_at part p name ≡ choice_at rows p name
+    → choice_at (if b then row ∷ part else part) p name ≡ choice_at (row ∷ rows) p name
+choice_step p name row part rows true is same =
+    ap (λ (s : Shape). if row.0 == p && bytes_eq row.2 name then row.3 else s) same
+choice_step p name row part rows false is same =
+    same ∙ sym (ap (λ (b : Bool). if b && bytes_eq row.2 name then row.3 else choice_at rows p name) is)
+
+choice_of : (p : ℕ) (name : List ℕ) (rows : List Row) → choice_at (of_policy p rows) p name ≡ choice_at rows p name
+choice_of p name [] = refl
+choice_of p name (row ∷ rows) =
+    choice_step p name row (of_policy p rows) rows (row.0 == p) refl (choice_of p name rows)
+
+-- the invariant: the choice is among the rows that are left, and they are sorted
+pub record AreUnread (p : ℕ) (name : List ℕ) (rows rest : List StoredRow) : Type 0 where
+  pub same : choice_at (rows_in rows) p name ≡ choice_at (rows_in rest) p name
+  pub sorted : are_sorted (rows_in rest) ≡ true
+
+pub begins : (p : ℕ) (name : List ℕ) (rows part : List StoredRow) → IsPart p (rows_in rows) (rows_in part)
+    → AreUnread p name rows part
+begins p name rows part is = record {
+  same =
+      sym (choice_of p name (rows_in rows)) ∙ ap (λ (r : List Row). choice_at r p name) (sym is.same)
+      ∙ choice_of p name (rows_in part);
+  sorted = is.sorted;
+}
+
+-- a greater policy ends the rows of the policy
+pub ends : (p : ℕ) (name : List ℕ) (rows rest : List StoredRow) (row : StoredRow) (more : List StoredRow)
+    → AreUnread p name rows rest → rest ≡ row ∷ more → p < row.0 → choice_at (rows_in rows) p name ≡ Bytes
+ends p name rows rest row more left is less =
+    let order = sym (ap (λ (r : List StoredRow). are_sorted (rows_in r)) is) ∙ left.sorted in
+    left.same ∙ ap (λ (r : List StoredRow). choice_at (rows_in r) p name) is
+    ∙ sym (choice_of p name (stored_row row ∷ rows_in more))
+    ∙ ap (λ (r : List Row). choice_at r p name) (none_from p (stored_row row) (rows_in more) order less)

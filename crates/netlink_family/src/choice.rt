@@ -6,7 +6,7 @@ ghost use Rattle.netlink_family.specs.Policies.{IsPart};
 ghost use Rattle.netlink_family.specs.Shapes.{CachesOther, choice_at, choice_by, resolved, rows_in, shape_among, within, are_sorted};
 
 use crate::find::first_value;
-use crate::shape::{Row, Shape, cached_shape, row_shape};
+use crate::shape::{Row, Shape, cached_shape, row_shape, rows_from};
 use crate::value::bytes_until_nul;
 
 /// Returns the shape of a kind in a policy, among the attributes of a block.
@@ -27,6 +27,7 @@ pub(crate) fn own_shape_among(
     block: &[u8],
     kind: u16,
 ) -> Shape
+    requires sorted { are_sorted (rows_in rows.now) ≡ true }
     requires own { IsPart policy (rows_in rows.now) (rows_in own.now) }
     ensures { result ≡ shape_among (within (rows_in rows.now) block.now) policy kind }
 {
@@ -53,6 +54,7 @@ pub(crate) fn cached_shape_among(
 /// Returns the chosen shape, or the shape itself if it is not chosen by a value.
 #[inline(always)]
 fn resolved(rows: &[Row], block: &[u8], shape: Shape) -> Shape
+    requires sorted { are_sorted (rows_in rows.now) ≡ true }
     ensures { result ≡ resolved (within (rows_in rows.now) block.now) shape }
 {
     match shape {
@@ -64,6 +66,7 @@ fn resolved(rows: &[Row], block: &[u8], shape: Shape) -> Shape
 /// Returns the shape that the first attribute of a kind chooses.
 #[inline(never)]
 fn chosen_shape(rows: &[Row], policy: u16, block: &[u8], by: u16) -> Shape
+    requires sorted { are_sorted (rows_in rows.now) ≡ true }
     ensures { result ≡ choice_by (rows_in rows.now) policy (first_of by (listed block.now)) }
 {
     match first_value(block, by) {
@@ -72,12 +75,17 @@ fn chosen_shape(rows: &[Row], policy: u16, block: &[u8], by: u16) -> Shape
     }
 }
 
-/// Returns the shape in the first row of a policy with a name; `Bytes` if there is none.
+/// Returns the shape in the first row of a policy with a name; `Bytes` if there is none. Only reads
+/// the names in the policy.
 fn choice_at(rows: &[Row], policy: u16, name: &[u8]) -> Shape
+    requires sorted { are_sorted (rows_in rows.now) ≡ true }
     ensures { result ≡ choice_at (rows_in rows.now) policy name.now }
 {
-    let mut rest = rows;
+    let mut rest = rows_from(rows, policy);
     while let [row, more @ ..] = rest {
+        if row.0 > policy {
+            return Shape::Bytes;
+        }
         if is_choice(row.0, row.2, policy, name) {
             return row.3;
         }
