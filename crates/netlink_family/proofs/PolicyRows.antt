@@ -1,15 +1,16 @@
 -- What is looked up in a policy is found among its rows.
 use Rattle.std.proofs.Common.{ℕ, ◌≡◌, ◌==◌, ◌+◌, ◌<◌, ◌≤◌, Bool, true, false, ◌&&◌, List, [], ◌∷◌, ◌++◌, length, slice_index_or, take, drop, Option, Some, refl, arith, ap, sym, ◌∙◌}
-use Rattle.std.specs.Prelude.{bytes_eq, if◌then◌else◌}
+use Rattle.std.specs.Prelude.{◌||◌, bytes_eq, if◌then◌else◌}
 use Rattle.std.proofs.lemmas.Bool.{and_parts, eqb-true}
 use Rattle.std.proofs.lemmas.List.{drop_more}
 use Rattle.netlink_packet_core.specs.Views.{masked}
 use Rattle.netlink_family.specs.Policies.{IsPart, of_policy}
+use Rattle.netlink_family.specs.Pushing.{chooses, is_chosen_by}
 use Rattle.netlink_family.specs.Shapes.{Row, any_kind, are_sorted, choice_at, is_before, or_first, row_at, rows_in, shape_by, shape_in, sorted_from, stored_row}
 use Rattle.netlink_family.specs.SortedLaws.{back_sorted, before_later, before_less, front_sorted, if_not, tail_sorted}
 use Rattle.netlink_family.specs.declared.shape.Shape.{Shape}
 use Rattle.netlink_family.specs.declared.shape.Shape.TheVariants.{Bytes}
-use Rattle.netlink_family.proofs.RowSearch.{StoredRow, blank, parts}
+use Rattle.netlink_family.proofs.RowSearch.{StoredRow, all_but_first, blank, first_and_rest, parts}
 
 -- ---- a lookup in a policy reads only its rows
 
@@ -127,10 +128,39 @@ begins p name rows part is = record {
 }
 
 -- a greater policy ends the rows of the policy
-pub ends : (p : ℕ) (name : List ℕ) (rows rest : List StoredRow) (row : StoredRow) (more : List StoredRow)
-    → AreUnread p name rows rest → rest ≡ row ∷ more → p < row.0 → choice_at (rows_in rows) p name ≡ Bytes
-ends p name rows rest row more left is less =
-    let order = sym (ap (λ (r : List StoredRow). are_sorted (rows_in r)) is) ∙ left.sorted in
-    left.same ∙ ap (λ (r : List StoredRow). choice_at (rows_in r) p name) is
-    ∙ sym (choice_of p name (stored_row row ∷ rows_in more))
-    ∙ ap (λ (r : List Row). choice_at r p name) (none_from p (stored_row row) (rows_in more) order less)
+pub ends : (p : ℕ) (name : List ℕ) (rows rest : List StoredRow) → AreUnread p name rows rest → 1 ≤ length rest
+    → p < (slice_index_or rest 0 blank).0 → Bytes ≡ choice_at (rows_in rows) p name
+ends p name rows rest left some greater =
+    let row = stored_row (slice_index_or rest 0 blank) in
+    let more = rows_in (all_but_first rest) in
+    let is = ap rows_in (first_and_rest rest blank some) in
+    sym (left.same ∙ ap (λ (r : List Row). choice_at r p name) is ∙ sym (choice_of p name (row ∷ more))
+    ∙ ap (λ (r : List Row). choice_at r p name) (none_from p row more (sym (ap are_sorted is) ∙ left.sorted) greater))
+
+-- ---- kinds that choose
+
+chooses_step : (kind : ℕ) (row : Row) (part rows : List Row) (b : Bool) → (row.0 == 0) ≡ b
+    → chooses part kind ≡ chooses rows kind
+    → chooses (if b then row ∷ part else part) kind ≡ chooses (row ∷ rows) kind
+chooses_step kind row part rows true is same = ap (λ (c : Bool). row.0 == 0 && is_chosen_by kind row.3 || c) same
+chooses_step kind row part rows false is same =
+    same ∙ sym (ap (λ (b : Bool). b && is_chosen_by kind row.3 || chooses rows kind) is)
+
+chooses_of : (kind : ℕ) (rows : List Row) → chooses (of_policy 0 rows) kind ≡ chooses rows kind
+chooses_of kind [] = refl
+chooses_of kind (row ∷ rows) = chooses_step kind row (of_policy 0 rows) rows (row.0 == 0) refl (chooses_of kind rows)
+
+-- the invariant: the rows that are left decide, and they are sorted
+pub record AreAsked (kind : ℕ) (rows rest : List StoredRow) : Type 0 where
+  pub same : chooses (rows_in rows) kind ≡ chooses (rows_in rest) kind
+  pub sorted : are_sorted (rows_in rest) ≡ true
+
+-- another policy ends the rows of policy 0
+pub none_chooses : (kind : ℕ) (rows rest : List StoredRow) → AreAsked kind rows rest → 1 ≤ length rest
+    → 0 < (slice_index_or rest 0 blank).0 → false ≡ chooses (rows_in rows) kind
+none_chooses kind rows rest left some other =
+    let row = stored_row (slice_index_or rest 0 blank) in
+    let more = rows_in (all_but_first rest) in
+    let is = ap rows_in (first_and_rest rest blank some) in
+    sym (left.same ∙ ap (λ (r : List Row). chooses r kind) is ∙ sym (chooses_of kind (row ∷ more))
+    ∙ ap (λ (r : List Row). chooses r kind) (none_from 0 row more (sym (ap are_sorted is) ∙ left.sorted) other))

@@ -77,6 +77,7 @@ fn chosen_shape(rows: &[Row], policy: u16, block: &[u8], by: u16) -> Shape
 
 /// Returns the shape in the first row of a policy with a name; `Bytes` if there is none. Only reads
 /// the names in the policy.
+#[tactic(auto, using(crate::proofs::PolicyRows::begins, crate::proofs::PolicyRows::ends))]
 fn choice_at(rows: &[Row], policy: u16, name: &[u8]) -> Shape
     requires sorted { are_sorted (rows_in rows.now) ≡ true }
     ensures { result ≡ choice_at (rows_in rows.now) policy name.now }

@@ -66,13 +66,19 @@ fn keeps_shapes(rows: &[Row], block: &[u8], kind: u16) -> bool
     keeps_shape(rows, block, kind, kind) && keeps_all(rows, block, kind)
 }
 
-/// Returns whether a kind chooses the shape of some kind of a message's own attributes.
+/// Returns whether a kind chooses the shape of some kind of a message's own attributes. Their rows
+/// are the first ones.
+#[tactic(auto, using(crate::proofs::PolicyRows::none_chooses))]
 fn chooses(rows: &[Row], kind: u16) -> bool
+    requires sorted { are_sorted (rows_in rows.now) ≡ true }
     ensures { result ≡ chooses (rows_in rows.now) kind }
 {
     let mut rest = rows;
     while let [row, more @ ..] = rest {
-        if row.0 == TOP && is_chosen_by(kind, row.3) {
+        if row.0 != TOP {
+            return false;
+        }
+        if is_chosen_by(kind, row.3) {
             return true;
         }
         rest = more;
