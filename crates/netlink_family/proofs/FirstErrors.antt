@@ -74,6 +74,10 @@ pub none_found : {T : Type 0} (o : Option T) → is_some o ≡ false → o ≡ N
 none_found None is = refl
 none_found (Some x) is = absurd (cc)
 
+pub is_nothing : {T : Type 0} (o : Option T) → is_none o ≡ true → o ≡ None
+is_nothing None is = refl
+is_nothing (Some x) is = absurd (cc)
+
 pub first_found : {T : Type 0} (o later : Option T) → is_some o ≡ true → or_first o later ≡ o
 first_found None later is = absurd (cc)
 first_found (Some x) later is = refl

@@ -1,10 +1,10 @@
 //! Errors in attributes, each with its offset.
 
-ghost use Rattle.std.specs.Prelude.{ℕ, ◌≡◌, ◌+◌, ◌≤◌, ◌<◌, ◌^◌, List, Some, length, true};
+ghost use Rattle.std.specs.Prelude.{ℕ, ◌≡◌, ◌+◌, ◌≤◌, ◌<◌, ◌^◌, ◌&&◌, List, Some, is_none, length, true};
 ghost use Rattle.netlink_family.specs.ErrorTexts.{attribute_error_text, reason_text};
 ghost use Rattle.netlink_family.specs.Errors.{reason_of, decode_reason, left_after, nest_error, value_error};
 ghost use Rattle.netlink_family.specs.Policies.{IsPart};
-ghost use Rattle.netlink_family.specs.Shapes.{rows_in, shape_among, within, are_sorted};
+ghost use Rattle.netlink_family.specs.Shapes.{has_shape, nest_of, rows_in, shape_among, within, are_sorted};
 
 use crate::choice::{own_shape_among, shape_among};
 use crate::shape::{Row, Shape, has_shape, nest_block, policy_of, policy_rows};
@@ -180,9 +180,11 @@ pub(crate) fn value_error(
     shape_error(levels, rows, policy, shape, at, kind, value)
 }
 
-/// The same if the shape of the kind is already known.
+/// The same if the shape of the kind is already known. Tests first what most values are, so that
+/// these do not initialize the space for an error.
+#[inline(always)]
 #[cycle(errors)]
-pub(crate) fn shape_error(
+fn shape_error(
     levels: u8,
     rows: &[Row],
     policy: u16,
@@ -196,6 +198,9 @@ pub(crate) fn shape_error(
     ensures { (around : List ℕ) → shape ≡ shape_among (within (rows_in rows.now) around) policy kind
         → result ≡ value_error levels (within (rows_in rows.now) around) policy at kind value.now }
 {
+    if is_fine(shape, value) {
+        return None;
+    }
     if !has_shape(shape, value) {
         return Some(AttributeError {
             offset: at,
@@ -217,6 +222,14 @@ pub(crate) fn shape_error(
             error_in(levels - 1, rows, inner, at + 4 + value.len(), block)
         }
     }
+}
+
+/// Returns whether a value is no nest and has its shape.
+#[inline(always)]
+fn is_fine(shape: Shape, value: &[u8]) -> bool
+    ensures { result ≡ (is_none (nest_of shape) && has_shape shape value.now) }
+{
+    policy_of(shape).is_none() && has_shape(shape, value)
 }
 
 /// Returns the first error in the attributes of a block that ends at offset `end`, if there is one.

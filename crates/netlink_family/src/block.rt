@@ -1,7 +1,7 @@
 //! Checking and writing the attributes of a message.
 
 ghost use Rattle.std.specs.Option.{option_map};
-ghost use Rattle.std.specs.Prelude.{◌≡◌, ◌&&◌, ◌↔◌, ◌<◌, ◌^◌, ◌≤◌, ◌++◌, ℕ, List, None, Option, Some, IfErr, IfSome, IsTrue, OnOk, drop, false, is_some, length, replicate, take, true};
+ghost use Rattle.std.specs.Prelude.{◌≡◌, ◌&&◌, ◌↔◌, ◌<◌, ◌^◌, ◌≤◌, ◌++◌, List, None, Option, Some, IfErr, IfSome, IsTrue, OnOk, drop, false, is_some, length, replicate, take, true};
 ghost use Rattle.netlink_packet_core.specs.Attribute.{Attribute, padding, value_max};
 ghost use Rattle.netlink_packet_core.specs.Block.{canonical_block, IsCanonicalBlock};
 ghost use Rattle.netlink_packet_core.specs.DecodeError.{DecodeError};
@@ -12,7 +12,7 @@ ghost use Rattle.netlink_family.specs.ErrorTexts.{wants_memory};
 ghost use Rattle.netlink_family.specs.Errors.{block_error};
 ghost use Rattle.netlink_family.specs.Shapes.{CachesOther, are_shaped, fits_kind, is_block_shaped, nest_levels, reading_by, rows_in, shape_among, within, are_sorted};
 
-use crate::attribute_error::{AttributeError, error_in, shape_error};
+use crate::attribute_error::{AttributeError, error_in, value_error};
 use crate::choice::cached_shape_among;
 use crate::error::FamilyError;
 use crate::shape::{NEST_LEVELS, Row, Shape, TOP, has_shape, policy_of};
@@ -102,20 +102,19 @@ pub(crate) fn fits_shape(rows: &[Row], block: &[u8], shape: Shape, kind: u16, va
 {
     match policy_of(shape) {
         None => has_shape(shape, value),
-        Some(_) => fits_nest(rows, shape, kind, value),
+        Some(_) => fits_nest(rows, block, kind, value),
     }
 }
 
 /// The same for a nest. It is a separate function so that other values do not initialize the space
 /// for an error.
 #[inline(never)]
-fn fits_nest(rows: &[Row], shape: Shape, kind: u16, value: &[u8]) -> bool
+fn fits_nest(rows: &[Row], block: &[u8], kind: u16, value: &[u8]) -> bool
     requires sorted { are_sorted (rows_in rows.now) ≡ true }
     requires fits { length value.now ≤ value_max }
-    ensures { (block : List ℕ) → shape ≡ shape_among (within (rows_in rows.now) block) 0 kind
-        → result ≡ fits_kind (within (rows_in rows.now) block) kind value.now }
+    ensures { result ≡ fits_kind (within (rows_in rows.now) block.now) kind value.now }
 {
-    shape_error(NEST_LEVELS, rows, TOP, shape, 0, kind, value).is_none()
+    value_error(NEST_LEVELS, rows, TOP, block, 0, kind, value).is_none()
 }
 
 /// Returns whether the attributes of a walk in a block have the shapes of their kinds, and the walk

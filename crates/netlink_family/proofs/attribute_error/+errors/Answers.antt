@@ -1,12 +1,13 @@
 use Rattle.std.proofs.Common.{arith, rules, sym, ap, ◌∙◌, ◌≡◌, ◌<◌, ◌-◌, ◌+◌, length, List, ℕ, Some, refl, true, false}
-use Rattle.std.specs.Prelude.{is_some}
+use Rattle.std.specs.Prelude.{is_none, is_some}
+use Rattle.std.proofs.lemmas.Bool.{and_parts}
 use Rattle.netlink_packet_core.specs.Steps.{unread}
 use Rattle.netlink_packet_core.specs.Views.{attribute_of, length_field}
 use Rattle.netlink_family.specs.ErrorLaws.{value_deep, value_flat, value_nest, value_other}
-use Rattle.netlink_family.specs.Shapes.{has_shape, rows_in, within}
+use Rattle.netlink_family.specs.Shapes.{has_shape, nest_of, rows_in, within}
 use Rattle.netlink_family.specs.Errors.{error_at, error_in, nest_error}
 use Rattle.netlink_family.specs.declared.attribute_error.Reason.{Reason}
-use Rattle.netlink_family.proofs.FirstErrors.{at_attribute, malformed_here, fine_ends, fine_later, first_found, none_found}
+use Rattle.netlink_family.proofs.FirstErrors.{at_attribute, malformed_here, fine_ends, fine_later, first_found, is_nothing, none_found}
 use Rattle.netlink_family.proofs.attribute_error.+errors.Goals as goal
 
 pub shape_error-returns-then-not-has_shape : goal.shape_error-returns-then-not-has_shape
@@ -37,6 +38,12 @@ shape_error-returns-else-levels-eq0 t c = λ around same.
     ∙ ap (nest_error (c.args.levels - 1) (rows_in c.args.rows.now) c.in-Some.inner (c.args.at + 4 + length c.args.value.now)) c.nest_block-block.ensures
     ∙ sym (value_nest c.args.levels (within (rows_in c.args.rows.now) around) c.args.policy c.args.at c.args.kind c.args.value.now c.args.shape c.in-Some.inner
     same (sym c.policy_of.ensures ∙ c.in-Some.is) has some)
+
+pub shape_error-returns-then-is_fine : goal.shape_error-returns-then-is_fine
+shape_error-returns-then-is_fine t c = λ around same.
+    let fine = and_parts (is_none (nest_of c.args.shape)) (has_shape c.args.shape c.args.value.now) (sym c.is_fine.ensures ∙ c.if-is_fine.true) in
+    sym (value_flat c.args.levels (within (rows_in c.args.rows.now) around) c.args.policy c.args.at c.args.kind c.args.value.now c.args.shape
+    same (is_nothing (nest_of c.args.shape) fine.0) fine.1)
 
 pub error_in-returns-then-is_some : goal.error_in-returns-then-is_some
 error_in-returns-then-is_some t c =
