@@ -11,6 +11,9 @@ use crate::find::first_value;
 use crate::shape::{NEST_LEVELS, Row, Shape, TOP, row_shape};
 use netlink_packet_core::{NLA_TYPE_MASK, NlasIterator};
 
+/// The size of five attributes with values of 4 bytes.
+const FEW: usize = 40;
+
 /// Returns the error of appending an attribute to a block, with the offset counted from the start of
 /// the attribute: that of its value, or else that it would change a shape.
 pub(crate) fn added_error(
@@ -47,11 +50,15 @@ pub(crate) fn late_error(rows: &[Row], block: &[u8], kind: u16) -> Option<Attrib
     }
 }
 
-/// Returns whether there is this error.
+/// Returns whether there is this error. A kind that chooses no shape keeps all shapes, so for a few
+/// attributes it is cheaper to look at their shapes alone, and not at the rows.
 fn is_late(rows: &[Row], block: &[u8], kind: u16) -> bool
     requires sorted { are_sorted (rows_in rows.now) ≡ true }
     ensures { result ≡ is_late (within (rows_in rows.now) block.now) kind }
 {
+    if block.len() < FEW && block.len() < rows.len() {
+        return !keeps_shapes(rows, block, kind);
+    }
     chooses(rows, kind) && !keeps_shapes(rows, block, kind)
 }
 
