@@ -1,7 +1,7 @@
 -- The lines of a message, from those of its parts.
-use Rattle.std.proofs.Common.{◌≡◌, ◌∙◌, refl, ap, sym, subst, ℕ, List, [], Option, Some, None, IfOk, Result, Ok, Err, string_bytes}
-use Rattle.std.proofs.lemmas.Bool.{eqb-true}
-use Rattle.std.specs.Prelude.{Bool, true, false, nat_eq, ◌==◌, if◌then◌else◌}
+use Rattle.std.proofs.Common.{◌≡◌, ◌∙◌, refl, ap, arith, sym, subst, ℕ, List, [], Option, Some, None, IfOk, OnOk, Result, Ok, Err, string_bytes}
+use Rattle.std.proofs.lemmas.Bool.{eqb-true, ne_eqb}
+use Rattle.std.specs.Prelude.{◌≤◌, ◌<◌, Bool, true, false, length, nat_eq, ◌==◌, if◌then◌else◌}
 use Rattle.netlink_family.specs.ErrorTexts.{error_text}
 use Rattle.netlink_family.specs.declared.error.FamilyError.{FamilyError}
 use Rattle.netlink_family.specs.declared.error.FamilyError.TheVariants.{UnknownType}
@@ -11,7 +11,8 @@ use Rattle.netlink_packet_core.specs.declared.constants.TheConstants.{NLMSG_DONE
 use Rattle.netlink_replies.specs.Meaning.{Item, done_item, error_item, meaning}
 use Rattle.netlink_replies.specs.declared.reply.Reply.TheVariants.{Message, Overrun}
 use Rattle.netlink_lines.specs.Ack.{IsText, ack_attributes, marked_if}
-use Rattle.netlink_lines.specs.Messages.{Check, HasLines, Lines, Memory, Tells, bad, error_lines, frame_lines, good, item_lines, known_after, timed, unless_time}
+use Rattle.netlink_lines.specs.Messages.{Check, HasLines, Lines, Memory, Tells, bad, error_lines, family_lines, frame_lines, good, item_lines, is_named, known_after, timed, unless_time}
+use Rattle.netlink_lines.specs.Lines.{known_by}
 use Rattle.netlink_lines.specs.Time.{time_in, time_of}
 use Rattle.netlink_lines.specs.declared.device.Known.{Known}
 use Rattle.netlink_lines.specs.declared.messages.Shown.{Shown}
@@ -99,3 +100,86 @@ tells_lines check at frame memory shown result known view (Ok s) same names is s
       leaves_these check frame memory result known same names,
     )
 tells_lines check at frame memory shown result known view (Err e) same names is seen has timely = tt
+
+-- ---- a message of a family
+
+-- a message of the type 16 or above is no control message
+own_meaning : (frame : List ℕ) → 16 ≤ (header_of frame).message_type → meaning frame ≡ Some (Ok (Message frame))
+own_meaning frame least =
+    let t : ℕ = (header_of frame).message_type in
+    rw (
+      ne_eqb t NLMSG_NOOP (λ e. omega (arith, e, least)),
+      ne_eqb t NLMSG_ERROR (λ e. omega (arith, e, least)),
+      ne_eqb t NLMSG_DONE (λ e. omega (arith, e, least)),
+      ne_eqb t NLMSG_OVERRUN (λ e. omega (arith, e, least)),
+    ) refl
+
+-- nor a time
+own_time : (frame : List ℕ) → 16 ≤ (header_of frame).message_type → None ≡ time_in frame
+unfolding time_in
+own_time frame least = rw (ne_eqb (header_of frame).message_type 15 (λ e. omega (arith, e, least))) refl
+
+-- its line, where no text is in it
+own_item : (check : Check) (known : List Known) (at : ℕ) (frame : List ℕ) → 16 ≤ (header_of frame).message_type
+    → family_lines known at (header_of frame).message_type (length frame) (payload_of frame)
+    (check (header_of frame).message_type (payload_of frame))
+    ≡ item_lines check known at frame None (meaning frame)
+own_item check known at frame least =
+    rw (own_meaning frame least, ne_eqb (header_of frame).message_type 15 (λ e. omega (arith, e, least))) refl
+
+-- it has its lines after the time so far, by the names after it, and leaves no time
+pub tells_own : {E : Type 0} (check : Check) (at : ℕ) (frame : List ℕ) (memory : Memory) (known : List Known) (flags : ℕ)
+    (shown marked : Lines) (r : Result Shown E)
+    → 16 ≤ (header_of frame).message_type → known ≡ known_after check frame memory.known → flags ≡ (header_of frame).flags
+    → shown ≡ family_lines known at (header_of frame).message_type (length frame) (payload_of frame)
+    (check (header_of frame).message_type (payload_of frame))
+    → marked ≡ marked_if flags shown
+    → IfOk r (λ s. ◌≡◌ {A = Lines} (string_bytes s.text, s.is_malformed) (timed memory.time marked))
+    → IfOk r (λ s. Tells check at frame memory (string_bytes s.text, s.is_malformed) (record { time = None; known = known }))
+tells_own check at frame memory known flags shown marked (Ok s) least names flag lines mark timely =
+    let after : List Known = known_after check frame memory.known in
+    let attributes : [] ≡ ack_attributes (meaning frame) = sym (ap ack_attributes (own_meaning frame least)) in
+    let item : shown ≡ item_lines check after at frame None (meaning frame) =
+    lines ∙ own_item check known at frame least
+    ∙ ap (λ (k : List Known). item_lines check k at frame None (meaning frame)) names in (
+      None,
+      subst (λ (a : List ℕ). IsText a None) attributes no_text,
+      timely ∙ ap (timed memory.time)
+          (mark ∙ ap (λ (n : ℕ). marked_if n shown) flag ∙ ap (marked_if (header_of frame).flags) item)
+          ∙ ap (λ (t : Option Time). unless_time t (timed memory.time (frame_lines check after at frame None))) (own_time frame least),
+      leaves_these check frame memory None known (own_time frame least) names,
+    )
+tells_own check at frame memory known flags shown marked (Err e) least names flag lines mark timely = tt
+
+-- the names of links after a message without errors, if they were updated by it
+pub knows_message : (check : Check) (frame : List ℕ) (known after : List Known) (t : ℕ) (payload : List ℕ)
+    → t ≡ (header_of frame).message_type → payload ≡ payload_of frame
+    → check (header_of frame).message_type (payload_of frame) ≡ None
+    → after ≡ (if is_named t then known_by (t, payload) known else known) → after ≡ known_after check frame known
+unfolding known_after
+knows_message check frame known after t payload type is checked learned = rw checked (rw (type, is) at learned)
+
+same_names : (b : Bool) (known : List Known) → known ≡ (if b then known else known)
+same_names true known = refl
+same_names false known = refl
+
+-- an error leaves them
+pub knows_error : (check : Check) (frame : List ℕ) (known : List Known) (e : FamilyError)
+    → check (header_of frame).message_type (payload_of frame) ≡ Some e → known ≡ known_after check frame known
+unfolding known_after
+knows_error check frame known e checked = rw checked (same_names (is_named (header_of frame).message_type) known)
+
+-- a control message leaves them
+pub knows_other : (check : Check) (frame : List ℕ) (known : List Known) → (header_of frame).message_type < 16
+    → known ≡ known_after check frame known
+unfolding known_after
+knows_other check frame known less =
+    rw (
+      ne_eqb (header_of frame).message_type 16 (λ e. omega (arith, e, less)),
+      ne_eqb (header_of frame).message_type 17 (λ e. omega (arith, e, less)),
+    ) refl
+
+-- a fact holds with or without a value
+pub on_ok : {T E : Type 0} {P : Type 0} (r : Result T E) → P → OnOk r P
+on_ok (Ok value) is = is
+on_ok (Err e) is = tt

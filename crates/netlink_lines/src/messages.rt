@@ -1,12 +1,14 @@
 //! What a message is shown as.
 
-ghost use Rattle.std.specs.Prelude.{◌≡◌, false, IfOk, OnOk, string_bytes};
+ghost use Rattle.std.specs.Prelude.{◌≡◌, false, IfOk, OnOk, if◌then◌else◌, length, string_bytes};
 ghost use Rattle.std.specs.Option.{option_copied};
 ghost use Rattle.netlink_family.specs.Errors.{family_error};
 ghost use Rattle.netlink_packet_core.specs.FrameWalk.{IsWholeFrame};
+ghost use Rattle.netlink_packet_core.specs.Header.{header_of, payload_of};
 ghost use Rattle.netlink_replies.specs.Meaning.{shown_item};
 ghost use Rattle.netlink_lines.specs.Ack.{marked_if};
-ghost use Rattle.netlink_lines.specs.Messages.{HasLines, Lines, Tells, bad, error_lines, good, is_named, item_lines, known_after, memory_of, own_lines, timed, type_line, wrong_time};
+ghost use Rattle.netlink_lines.specs.Lines.{known_by, route_line};
+ghost use Rattle.netlink_lines.specs.Messages.{HasLines, Lines, Tells, bad, error_lines, family_lines, good, is_named, item_lines, known_after, line_or_type, memory_of, own_lines, timed, type_line, wrong_time};
 
 use crate::ack::{is_interrupted, kernel_text, meaning_of};
 use crate::device::Known;
@@ -28,6 +30,10 @@ pub(crate) struct Shown {
     pub(crate) is_malformed: bool,
 }
 
+/// The lowest type of a message that is neither a control message nor a time (`NLMSG_MIN_TYPE` of
+/// linux/netlink.h).
+const MIN_TYPE: u16 = 16;
+
 /// Returns the lines of the message in a frame at this offset of the input, after the messages that
 /// left this state, and updates the state. Requires that the bytes are one frame.
 ///
@@ -44,8 +50,14 @@ pub(crate) fn next_lines<F: Line>(
     ensures tells { IfOk result (λ s. Tells (family_error F.types F.short F.header_len F.rows) at frame.now
         (memory_of state.old) (string_bytes s.text, s.is_malformed) (memory_of state.new)) }
 {
-    learn::<F>(alloc, &mut state.known, frame)?;
     let before = state.time;
+    // Most messages are here, and are not asked for what only the others can be.
+    if NetlinkBuffer::new(frame).message_type() >= MIN_TYPE {
+        let shown = family_shown::<F>(alloc, &mut state.known, at, frame)?;
+        state.time = None;
+        let shown = marked(alloc, NetlinkBuffer::new(frame).flags(), shown)?;
+        return timed(alloc, before, shown);
+    }
     let time = time_in(frame);
     state.time = time;
     match time {
@@ -57,22 +69,46 @@ pub(crate) fn next_lines<F: Line>(
     }
 }
 
-/// Updates the names of links by the message in a frame. A malformed message changes nothing.
-#[tactic(auto, unfolding(crate::specs::Messages::known_after))]
-fn learn<F: Line>(alloc: Global, known: &mut Vec<Known>, frame: &[u8]) -> Result<(), AllocError>
+/// Returns the lines of a message of the family in a frame, and updates the names of links by it
+/// before. Checks the payload once for both. Requires that the bytes are one frame.
+fn family_shown<F: Line>(
+    alloc: Global,
+    known: &mut Vec<Known>,
+    at: u64,
+    frame: &[u8],
+) -> Result<Shown, AllocError>
     requires whole { IsWholeFrame frame.now }
-    ensures { OnOk result (known.new.items ≡ known_after (family_error F.types F.short F.header_len F.rows)
+    ensures names { OnOk result (known.new.items ≡ known_after (family_error F.types F.short F.header_len F.rows)
         frame.now known.old.items) }
+    ensures lines { IfOk result (λ s. (string_bytes s.text, s.is_malformed)
+        ≡ family_lines known.new.items at (header_of frame.now).message_type (length frame.now) (payload_of frame.now)
+        (family_error F.types F.short F.header_len F.rows (header_of frame.now).message_type (payload_of frame.now))) }
 {
     let view = NetlinkBuffer::new(frame);
     let message_type = view.message_type();
-    if !is_named(message_type) {
+    match MessageView::<F>::new(message_type, view.payload()) {
+        Ok(message) => {
+            learn::<F>(alloc, known, &message)?;
+            message_shown::<F>(alloc, known, frame.len(), &message)
+        }
+        Err(error) => rejected(alloc, at, message_type, frame.len(), &error),
+    }
+}
+
+/// Updates the names of links by a message.
+fn learn<F: Line>(
+    alloc: Global,
+    known: &mut Vec<Known>,
+    message: &MessageView<'_, F>,
+) -> Result<(), AllocError>
+    ensures { OnOk result (known.new.items
+        ≡ (if is_named message.now.message_type
+        then known_by (message.now.message_type, message.now.payload.now) known.old.items else known.old.items)) }
+{
+    if !is_named(message.message_type) {
         return Ok(());
     }
-    match MessageView::<F>::new(message_type, view.payload()) {
-        Ok(message) => F::learn(alloc, known, &message),
-        Err(_) => Ok(()),
-    }
+    F::learn(alloc, known, message)
 }
 
 /// Returns whether messages of this type have the names of links.
@@ -180,11 +216,25 @@ fn own_shown<F: Line>(
         return wrong_time(alloc, at, view.payload());
     }
     match MessageView::<F>::new(message_type, view.payload()) {
-        Ok(message) => match F::line(alloc, known, &message)? {
-            Some(line) => Ok(well_formed(line)),
-            None => Ok(well_formed(type_line(alloc, message_type, frame.len())?)),
-        },
+        Ok(message) => message_shown::<F>(alloc, known, frame.len(), &message),
         Err(error) => rejected(alloc, at, message_type, frame.len(), &error),
+    }
+}
+
+/// Returns the line of a message without errors, whose frame has this size.
+fn message_shown<F: Line>(
+    alloc: Global,
+    known: &[Known],
+    size: usize,
+    message: &MessageView<'_, F>,
+) -> Result<Shown, AllocError>
+    ensures { IfOk result (λ s. (string_bytes s.text, s.is_malformed)
+        ≡ good (line_or_type message.now.message_type size
+        (route_line known.now (message.now.message_type, message.now.payload.now)))) }
+{
+    match F::line(alloc, known, message)? {
+        Some(line) => Ok(well_formed(line)),
+        None => Ok(well_formed(type_line(alloc, message.message_type, size)?)),
     }
 }
 
