@@ -4,6 +4,7 @@
 mod command;
 mod ending;
 mod frames;
+mod hexadecimal;
 pub mod laws;
 mod nlas;
 pub mod overwrite;
