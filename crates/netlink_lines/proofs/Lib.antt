@@ -1,6 +1,7 @@
 pub mod Datagrams
 pub mod Frames
 pub mod Hops
+pub mod Index
 pub mod Joined
 pub mod Layouts
 pub mod Once

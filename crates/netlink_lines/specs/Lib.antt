@@ -12,6 +12,7 @@ pub mod LinkAddress
 pub mod LinkNames
 pub mod LinkParts
 pub mod Messages
+pub mod NameTable
 pub mod Names
 pub mod Namespace
 pub mod Neighbour

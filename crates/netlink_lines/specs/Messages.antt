@@ -93,7 +93,7 @@ pub record Memory : Type 0 where
   pub known : List Known
 
 abbrev pub memory_of : State → Memory
-memory_of state = record { time = state.time; known = state.known.items }
+memory_of state = record { time = state.time; known = state.known }
 
 -- no message so far
 abbrev pub no_memory : Memory

@@ -8,7 +8,8 @@ ghost use Rattle.netlink_lines.specs.Names.{address_verb_text};
 ghost use Rattle.netlink_lines.specs.Parts.{with_part, with_parts};
 
 use crate::address_flags::{push_flags, push_lifetimes};
-use crate::device::{Known, device_text};
+use crate::device::{Known, device_name};
+use crate::name_table::Names;
 use crate::names::{family_text, scope_text};
 use crate::parts::{push_keyed, push_number, push_part};
 use crate::text::{ip_words, name_text};
@@ -26,13 +27,25 @@ use std::alloc::{AllocError, Global};
 /// address, the peer's address if it is another one, the length of the prefix, the metric, the
 /// broadcast and the anycast address, the scope, the flags, the label and the lifetimes. Parts
 /// without an attribute are left out. A known link is printed by its name, and another one as `if` and its index.
-#[tactic(auto, unfolding(crate::specs::Address::address_line))]
 pub fn address_text(
     alloc: Global,
     known: &[Known],
     address: &MessageView<'_, Addresses>,
 ) -> Result<String, AllocError>
     ensures line { IfOk result (λ text. string_bytes text
+        ≡ address_line known.now address.now.message_type address.now.payload.now) }
+{
+    address_line(alloc, &Names::of(known), address)
+}
+
+/// Returns the line of a message about an address, as `address_text` does.
+#[tactic(auto, unfolding(crate::specs::Address::address_line))]
+pub(crate) fn address_line(
+    alloc: Global,
+    known: &Names<'_>,
+    address: &MessageView<'_, Addresses>,
+) -> Result<String, AllocError>
+    ensures { IfOk result (λ text. string_bytes text
         ≡ address_line known.now address.now.message_type address.now.payload.now) }
 {
     let mut text = front_text(alloc, known, address)?;
@@ -49,7 +62,7 @@ pub fn address_text(
 #[tactic(auto, unfolding(crate::specs::Address::address_front))]
 fn front_text(
     alloc: Global,
-    known: &[Known],
+    known: &Names<'_>,
     address: &MessageView<'_, Addresses>,
 ) -> Result<String, AllocError>
     ensures { IfOk result (λ text. string_bytes text
@@ -57,7 +70,7 @@ fn front_text(
 {
     let verb = verb_text(address.message_type);
     let index = address.header().u32(IFA_INDEX);
-    let name = device_text(alloc, known, index)?;
+    let name = device_name(alloc, known, index)?;
     let family = family_text(alloc, address.header().u8(IFA_FAMILY))?;
     format!(in alloc; "{verb}{index}: {name} {family}")
 }

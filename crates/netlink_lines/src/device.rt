@@ -6,6 +6,7 @@ ghost use Rattle.netlink_lines.specs.Device.{device_part, device_text, name_of};
 ghost use Rattle.netlink_lines.specs.Parts.{with_part};
 
 use crate::name::Name;
+use crate::name_table::{Names, name_of};
 use crate::parts::push_keyed;
 use crate::text::name_text;
 use std::alloc::{AllocError, Global};
@@ -20,8 +21,19 @@ pub struct Known {
 }
 
 /// Returns the name of a link, `if` and its index if the name is not known, or `*` for the index 0. Returns `AllocError` if an allocation fails.
-#[tactic(auto, unfolding(crate::specs::Device::device_text))]
 pub fn device_text(alloc: Global, known: &[Known], index: u32) -> Result<String, AllocError>
+    ensures { IfOk result (λ text. string_bytes text ≡ device_text known.now index) }
+{
+    device_name(alloc, &Names::of(known), index)
+}
+
+/// Returns the name of a link as `device_text` does.
+#[tactic(auto, unfolding(crate::specs::Device::device_text))]
+pub(crate) fn device_name(
+    alloc: Global,
+    known: &Names<'_>,
+    index: u32,
+) -> Result<String, AllocError>
     ensures { IfOk result (λ text. string_bytes text ≡ device_text known.now index) }
 {
     if index == 0 {
@@ -38,7 +50,7 @@ pub fn device_text(alloc: Global, known: &[Known], index: u32) -> Result<String,
 pub(crate) fn push_device(
     alloc: Global,
     text: &mut String,
-    known: &[Known],
+    known: &Names<'_>,
     key: &str,
     index: Option<u32>,
 ) -> Result<(), AllocError>
@@ -46,14 +58,14 @@ pub(crate) fn push_device(
         ≡ with_part (string_bytes text.old) (device_part known.now key.now index)) }
 {
     match index {
-        Some(index) => push_keyed(alloc, text, key, device_text(alloc, known, index)?.as_str()),
+        Some(index) => push_keyed(alloc, text, key, device_name(alloc, known, index)?.as_str()),
         None => Ok(()),
     }
 }
 
 /// Returns the name of the first known link with this index.
 #[tactic(auto, unfolding(crate::specs::Device::name_of))]
-pub(crate) fn name_of<'a>(known: &'a [Known], index: u32) -> Option<&'a [u8]>
+pub(crate) fn first_name<'a>(known: &'a [Known], index: u32) -> Option<&'a [u8]>
     ensures { option_copied result ≡ name_of known.now index }
 {
     for link in known {

@@ -4,18 +4,17 @@ ghost use Rattle.std.specs.Prelude.{◌≡◌, OnOk};
 ghost use Rattle.netlink_lines.specs.Device.{name_of};
 ghost use Rattle.netlink_lines.specs.Known.{has_name, link_known, with_name, with_room, without};
 
-use crate::device::{Known, name_of};
+use crate::device::Known;
 use crate::name::Name;
+use crate::name_table::{Names, name_of};
+use crate::short::LONGEST_NAME;
 use netlink_family::MessageView;
 use netlink_route::Links;
 use netlink_route::links::{IFI_INDEX, IFLA_IFNAME, RTM_DELLINK, RTM_NEWLINK};
 use std::alloc::{AllocError, Global};
 
-/// The size in bytes of the longest name of a link (`IFNAMSIZ` of linux/if.h, without the NUL).
-const LONGEST_NAME: usize = 15;
-
 /// The number of links whose names are kept.
-const MOST_LINKS: usize = 65_536;
+pub(crate) const MOST_LINKS: usize = 65_536;
 
 /// Enters the name of a link that exists, or removes that of a link that is deleted. A link keeps its
 /// name if a message has no name or a longer one than the kernel allows. Returns `AllocError` if an
@@ -56,7 +55,7 @@ pub fn enter_name(
     if name.len() > LONGEST_NAME {
         return Ok(());
     }
-    if has_name(known, index, name) {
+    if has_name(&Names::of(known), index, name) {
         return Ok(());
     }
     let name = Name::new(alloc, name)?;
@@ -67,7 +66,7 @@ pub fn enter_name(
 }
 
 /// Returns whether the link with this index has this name.
-fn has_name(known: &[Known], index: u32, name: &[u8]) -> bool
+pub(crate) fn has_name(known: &Names<'_>, index: u32, name: &[u8]) -> bool
     ensures { result ≡ has_name (name_of known.now index) name.now }
 {
     match name_of(known, index) {
@@ -77,7 +76,7 @@ fn has_name(known: &[Known], index: u32, name: &[u8]) -> bool
 }
 
 /// Removes the name of the link with this index, if it is known.
-fn forget(known: &mut Vec<Known>, index: u32)
+pub(crate) fn forget(known: &mut Vec<Known>, index: u32)
     ensures { known.new.items ≡ without index known.old.items }
 {
     known.retain(|link| link.index != index);

@@ -5,17 +5,20 @@ ghost use Rattle.std.specs.Option.{option_copied, option_map};
 ghost use Rattle.netlink_lines.specs.Lines.{code_words, done_line, error_line, known_by, later_line, other_line, route_line};
 
 use crate::ack::text_words;
-use crate::address::address_text;
+use crate::address::address_line;
 use crate::device::Known;
 use crate::known::learn_link;
-use crate::link::link_text;
+use crate::link::link_line;
+use crate::name_table::{NameTable, Names};
 use crate::namespace::namespace_text;
-use crate::neighbour::neighbour_text;
-use crate::neighbour_table::neighbour_table_text;
-use crate::route::route_text;
+use crate::neighbour::neighbour_line;
+use crate::neighbour_table::neighbour_table_line;
+use crate::route::route_entry_line;
 use crate::rule::rule_text;
 use netlink_family::{Both, Family, Joined, MessageView};
-use netlink_route::{Namespaces, NeighbourTables, Neighbours, RouteTables, Routes, Rules};
+use netlink_route::{
+    Addresses, Links, Namespaces, NeighbourTables, Neighbours, RouteTables, Routes, Rules,
+};
 use std::alloc::{AllocError, Global};
 
 /// A family whose messages may have lines.
@@ -37,24 +40,44 @@ pub trait Line: Family {
     ) -> Result<(), AllocError>
         ensures learned { OnOk result (known.new.items
             ≡ known_by (message.now.message_type, message.now.payload.now) known.old.items) };
+
+    /// Returns the line of a message as `line` does, by names that may have an index.
+    fn line_by(
+        alloc: Global,
+        known: &Names<'_>,
+        message: &MessageView<'_, Self>,
+    ) -> Result<Option<String>, AllocError>
+        ensures line { IfOk result (λ text. option_map string_bytes text
+            ≡ route_line known.now (message.now.message_type, message.now.payload.now)) }
+    {
+        Self::line(alloc, known.list(), message)
+    }
+
+    /// Updates the names of links by a message as `learn` does, and the index of the names, if they
+    /// have one. Without another body, `learn` may change any name, so that the names have no index
+    /// from then on.
+    fn learn_by(
+        alloc: Global,
+        known: &mut NameTable,
+        message: &MessageView<'_, Self>,
+    ) -> Result<(), AllocError>
+        ensures learned { OnOk result (known.new
+            ≡ known_by (message.now.message_type, message.now.payload.now) known.old) }
+    {
+        known.index = None;
+        Self::learn(alloc, &mut known.known, message)
+    }
 }
 
 impl Line for Joined<RouteTables> {
     /// Returns the line of a message as `ip -o` writes it, and `None` for one that `ip` does not
     /// write, such as a request for routes.
-    #[tactic(auto, unfolding(crate::specs::Lines::route_line))]
     fn line(
         alloc: Global,
         known: &[Known],
         message: &MessageView<'_, Joined<RouteTables>>,
     ) -> Result<Option<String>, AllocError> {
-        match message.tables().split() {
-            Ok(link) => Ok(Some(link_text(alloc, known, &link)?)),
-            Err(other) => match other.split() {
-                Ok(address) => Ok(Some(address_text(alloc, known, &address)?)),
-                Err(other) => other_line(alloc, known, &other),
-            },
-        }
+        line_of(alloc, &Names::of(known), &message.tables())
     }
 
     #[tactic(auto, unfolding(crate::specs::Lines::known_by))]
@@ -68,9 +91,50 @@ impl Line for Joined<RouteTables> {
             Err(_) => Ok(()),
         }
     }
+
+    fn line_by(
+        alloc: Global,
+        known: &Names<'_>,
+        message: &MessageView<'_, Joined<RouteTables>>,
+    ) -> Result<Option<String>, AllocError> {
+        line_of(alloc, known, &message.tables())
+    }
+
+    #[tactic(auto, unfolding(crate::specs::Lines::known_by))]
+    fn learn_by(
+        alloc: Global,
+        known: &mut NameTable,
+        message: &MessageView<'_, Joined<RouteTables>>,
+    ) -> Result<(), AllocError> {
+        match message.tables().split() {
+            Ok(link) => known.learn(alloc, &link),
+            Err(_) => Ok(()),
+        }
+    }
 }
 
-/// The tables that follow those of links and addresses, and those that follow routes.
+/// Returns the line of a message of route netlink, if it has one.
+#[tactic(auto, unfolding(crate::specs::Lines::route_line))]
+fn line_of(
+    alloc: Global,
+    known: &Names<'_>,
+    message: &MessageView<'_, AllTables>,
+) -> Result<Option<String>, AllocError>
+    ensures { IfOk result (λ text. option_map string_bytes text
+        ≡ route_line known.now (message.now.message_type, message.now.payload.now)) }
+{
+    match message.split() {
+        Ok(link) => Ok(Some(link_line(alloc, known, &link)?)),
+        Err(other) => match other.split() {
+            Ok(address) => Ok(Some(address_line(alloc, known, &address)?)),
+            Err(other) => other_line(alloc, known, &other),
+        },
+    }
+}
+
+/// The tables of route netlink, those that follow links and addresses, and those that follow routes.
+type AllTables = Both<Links, Both<Addresses, OtherTables>>;
+
 type OtherTables = Both<Neighbours, Both<Routes, LaterTables>>;
 
 type LaterTables = Both<Rules, Both<NeighbourTables, Namespaces>>;
@@ -78,16 +142,16 @@ type LaterTables = Both<Rules, Both<NeighbourTables, Namespaces>>;
 /// Returns the line of a message about neither a link nor an address, if it has one.
 fn other_line(
     alloc: Global,
-    known: &[Known],
+    known: &Names<'_>,
     message: &MessageView<'_, OtherTables>,
 ) -> Result<Option<String>, AllocError>
     ensures { IfOk result (λ text. option_map string_bytes text
         ≡ other_line known.now message.now.message_type message.now.payload.now) }
 {
     match message.split() {
-        Ok(neighbour) => Ok(Some(neighbour_text(alloc, known, &neighbour)?)),
+        Ok(neighbour) => Ok(Some(neighbour_line(alloc, known, &neighbour)?)),
         Err(other) => match other.split() {
-            Ok(route) => route_text(alloc, known, &route),
+            Ok(route) => route_entry_line(alloc, known, &route),
             Err(other) => later_line(alloc, known, &other),
         },
     }
@@ -96,7 +160,7 @@ fn other_line(
 /// Returns the line of a message about a rule, a neighbour table or an id of a namespace.
 fn later_line(
     alloc: Global,
-    known: &[Known],
+    known: &Names<'_>,
     message: &MessageView<'_, LaterTables>,
 ) -> Result<Option<String>, AllocError>
     ensures { IfOk result (λ text. option_map string_bytes text
@@ -105,7 +169,7 @@ fn later_line(
     match message.split() {
         Ok(rule) => rule_text(alloc, &rule),
         Err(other) => match other.split() {
-            Ok(table) => neighbour_table_text(alloc, known, &table),
+            Ok(table) => neighbour_table_line(alloc, known, &table),
             Err(namespace) => namespace_text(alloc, &namespace),
         },
     }

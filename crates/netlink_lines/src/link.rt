@@ -6,11 +6,12 @@ ghost use Rattle.netlink_route.specs.declared.links.TheConstants.{IFLA_IFNAME, I
 ghost use Rattle.netlink_lines.specs.Link.{below_name, below_words, link_front, link_kind, link_line, link_name, link_number, link_signed, link_string};
 ghost use Rattle.netlink_lines.specs.Names.{link_verb_text};
 
-use crate::device::{Known, device_text};
+use crate::device::{Known, device_name, device_text};
 use crate::flags::flags_text;
 use crate::link_address::push_hardware;
 use crate::link_names::{push_alternatives, push_spaces};
 use crate::link_parts::push_settings;
+use crate::name_table::Names;
 use crate::parts::{push_string, push_words};
 use crate::text::name_text;
 use netlink_family::MessageView;
@@ -26,13 +27,25 @@ use std::alloc::{AllocError, Global};
 /// of the device and its addresses, the network namespaces, the alias and the alternative names.
 /// The kind of link, which `ip` prints only with `-d`, follows. Parts without an attribute are left
 /// out. A known link is printed by its name, and another one as `if` and its index.
-#[tactic(auto, unfolding(crate::specs::Link::link_line))]
 pub fn link_text(
     alloc: Global,
     known: &[Known],
     link: &MessageView<'_, Links>,
 ) -> Result<String, AllocError>
     ensures line { IfOk result (λ text. string_bytes text
+        ≡ link_line known.now link.now.message_type link.now.payload.now) }
+{
+    link_line(alloc, &Names::of(known), link)
+}
+
+/// Returns the line of a message about a link, as `link_text` does.
+#[tactic(auto, unfolding(crate::specs::Link::link_line))]
+pub(crate) fn link_line(
+    alloc: Global,
+    known: &Names<'_>,
+    link: &MessageView<'_, Links>,
+) -> Result<String, AllocError>
+    ensures { IfOk result (λ text. string_bytes text
         ≡ link_line known.now link.now.message_type link.now.payload.now) }
 {
     let mut text = front_text(alloc, known, link)?;
@@ -55,7 +68,7 @@ pub fn link_text(
 #[tactic(auto, unfolding(crate::specs::Link::link_front))]
 fn front_text(
     alloc: Global,
-    known: &[Known],
+    known: &Names<'_>,
     link: &MessageView<'_, Links>,
 ) -> Result<String, AllocError>
     ensures { IfOk result (λ text. string_bytes text
@@ -95,7 +108,7 @@ fn link_name(alloc: Global, index: i32, link: &MessageView<'_, Links>) -> Result
 /// Returns the lower link.
 fn below_words(
     alloc: Global,
-    known: &[Known],
+    known: &Names<'_>,
     link: &MessageView<'_, Links>,
 ) -> Result<String, AllocError>
     ensures { IfOk result (λ text. string_bytes text ≡ below_words known.now
@@ -115,7 +128,7 @@ fn below_words(
 /// among the known links.
 fn below_name(
     alloc: Global,
-    known: &[Known],
+    known: &Names<'_>,
     namespace: Option<i32>,
     index: u32,
 ) -> Result<String, AllocError>
@@ -123,7 +136,7 @@ fn below_name(
 {
     match namespace {
         Some(_) => device_text(alloc, &[], index),
-        None => device_text(alloc, known, index),
+        None => device_name(alloc, known, index),
     }
 }
 

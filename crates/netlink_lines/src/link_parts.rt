@@ -4,7 +4,8 @@ ghost use Rattle.std.specs.Prelude.{◌≡◌, IfOk, OnOk, string_bytes};
 ghost use Rattle.netlink_lines.specs.LinkParts.{event_part, event_text, group_part, group_text, mode_part, mode_text, queue_part, setting_parts, state_part};
 ghost use Rattle.netlink_lines.specs.Parts.{with_part, with_parts};
 
-use crate::device::{Known, push_device};
+use crate::device::push_device;
+use crate::name_table::Names;
 use crate::names::state_text;
 use crate::parts::{push_keyed, push_number, push_string};
 use netlink_family::MessageView;
@@ -21,7 +22,7 @@ use std::alloc::{AllocError, Global};
 pub(crate) fn push_settings(
     alloc: Global,
     text: &mut String,
-    known: &[Known],
+    known: &Names<'_>,
     link: &MessageView<'_, Links>,
 ) -> Result<(), AllocError>
     ensures { OnOk result (string_bytes text.new ≡ with_parts (string_bytes text.old)

@@ -11,8 +11,8 @@ ghost use Rattle.netlink_lines.specs.Lines.{known_by, route_line};
 ghost use Rattle.netlink_lines.specs.Messages.{HasLines, Lines, Tells, bad, error_lines, family_lines, good, is_named, item_lines, known_after, line_or_type, memory_of, own_lines, timed, type_line, wrong_time};
 
 use crate::ack::{is_interrupted, kernel_text, meaning_of};
-use crate::device::Known;
 use crate::line::{Line, done_line, error_line};
+use crate::name_table::{NameTable, Names};
 use crate::state::State;
 use crate::time::{NLMSG_TSTAMP, Time, time_in, time_text};
 use netlink_family::{FamilyError, MessageView};
@@ -63,7 +63,7 @@ pub(crate) fn next_lines<F: Line>(
     match time {
         Some(_) => Ok(well_formed(String::new(alloc))),
         None => {
-            let shown = lines_of::<F>(alloc, &state.known, at, frame)?;
+            let shown = lines_of::<F>(alloc, &state.known.names(), at, frame)?;
             timed(alloc, before, shown)
         }
     }
@@ -73,15 +73,15 @@ pub(crate) fn next_lines<F: Line>(
 /// before. Checks the payload once for both. Requires that the bytes are one frame.
 fn family_shown<F: Line>(
     alloc: Global,
-    known: &mut Vec<Known>,
+    known: &mut NameTable,
     at: u64,
     frame: &[u8],
 ) -> Result<Shown, AllocError>
     requires whole { IsWholeFrame frame.now }
-    ensures names { OnOk result (known.new.items ≡ known_after (family_error F.types F.short F.header_len F.rows)
-        frame.now known.old.items) }
+    ensures names { OnOk result (known.new ≡ known_after (family_error F.types F.short F.header_len F.rows)
+        frame.now known.old) }
     ensures lines { IfOk result (λ s. (string_bytes s.text, s.is_malformed)
-        ≡ family_lines known.new.items at (header_of frame.now).message_type (length frame.now) (payload_of frame.now)
+        ≡ family_lines known.new at (header_of frame.now).message_type (length frame.now) (payload_of frame.now)
         (family_error F.types F.short F.header_len F.rows (header_of frame.now).message_type (payload_of frame.now))) }
 {
     let view = NetlinkBuffer::new(frame);
@@ -89,7 +89,7 @@ fn family_shown<F: Line>(
     match MessageView::<F>::new(message_type, view.payload()) {
         Ok(message) => {
             learn::<F>(alloc, known, &message)?;
-            message_shown::<F>(alloc, known, frame.len(), &message)
+            message_shown::<F>(alloc, &known.names(), frame.len(), &message)
         }
         Err(error) => rejected(alloc, at, message_type, frame.len(), &error),
     }
@@ -98,17 +98,17 @@ fn family_shown<F: Line>(
 /// Updates the names of links by a message.
 fn learn<F: Line>(
     alloc: Global,
-    known: &mut Vec<Known>,
+    known: &mut NameTable,
     message: &MessageView<'_, F>,
 ) -> Result<(), AllocError>
-    ensures { OnOk result (known.new.items
+    ensures { OnOk result (known.new
         ≡ (if is_named message.now.message_type
-        then known_by (message.now.message_type, message.now.payload.now) known.old.items else known.old.items)) }
+        then known_by (message.now.message_type, message.now.payload.now) known.old else known.old)) }
 {
     if !is_named(message.message_type) {
         return Ok(());
     }
-    F::learn(alloc, known, message)
+    F::learn_by(alloc, known, message)
 }
 
 /// Returns whether messages of this type have the names of links.
@@ -144,7 +144,7 @@ fn timed(alloc: Global, time: Option<Time>, shown: Shown) -> Result<Shown, Alloc
 /// if the flags have `NLM_F_DUMP_INTR`. Returns `AllocError` if an allocation fails.
 fn lines_of<F: Line>(
     alloc: Global,
-    known: &[Known],
+    known: &Names<'_>,
     at: u64,
     frame: &[u8],
 ) -> Result<Shown, AllocError>
@@ -175,7 +175,7 @@ fn marked(alloc: Global, flags: u16, shown: Shown) -> Result<Shown, AllocError>
 /// Returns the lines of a frame by what it means, and by the kernel's text in it.
 fn item_shown<F: Line>(
     alloc: Global,
-    known: &[Known],
+    known: &Names<'_>,
     at: u64,
     frame: &[u8],
     text: Option<&[u8]>,
@@ -202,7 +202,7 @@ fn item_shown<F: Line>(
 /// Returns the lines of a message that is not a control message.
 fn own_shown<F: Line>(
     alloc: Global,
-    known: &[Known],
+    known: &Names<'_>,
     at: u64,
     frame: &[u8],
 ) -> Result<Shown, AllocError>
@@ -224,7 +224,7 @@ fn own_shown<F: Line>(
 /// Returns the line of a message without errors, whose frame has this size.
 fn message_shown<F: Line>(
     alloc: Global,
-    known: &[Known],
+    known: &Names<'_>,
     size: usize,
     message: &MessageView<'_, F>,
 ) -> Result<Shown, AllocError>
@@ -232,7 +232,7 @@ fn message_shown<F: Line>(
         ≡ good (line_or_type message.now.message_type size
         (route_line known.now (message.now.message_type, message.now.payload.now)))) }
 {
-    match F::line(alloc, known, message)? {
+    match F::line_by(alloc, known, message)? {
         Some(line) => Ok(well_formed(line)),
         None => Ok(well_formed(type_line(alloc, message.message_type, size)?)),
     }

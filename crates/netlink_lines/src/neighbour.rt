@@ -9,6 +9,7 @@ ghost use Rattle.netlink_lines.specs.Parts.{with_part, with_parts};
 
 use crate::address::or_empty;
 use crate::device::{Known, push_device};
+use crate::name_table::Names;
 use crate::names::protocol_text;
 use crate::parts::{or_zero, push_keyed, push_part, push_when};
 use crate::text::{bytes_text, ip_words};
@@ -37,13 +38,25 @@ const ORDER: [u16; 8] = [0x01, 0x02, 0x04, 0x08, 0x10, 0x20, 0x40, 0x80];
 /// Returns the line of a message about a neighbour, as `ip -o neigh show` and `ip monitor neigh`
 /// print it, with one space between its parts: the verb, the address, the link, the link address,
 /// the flags, the states and the protocol.
-#[tactic(auto, unfolding(crate::specs::Neighbour::neighbour_line))]
 pub fn neighbour_text(
     alloc: Global,
     known: &[Known],
     neighbour: &MessageView<'_, Neighbours>,
 ) -> Result<String, AllocError>
     ensures line { IfOk result (λ text. string_bytes text
+        ≡ neighbour_line known.now neighbour.now.message_type neighbour.now.payload.now) }
+{
+    neighbour_line(alloc, &Names::of(known), neighbour)
+}
+
+/// Returns the line of a message about a neighbour, as `neighbour_text` does.
+#[tactic(auto, unfolding(crate::specs::Neighbour::neighbour_line))]
+pub(crate) fn neighbour_line(
+    alloc: Global,
+    known: &Names<'_>,
+    neighbour: &MessageView<'_, Neighbours>,
+) -> Result<String, AllocError>
+    ensures { IfOk result (λ text. string_bytes text
         ≡ neighbour_line known.now neighbour.now.message_type neighbour.now.payload.now) }
 {
     let mut text = String::new(alloc);
@@ -61,7 +74,7 @@ pub fn neighbour_text(
 fn push_front(
     alloc: Global,
     text: &mut String,
-    known: &[Known],
+    known: &Names<'_>,
     neighbour: &MessageView<'_, Neighbours>,
 ) -> Result<(), AllocError>
     ensures { OnOk result (string_bytes text.new ≡ with_parts (string_bytes text.old)
@@ -102,7 +115,7 @@ fn index_in(header: &[u8], index: i32) -> u32
 fn push_link(
     alloc: Global,
     text: &mut String,
-    known: &[Known],
+    known: &Names<'_>,
     index: u32,
 ) -> Result<(), AllocError>
     ensures { OnOk result

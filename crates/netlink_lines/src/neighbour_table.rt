@@ -8,6 +8,7 @@ ghost use Rattle.netlink_lines.specs.NeighbourTable.{delay_parts, limit_parts, l
 ghost use Rattle.netlink_lines.specs.Parts.{with_part, with_parts};
 
 use crate::device::{Known, push_device};
+use crate::name_table::Names;
 use crate::names::family_text;
 use crate::parts::{push_number, push_part};
 use crate::text::name_text;
@@ -25,13 +26,25 @@ use std::alloc::{AllocError, Global};
 /// Returns the line of a message about a neighbour table, as `ip -o ntable show` prints it, with one
 /// space between its parts: the family and the name, the limits, the link, the times in milliseconds
 /// and the numbers of probes. Returns `None` for a request.
-#[tactic(auto, unfolding(crate::specs::NeighbourTable::neighbour_table_line))]
 pub fn neighbour_table_text(
     alloc: Global,
     known: &[Known],
     table: &MessageView<'_, NeighbourTables>,
 ) -> Result<Option<String>, AllocError>
     ensures line { IfOk result (λ text. option_map string_bytes text
+        ≡ neighbour_table_line known.now table.now.message_type table.now.payload.now) }
+{
+    neighbour_table_line(alloc, &Names::of(known), table)
+}
+
+/// Returns the line of a message about a neighbour table, as `neighbour_table_text` does.
+#[tactic(auto, unfolding(crate::specs::NeighbourTable::neighbour_table_line))]
+pub(crate) fn neighbour_table_line(
+    alloc: Global,
+    known: &Names<'_>,
+    table: &MessageView<'_, NeighbourTables>,
+) -> Result<Option<String>, AllocError>
+    ensures { IfOk result (λ text. option_map string_bytes text
         ≡ neighbour_table_line known.now table.now.message_type table.now.payload.now) }
 {
     if table.message_type != RTM_NEWNEIGHTBL {
@@ -46,7 +59,7 @@ pub fn neighbour_table_text(
 #[tactic(auto, unfolding(crate::specs::NeighbourTable::table_text), using(crate::proofs::Joined::with_parts_append))]
 fn table_text(
     alloc: Global,
-    known: &[Known],
+    known: &Names<'_>,
     table: &MessageView<'_, NeighbourTables>,
 ) -> Result<String, AllocError>
     ensures { IfOk result (λ text. string_bytes text ≡ table_text known.now table.now.payload.now) }
@@ -65,7 +78,7 @@ fn table_text(
 fn push_parms(
     alloc: Global,
     text: &mut String,
-    known: &[Known],
+    known: &Names<'_>,
     parms: &BlockView<'_>,
 ) -> Result<(), AllocError>
     requires rows { rows_in parms.now.rows.now ≡ ⟦<NeighbourTables as Table>⟧.rows 64 }

@@ -8,6 +8,7 @@ ghost use Rattle.netlink_lines.specs.Route.{installer_part, is_own, kept_parts, 
 
 use crate::address::or_empty;
 use crate::device::{Known, push_device};
+use crate::name_table::Names;
 use crate::names::{protocol_text, route_type_text, scope_text, table_text};
 use crate::parts::{
     host_length, prefix_text, push_keyed, push_number, push_part, push_realms, push_tos, push_when,
@@ -39,13 +40,25 @@ const RTPROT_BOOT: u8 = 3;
 /// `ip route get` and `ip monitor route` print it, with one space between its parts. A known link is
 /// named, and any other is `if` and its index. Returns `None` for a request and for a route of
 /// another family.
-#[tactic(auto, unfolding(crate::specs::Route::route_entry_line))]
 pub fn route_text(
     alloc: Global,
     known: &[Known],
     route: &MessageView<'_, Routes>,
 ) -> Result<Option<String>, AllocError>
     ensures line { IfOk result (λ text. option_map string_bytes text
+        ≡ route_entry_line known.now route.now.message_type route.now.payload.now) }
+{
+    route_entry_line(alloc, &Names::of(known), route)
+}
+
+/// Returns the line of a message about a route, as `route_text` does.
+#[tactic(auto, unfolding(crate::specs::Route::route_entry_line))]
+pub(crate) fn route_entry_line(
+    alloc: Global,
+    known: &Names<'_>,
+    route: &MessageView<'_, Routes>,
+) -> Result<Option<String>, AllocError>
+    ensures { IfOk result (λ text. option_map string_bytes text
         ≡ route_entry_line known.now route.now.message_type route.now.payload.now) }
 {
     if route.message_type == RTM_GETROUTE || host_length(route.header().u8(RTM_FAMILY)) == 0 {
@@ -61,7 +74,7 @@ pub fn route_text(
 #[tactic(auto, unfolding(crate::specs::Route::route_words))]
 fn route_words(
     alloc: Global,
-    known: &[Known],
+    known: &Names<'_>,
     route: &MessageView<'_, Routes>,
 ) -> Result<String, AllocError>
     ensures { IfOk result (λ text. string_bytes text
@@ -156,7 +169,7 @@ fn source_of<'a>(route: &MessageView<'a, Routes>) -> &'a [u8]
 fn push_link(
     alloc: Global,
     text: &mut String,
-    known: &[Known],
+    known: &Names<'_>,
     route: &MessageView<'_, Routes>,
 ) -> Result<(), AllocError>
     ensures { OnOk result (string_bytes text.new
@@ -277,7 +290,7 @@ fn preferred_of<'a>(route: &MessageView<'a, Routes>) -> &'a [u8]
 fn push_rest(
     alloc: Global,
     text: &mut String,
-    known: &[Known],
+    known: &Names<'_>,
     route: &MessageView<'_, Routes>,
 ) -> Result<(), AllocError>
     ensures { OnOk result (string_bytes text.new
@@ -332,7 +345,7 @@ fn mark_text(alloc: Global, mark: Option<u32>) -> Result<String, AllocError>
 fn push_last(
     alloc: Global,
     text: &mut String,
-    known: &[Known],
+    known: &Names<'_>,
     route: &MessageView<'_, Routes>,
 ) -> Result<(), AllocError>
     ensures { OnOk result (string_bytes text.new

@@ -11,7 +11,8 @@ ghost use Rattle.netlink_lines.specs.Parts.{with_part, with_parts};
 ghost use Rattle.netlink_lines.specs.RouteHops.{IsHop, IsHops, IsOfHop, hop_parts, hops_text, next_parts, via_part, with_hop};
 
 use crate::address::or_empty;
-use crate::device::{Known, push_device};
+use crate::device::push_device;
+use crate::name_table::Names;
 use crate::names::family_text;
 use crate::parts::{push_keyed, push_part, push_realms};
 use crate::route_names::hop_flags_text;
@@ -27,7 +28,7 @@ use std::alloc::{AllocError, Global};
 pub(crate) fn push_hops(
     alloc: Global,
     text: &mut String,
-    known: &[Known],
+    known: &Names<'_>,
     route: &MessageView<'_, Routes>,
 ) -> Result<(), AllocError>
     ensures { OnOk result (string_bytes text.new ≡ hops_text known.now (string_bytes text.old)
@@ -43,7 +44,7 @@ pub(crate) fn push_hops(
 fn push_list(
     alloc: Global,
     text: &mut String,
-    known: &[Known],
+    known: &Names<'_>,
     hops: &BlockView<'_>,
 ) -> Result<(), AllocError>
     requires { IsHops (⟦<Routes as Table>⟧.rows 24) hops.now }
@@ -60,7 +61,7 @@ fn push_list(
 fn push_hop(
     alloc: Global,
     text: &mut String,
-    known: &[Known],
+    known: &Names<'_>,
     word: u16,
     value: Value<'_>,
 ) -> Result<(), AllocError>
@@ -81,7 +82,7 @@ fn push_hop(
 fn push_hop_parts(
     alloc: Global,
     text: &mut String,
-    known: &[Known],
+    known: &Names<'_>,
     word: u16,
     header: &[u8],
     attributes: &BlockView<'_>,

@@ -3,7 +3,7 @@
 ghost use Rattle.std.specs.Prelude.{◌≡◌};
 ghost use Rattle.netlink_lines.specs.Messages.{memory_of, no_memory};
 
-use crate::device::Known;
+use crate::name_table::NameTable;
 use crate::time::Time;
 use std::alloc::Global;
 
@@ -13,7 +13,7 @@ pub struct State {
     /// The time that precedes them.
     pub time: Option<Time>,
     /// The names of links, the oldest first.
-    pub known: Vec<Known>,
+    pub known: NameTable,
 }
 
 impl State {
@@ -23,7 +23,7 @@ impl State {
     {
         State {
             time: None,
-            known: Vec::new(alloc),
+            known: NameTable::new(alloc),
         }
     }
 }

@@ -15,7 +15,7 @@ returns-then-message_type-ge-MIN_TYPE g c =
     c.flags.ensures.number ∙ ap (λ (b : Bor (List ℕ)). (header_of b.now).flags) c.new-then-message_type-ge-MIN_TYPE.ensures.keeps in
     record {
       tells =
-          tells_own check c.args.at c.args.frame.now (memory_of c.args.state.now) c.family_shown.new.known.items c.flags.result
+          tells_own check c.args.at c.args.frame.now (memory_of c.args.state.now) c.family_shown.new.known c.flags.result
           (string_bytes shown.text, shown.is_malformed) (string_bytes after.text, after.is_malformed) c.timed.result least
           c.in_ok-shown.ensures.names flags c.in_ok-shown.ensures.lines c.in_ok-shown-2.ensures c.timed.ensures;
     }
@@ -28,7 +28,7 @@ returns-in-Some g c =
     let less : (header_of c.args.frame.now).message_type < 16 = search rules in
     record {
       tells =
-          tells_time check c.args.at c.args.frame.now (memory_of c.args.state.now) _ c.time_in-time.result c.args.state.now.known.items
+          tells_time check c.args.at c.args.frame.now (memory_of c.args.state.now) _ c.time_in-time.result c.args.state.now.known
           c.in-Some.field-0 c.time_in-time.ensures.time (knows_other check c.args.frame.now _ less) c.in-Some.ensures.time none;
     }
 
@@ -40,7 +40,7 @@ returns-in_ok-shown-in-None g c =
     record {
       tells =
           tells_lines check c.args.at c.args.frame.now (memory_of c.args.state.now) (string_bytes shown.text, shown.is_malformed)
-          c.time_in-time.result c.args.state.now.known.items c.deref.result.now c.timed-in-None.result c.time_in-time.ensures.time
-          (knows_other check c.args.frame.now _ less) c.in-None.ensures.time c.deref.ensures.value
+          c.time_in-time.result c.args.state.now.known c.names.result c.timed-in-None.result c.time_in-time.ensures.time
+          (knows_other check c.args.frame.now _ less) c.in-None.ensures.time c.names.ensures
           c.in_ok-shown-in-None.ensures.lines c.timed-in-None.ensures;
     }

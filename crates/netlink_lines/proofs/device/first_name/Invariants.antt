@@ -1,6 +1,6 @@
 use Rattle.std.proofs.Common.{◌≡◌, drop}
 use Rattle.netlink_lines.specs.Device.{name_of}
-use Rattle.netlink_lines.proofs.device.name_of.Given as goal
+use Rattle.netlink_lines.proofs.device.first_name.Given as goal
 
 -- none of the links so far has the index
 abbrev pub invariant-loop-link : goal.invariant-loop-link
