@@ -18,7 +18,7 @@ use std::collections::BTreeMap;
 use std::marker::Model;
 
 /// The number of links from which on an index is faster than a search of the list.
-const MANY_LINKS: usize = 16;
+const MANY_LINKS: usize = 64;
 
 /// Names of links to print, the oldest first.
 #[derive(Drop)]
