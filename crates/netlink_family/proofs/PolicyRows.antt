@@ -41,7 +41,7 @@ skip p row rows other =
     if_not (row.0 == p) (row ∷ of_policy p rows) (of_policy p rows) (λ is. other (eqb-true row.0 p is))
 
 -- no row before one of a smaller policy
-pub after_smaller : (p : ℕ) (front : List Row) (row : Row) (back : List Row)
+after_smaller : (p : ℕ) (front : List Row) (row : Row) (back : List Row)
     → are_sorted (front ++ (row ∷ back)) ≡ true → row.0 < p → of_policy p (front ++ (row ∷ back)) ≡ of_policy p back
 after_smaller p [] row back sorted less = skip p row back (λ e. omega arith)
 after_smaller p (a ∷ front) row back sorted less =
@@ -50,7 +50,7 @@ after_smaller p (a ∷ front) row back sorted less =
     ∙ after_smaller p front row back (tail_sorted a (front ++ (row ∷ back)) sorted) less
 
 -- no row from one of a greater policy on
-pub none_from : (p : ℕ) (row : Row) (back : List Row) → sorted_from row back ≡ true → p < row.0
+none_from : (p : ℕ) (row : Row) (back : List Row) → sorted_from row back ≡ true → p < row.0
     → of_policy p (row ∷ back) ≡ []
 none_from p row [] sorted more = skip p row [] (λ e. omega arith)
 none_from p row (b ∷ back) sorted more =
@@ -58,7 +58,7 @@ none_from p row (b ∷ back) sorted more =
     let low : row.0 ≤ b.0 = (before_less row b parts.0).low in
     skip p row (b ∷ back) (λ e. omega arith) ∙ none_from p b back parts.1 (omega arith)
 
-pub before_greater : (p : ℕ) (front : List Row) (row : Row) (back : List Row)
+before_greater : (p : ℕ) (front : List Row) (row : Row) (back : List Row)
     → are_sorted (front ++ (row ∷ back)) ≡ true → p < row.0 → of_policy p (front ++ (row ∷ back)) ≡ of_policy p front
 before_greater p [] row back sorted more = none_from p row back sorted more
 before_greater p (a ∷ front) row back sorted more =
