@@ -7,6 +7,7 @@ pub mod Layouts
 pub mod Once
 pub mod OncePackets
 pub mod Packets
+pub mod Pieces
 pub mod Properties
 pub mod Reading
 pub mod Running
@@ -14,3 +15,4 @@ pub mod Shown
 pub mod Signed
 pub mod Starting
 pub mod Steps
+pub mod Threes

@@ -47,6 +47,10 @@ prefix_of [] size whole = if size == 0 then [] else codes "0/" ++ decimal size
 prefix_of (b ∷ ip) size whole =
     if size == whole then b ∷ ip else (b ∷ ip) ++ (codes "/" ++ decimal size)
 
+-- what follows an address
+abbrev pub prefix_end : ℕ → ℕ → List ℕ
+prefix_end size whole = if size == whole then [] else codes "/" ++ decimal size
+
 unfoldable pub prefix_text : List ℕ → ℕ → ℕ → List ℕ
 prefix_text bytes size whole = prefix_of (ip_words bytes) size whole
 

@@ -95,19 +95,13 @@ fn push_places(
         address.view().u32(IFA_RT_PRIORITY),
     )?;
     push_keyed(
-        alloc,
         text,
         "brd",
         ip_words(alloc, broadcast_ip(address))?.as_str(),
     )?;
-    push_keyed(
-        alloc,
-        text,
-        "any",
-        ip_words(alloc, anycast_ip(address))?.as_str(),
-    )?;
+    push_keyed(text, "any", ip_words(alloc, anycast_ip(address))?.as_str())?;
     let scope = scope_text(alloc, address.header().u8(IFA_SCOPE))?;
-    push_keyed(alloc, text, "scope", scope.as_str())
+    push_keyed(text, "scope", scope.as_str())
 }
 
 /// Appends the label.
@@ -136,7 +130,7 @@ fn push_metric(
     if own.is_empty() {
         return Ok(());
     }
-    push_number(alloc, text, "metric", metric)
+    push_number(text, "metric", metric)
 }
 
 /// Returns the verb of a message type.

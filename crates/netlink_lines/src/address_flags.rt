@@ -106,12 +106,7 @@ fn push_rest(alloc: Global, text: &mut String, rest: u32) -> Result<(), AllocErr
     if rest == 0 {
         return Ok(());
     }
-    push_keyed(
-        alloc,
-        text,
-        "flags",
-        format!(in alloc; "{rest:x}")?.as_str(),
-    )
+    push_keyed(text, "flags", format!(in alloc; "{rest:x}")?.as_str())
 }
 
 /// Appends how long an address is valid and preferred, given its flags and its `IFA_CACHEINFO`.
@@ -132,9 +127,9 @@ pub(crate) fn push_lifetimes(
                 return Ok(());
             }
             let valid = seconds_text(alloc, u32_at(info, 4))?;
-            push_keyed(alloc, text, "valid_lft", valid.as_str())?;
+            push_keyed(text, "valid_lft", valid.as_str())?;
             let preferred = preferred_text(alloc, flags, u32_at(info, 0), i32_at(info, 0))?;
-            push_keyed(alloc, text, "preferred_lft", preferred.as_str())
+            push_keyed(text, "preferred_lft", preferred.as_str())
         }
     }
 }

@@ -1,13 +1,14 @@
 //! The names of links.
 
-ghost use Rattle.std.specs.Prelude.{◌≡◌, IfOk, OnOk, string_bytes};
+ghost use Rattle.std.specs.Prelude.{◌≡◌, ◌++◌, IfOk, OnOk, codes, decimal, string_bytes};
 ghost use Rattle.std.specs.Option.{option_copied};
 ghost use Rattle.netlink_lines.specs.Device.{device_part, device_text, name_of};
-ghost use Rattle.netlink_lines.specs.Parts.{with_part};
+ghost use Rattle.netlink_lines.specs.Parts.{keyed, with_part};
 
+use crate::digits::push_decimal;
 use crate::name::Name;
 use crate::name_table::{Names, name_of};
-use crate::parts::push_keyed;
+use crate::parts::{push_key, push_keyed, push_named};
 use crate::text::name_text;
 use std::alloc::{AllocError, Global};
 
@@ -46,7 +47,7 @@ pub(crate) fn device_name(
 }
 
 /// Appends a key and the name of a link, if there is one.
-#[tactic(auto, unfolding(crate::specs::Parts::with_part))]
+#[tactic(auto, unfolding(crate::specs::Device::device_text, crate::specs::Parts::keyed, crate::specs::Parts::with_part))]
 pub(crate) fn push_device(
     alloc: Global,
     text: &mut String,
@@ -58,9 +59,28 @@ pub(crate) fn push_device(
         ≡ with_part (string_bytes text.old) (device_part known.now key.now index)) }
 {
     match index {
-        Some(index) => push_keyed(alloc, text, key, device_name(alloc, known, index)?.as_str()),
         None => Ok(()),
+        Some(index) => {
+            if index == 0 {
+                return push_keyed(text, key, "*");
+            }
+            match name_of(known, index) {
+                Some(name) => push_named(text, key, name),
+                None => push_unnamed(text, key, index),
+            }
+        }
     }
+}
+
+/// Appends a key, `if` and the index of a link.
+#[tactic(auto, using(crate::proofs::Pieces::index_more))]
+fn push_unnamed(text: &mut String, key: &str, index: u32) -> Result<(), AllocError>
+    ensures { OnOk result (string_bytes text.new
+        ≡ with_part (string_bytes text.old) (keyed key.now (codes "if" ++ decimal index))) }
+{
+    push_key(text, key)?;
+    text.push_str("if")?;
+    push_decimal(text, index)
 }
 
 /// Returns the name of the first known link with this index.

@@ -8,6 +8,7 @@ mod address;
 mod address_flags;
 mod capture;
 mod device;
+mod digits;
 mod flags;
 mod hardware;
 mod known;

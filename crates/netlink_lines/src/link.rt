@@ -52,14 +52,9 @@ pub(crate) fn link_line(
     push_settings(alloc, &mut text, known, link)?;
     push_hardware(alloc, &mut text, link)?;
     push_spaces(alloc, &mut text, link)?;
-    push_words(
-        alloc,
-        &mut text,
-        "alias",
-        link.view().str_bytes(IFLA_IFALIAS),
-    )?;
+    push_words(&mut text, "alias", link.view().str_bytes(IFLA_IFALIAS))?;
     push_alternatives(alloc, &mut text, link)?;
-    push_string(alloc, &mut text, "kind", kind_of(link))?;
+    push_string(&mut text, "kind", kind_of(link))?;
     text.push_str("\n")?;
     Ok(text)
 }

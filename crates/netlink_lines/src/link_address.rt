@@ -33,7 +33,6 @@ pub(crate) fn push_hardware(
     push_part(text, link_address(alloc, layer, own_of(link))?.as_str())?;
     let broadcast = link_address(alloc, layer, broadcast_of(link))?;
     push_keyed(
-        alloc,
         text,
         broadcast_key(link.header().u32(IFI_FLAGS)),
         broadcast.as_str(),
@@ -116,7 +115,6 @@ fn push_permanent(
         return Ok(());
     }
     push_keyed(
-        alloc,
         text,
         "permaddr",
         link_address(alloc, layer, permanent)?.as_str(),

@@ -148,7 +148,7 @@ fn push_property(
         return Ok(());
     }
     match value {
-        Value::Str(name) => push_string(alloc, text, "altname", Some(bytes_until_nul(name))),
+        Value::Str(name) => push_string(text, "altname", Some(bytes_until_nul(name))),
         _ => unreachable!(),
     }
 }

@@ -28,8 +28,8 @@ pub(crate) fn push_settings(
     ensures { OnOk result (string_bytes text.new ≡ with_parts (string_bytes text.old)
         (setting_parts known.now link.now.payload.now)) }
 {
-    push_number(alloc, text, "mtu", link.view().u32(IFLA_MTU))?;
-    push_string(alloc, text, "qdisc", link.view().str_bytes(IFLA_QDISC))?;
+    push_number(text, "mtu", link.view().u32(IFLA_MTU))?;
+    push_string(text, "qdisc", link.view().str_bytes(IFLA_QDISC))?;
     push_device(alloc, text, known, "master", link.view().u32(IFLA_MASTER))?;
     push_state(alloc, text, link.view().u8(IFLA_OPERSTATE))?;
     push_mode(alloc, text, link.view().u8(IFLA_LINKMODE))?;
@@ -45,7 +45,7 @@ fn push_state(alloc: Global, text: &mut String, state: Option<u8>) -> Result<(),
         (string_bytes text.new ≡ with_part (string_bytes text.old) (state_part state)) }
 {
     match state {
-        Some(state) => push_keyed(alloc, text, "state", state_text(alloc, state)?.as_str()),
+        Some(state) => push_keyed(text, "state", state_text(alloc, state)?.as_str()),
         None => Ok(()),
     }
 }
@@ -57,7 +57,7 @@ fn push_mode(alloc: Global, text: &mut String, mode: Option<u8>) -> Result<(), A
         (string_bytes text.new ≡ with_part (string_bytes text.old) (mode_part mode)) }
 {
     match mode {
-        Some(mode) => push_keyed(alloc, text, "mode", mode_text(alloc, mode)?.as_str()),
+        Some(mode) => push_keyed(text, "mode", mode_text(alloc, mode)?.as_str()),
         None => Ok(()),
     }
 }
@@ -82,7 +82,7 @@ fn push_group(alloc: Global, text: &mut String, group: Option<u32>) -> Result<()
         (string_bytes text.new ≡ with_part (string_bytes text.old) (group_part group)) }
 {
     match group {
-        Some(group) => push_keyed(alloc, text, "group", group_text(alloc, group)?.as_str()),
+        Some(group) => push_keyed(text, "group", group_text(alloc, group)?.as_str()),
         None => Ok(()),
     }
 }
@@ -110,7 +110,7 @@ fn push_queue(alloc: Global, text: &mut String, length: Option<u32>) -> Result<(
             if length == 0 {
                 return Ok(());
             }
-            push_number(alloc, text, "qlen", Some(length))
+            push_number(text, "qlen", Some(length))
         }
     }
 }
@@ -127,7 +127,7 @@ fn push_event(alloc: Global, text: &mut String, event: Option<u32>) -> Result<()
             if event == 0 {
                 return Ok(());
             }
-            push_keyed(alloc, text, "event", event_text(alloc, event)?.as_str())
+            push_keyed(text, "event", event_text(alloc, event)?.as_str())
         }
     }
 }

@@ -1,8 +1,9 @@
 //! The names of numbers.
 
-ghost use Rattle.std.specs.Prelude.{◌≡◌, IfOk, string_bytes};
+ghost use Rattle.std.specs.Prelude.{◌≡◌, ◌++◌, IfOk, OnOk, string_bytes};
 ghost use Rattle.netlink_lines.specs.Names.{family_text, protocol_text, route_type_text, scope_text, state_text, table_text};
 
+use crate::digits::push_decimal;
 use netlink_route::{RouteProtocol, RouteType};
 use std::alloc::{AllocError, Global};
 
@@ -29,15 +30,27 @@ pub fn state_text(alloc: Global, state: u8) -> Result<String, AllocError>
 pub fn family_text(alloc: Global, family: u8) -> Result<String, AllocError>
     ensures { IfOk result (λ text. string_bytes text ≡ family_text family) }
 {
+    let mut text = String::new(alloc);
+    push_family(&mut text, family)?;
+    Ok(text)
+}
+
+/// Appends the name of an address family in this way.
+pub(crate) fn push_family(text: &mut String, family: u8) -> Result<(), AllocError>
+    ensures { OnOk result (string_bytes text.new ≡ string_bytes text.old ++ family_text family) }
+{
     let name = match family {
         2 => "inet",
         7 => "bridge",
         10 => "inet6",
         17 => "link",
         28 => "mpls",
-        _ => return format!(in alloc; "family {family}"),
+        _ => {
+            text.push_str("family ")?;
+            return push_decimal(text, family as u32);
+        }
     };
-    String::from_str(alloc, name)
+    text.push_str(name)
 }
 
 /// Returns the name of a scope, an `RT_SCOPE_*` of linux/rtnetlink.h; for any other number, the
@@ -45,50 +58,93 @@ pub fn family_text(alloc: Global, family: u8) -> Result<String, AllocError>
 pub fn scope_text(alloc: Global, scope: u8) -> Result<String, AllocError>
     ensures { IfOk result (λ text. string_bytes text ≡ scope_text scope) }
 {
+    let mut text = String::new(alloc);
+    push_scope(&mut text, scope)?;
+    Ok(text)
+}
+
+/// Appends the name of a scope in this way.
+pub(crate) fn push_scope(text: &mut String, scope: u8) -> Result<(), AllocError>
+    ensures { OnOk result (string_bytes text.new ≡ string_bytes text.old ++ scope_text scope) }
+{
     let name = match scope {
         0 => "global",
         200 => "site",
         253 => "link",
         254 => "host",
         255 => "nowhere",
-        _ => return format!(in alloc; "{scope}"),
+        _ => return push_decimal(text, scope as u32),
     };
-    String::from_str(alloc, name)
+    text.push_str(name)
 }
 
-/// Returns the name of a routing table, an `RT_TABLE_*` of linux/rtnetlink.h; for any other number,
-/// the number in decimal.
-#[tactic(auto, unfolding(crate::specs::Names::table_text))]
+/// Returns the name of a routing table.
 pub(crate) fn table_text(alloc: Global, table: u32) -> Result<String, AllocError>
     ensures { IfOk result (λ text. string_bytes text ≡ table_text table) }
+{
+    let mut text = String::new(alloc);
+    push_table(&mut text, table)?;
+    Ok(text)
+}
+
+/// Appends the name of a routing table, an `RT_TABLE_*` of linux/rtnetlink.h; for any other number,
+/// the number in decimal.
+#[tactic(auto, unfolding(crate::specs::Names::table_text))]
+pub(crate) fn push_table(text: &mut String, table: u32) -> Result<(), AllocError>
+    ensures { OnOk result (string_bytes text.new ≡ string_bytes text.old ++ table_text table) }
 {
     let name = match table {
         253 => "default",
         254 => "main",
         255 => "local",
-        _ => return format!(in alloc; "{table}"),
+        _ => return push_decimal(text, table),
     };
-    String::from_str(alloc, name)
+    text.push_str(name)
 }
 
-/// Returns the name of who installed a route. `ip` itself knows no name for 17 and 99.
-#[tactic(auto, unfolding(crate::specs::Names::protocol_text))]
+/// Returns the name of who installed a route.
 pub(crate) fn protocol_text(alloc: Global, protocol: u8) -> Result<String, AllocError>
     ensures { IfOk result (λ text. string_bytes text ≡ protocol_text protocol) }
 {
-    if protocol == 17 || protocol == 99 {
-        return format!(in alloc; "{protocol}");
-    }
-    RouteProtocol(protocol).to_string(alloc)
+    let mut text = String::new(alloc);
+    push_protocol(&mut text, protocol)?;
+    Ok(text)
 }
 
-/// Returns the name of a type of route; `none` for the type 0.
-#[tactic(auto, unfolding(crate::specs::Names::route_type_text))]
+/// Appends the name of who installed a route. `ip` itself knows no name for 17 and 99.
+#[tactic(auto, unfolding(crate::specs::Names::protocol_text))]
+pub(crate) fn push_protocol(text: &mut String, protocol: u8) -> Result<(), AllocError>
+    ensures { OnOk result (string_bytes text.new ≡ string_bytes text.old ++ protocol_text protocol) }
+{
+    if protocol == 17 || protocol == 99 {
+        return push_decimal(text, protocol as u32);
+    }
+    match RouteProtocol(protocol).name() {
+        Some(name) => text.push_str(name),
+        None => push_decimal(text, protocol as u32),
+    }
+}
+
+/// Returns the name of a type of route.
 pub(crate) fn route_type_text(alloc: Global, route_type: u8) -> Result<String, AllocError>
     ensures { IfOk result (λ text. string_bytes text ≡ route_type_text route_type) }
 {
+    let mut text = String::new(alloc);
+    push_route_type(&mut text, route_type)?;
+    Ok(text)
+}
+
+/// Appends the name of a type of route; `none` for the type 0.
+#[tactic(auto, unfolding(crate::specs::Names::route_type_text))]
+pub(crate) fn push_route_type(text: &mut String, route_type: u8) -> Result<(), AllocError>
+    ensures { OnOk result
+        (string_bytes text.new ≡ string_bytes text.old ++ route_type_text route_type) }
+{
     if route_type == 0 {
-        return String::from_str(alloc, "none");
+        return text.push_str("none");
     }
-    RouteType(route_type).to_string(alloc)
+    match RouteType(route_type).name() {
+        Some(name) => text.push_str(name),
+        None => push_decimal(text, route_type as u32),
+    }
 }

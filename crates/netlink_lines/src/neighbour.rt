@@ -84,7 +84,7 @@ fn push_front(
     push_part(text, ip_words(alloc, address_of(neighbour))?.as_str())?;
     push_link(alloc, text, known, index_of(neighbour))?;
     let address = bytes_text(alloc, or_empty(neighbour.view().bytes(NDA_LLADDR)))?;
-    push_keyed(alloc, text, "lladdr", address.as_str())
+    push_keyed(text, "lladdr", address.as_str())
 }
 
 /// Returns the address of the neighbour; empty if there is none.
@@ -200,12 +200,7 @@ fn push_protocol(alloc: Global, text: &mut String, protocol: Option<u8>) -> Resu
             if protocol == 0 {
                 return Ok(());
             }
-            push_keyed(
-                alloc,
-                text,
-                "proto",
-                protocol_text(alloc, protocol)?.as_str(),
-            )
+            push_keyed(text, "proto", protocol_text(alloc, protocol)?.as_str())
         }
     }
 }

@@ -130,9 +130,9 @@ fn push_limits(
     ensures { OnOk result (string_bytes text.new
         ≡ with_parts (string_bytes text.old) (limit_parts table.now.payload.now)) }
 {
-    push_number(alloc, text, "thresh1", table.view().u32(NDTA_THRESH1))?;
-    push_number(alloc, text, "thresh2", table.view().u32(NDTA_THRESH2))?;
-    push_number(alloc, text, "thresh3", table.view().u32(NDTA_THRESH3))?;
+    push_number(text, "thresh1", table.view().u32(NDTA_THRESH1))?;
+    push_number(text, "thresh2", table.view().u32(NDTA_THRESH2))?;
+    push_number(text, "thresh3", table.view().u32(NDTA_THRESH3))?;
     push_long(alloc, text, "gc_int", table.view().u64(NDTA_GC_INTERVAL))
 }
 
@@ -144,7 +144,7 @@ fn push_times(alloc: Global, text: &mut String, parms: &BlockView<'_>) -> Result
     ensures { OnOk result (string_bytes text.new
         ≡ with_parts (string_bytes text.old) (time_parts parms.now.block.now)) }
 {
-    push_number(alloc, text, "refcnt", parms.u32(NDTPA_REFCNT))?;
+    push_number(text, "refcnt", parms.u32(NDTPA_REFCNT))?;
     push_long(alloc, text, "reachable", parms.u64(NDTPA_REACHABLE_TIME))?;
     push_long(
         alloc,
@@ -160,7 +160,7 @@ fn push_times(alloc: Global, text: &mut String, parms: &BlockView<'_>) -> Result
         "delay_probe",
         parms.u64(NDTPA_DELAY_PROBE_TIME),
     )?;
-    push_number(alloc, text, "queue", parms.u32(NDTPA_QUEUE_LEN))
+    push_number(text, "queue", parms.u32(NDTPA_QUEUE_LEN))
 }
 
 /// Appends the numbers of probes.
@@ -171,9 +171,9 @@ fn push_probes(alloc: Global, text: &mut String, parms: &BlockView<'_>) -> Resul
     ensures { OnOk result (string_bytes text.new
         ≡ with_parts (string_bytes text.old) (probe_parts parms.now.block.now)) }
 {
-    push_number(alloc, text, "app_probes", parms.u32(NDTPA_APP_PROBES))?;
-    push_number(alloc, text, "ucast_probes", parms.u32(NDTPA_UCAST_PROBES))?;
-    push_number(alloc, text, "mcast_probes", parms.u32(NDTPA_MCAST_PROBES))
+    push_number(text, "app_probes", parms.u32(NDTPA_APP_PROBES))?;
+    push_number(text, "ucast_probes", parms.u32(NDTPA_UCAST_PROBES))?;
+    push_number(text, "mcast_probes", parms.u32(NDTPA_MCAST_PROBES))
 }
 
 /// Appends the delays and the queue for addresses of others, and how long an entry is kept.
@@ -186,6 +186,6 @@ fn push_delays(alloc: Global, text: &mut String, parms: &BlockView<'_>) -> Resul
 {
     push_long(alloc, text, "anycast_delay", parms.u64(NDTPA_ANYCAST_DELAY))?;
     push_long(alloc, text, "proxy_delay", parms.u64(NDTPA_PROXY_DELAY))?;
-    push_number(alloc, text, "proxy_queue", parms.u32(NDTPA_PROXY_QLEN))?;
+    push_number(text, "proxy_queue", parms.u32(NDTPA_PROXY_QLEN))?;
     push_long(alloc, text, "locktime", parms.u64(NDTPA_LOCKTIME))
 }

@@ -1,10 +1,12 @@
 //! Parts of a line, with one space between them.
 
-ghost use Rattle.std.specs.Prelude.{◌≡◌, IfOk, OnOk, string_bytes};
+ghost use Rattle.std.specs.Prelude.{◌≡◌, ◌++◌, [], IfOk, OnOk, codes, string_bytes};
 ghost use Rattle.std.specs.Option.{option_copied};
-ghost use Rattle.netlink_lines.specs.Parts.{hex_part, host_length, keyed, number_part, or_zero, prefix_of, prefix_text, realm_text, realms_part, string_part, tos_part, when, with_part, words_part};
+ghost use Rattle.netlink_lines.specs.Parts.{hex_part, host_length, keyed, number_part, or_zero, prefix_end, prefix_of, prefix_text, realm_text, realms_part, string_part, tos_part, when, with_part, words_part};
+ghost use Rattle.netlink_lines.specs.Text.{ip_words, name_text, sentence_text, separated};
 
-use crate::text::{ip_words, name_text, push_separated, sentence_text};
+use crate::digits::push_decimal;
+use crate::text::{ip_words, push_dotted, push_name, push_sentence, push_separated};
 use netlink_packet_core::hex_pair;
 use std::alloc::{AllocError, Global};
 
@@ -19,6 +21,17 @@ pub(crate) fn push_part(text: &mut String, part: &str) -> Result<(), AllocError>
     push_separated(text, " ", part)
 }
 
+/// Appends a space, if the text is not empty.
+pub(crate) fn push_space(text: &mut String) -> Result<(), AllocError>
+    ensures { OnOk result
+        (string_bytes text.new ≡ separated (codes " ") (string_bytes text.old) []) }
+{
+    if text.is_empty() {
+        return Ok(());
+    }
+    text.push(' ')
+}
+
 /// Appends a part if the condition holds.
 #[tactic(auto, unfolding(crate::specs::Parts::when, crate::specs::Parts::with_part))]
 pub(crate) fn push_when(text: &mut String, holds: bool, part: &str) -> Result<(), AllocError>
@@ -31,27 +44,32 @@ pub(crate) fn push_when(text: &mut String, holds: bool, part: &str) -> Result<()
     push_part(text, part)
 }
 
+/// Appends a key and a space, after a space if the text is not empty. What follows is appended
+/// after it, without a text of its own.
+pub(crate) fn push_key(text: &mut String, key: &str) -> Result<(), AllocError>
+    ensures { OnOk result
+        (string_bytes text.new ≡ separated (codes " ") (string_bytes text.old) key.now ++ codes " ") }
+{
+    push_separated(text, " ", key)?;
+    text.push(' ')
+}
+
 /// Appends a key and a word, unless the word is empty.
-#[tactic(auto, unfolding(crate::specs::Parts::keyed, crate::specs::Parts::with_part))]
-pub(crate) fn push_keyed(
-    alloc: Global,
-    text: &mut String,
-    key: &str,
-    word: &str,
-) -> Result<(), AllocError>
+#[tactic(auto, using(crate::proofs::Pieces::keyed_more), unfolding(crate::specs::Parts::keyed, crate::specs::Parts::with_part))]
+pub(crate) fn push_keyed(text: &mut String, key: &str, word: &str) -> Result<(), AllocError>
     ensures { OnOk result
         (string_bytes text.new ≡ with_part (string_bytes text.old) (keyed key.now word.now)) }
 {
     if word.is_empty() {
         return Ok(());
     }
-    push_part(text, format!(in alloc; "{key} {word}")?.as_str())
+    push_key(text, key)?;
+    text.push_str(word)
 }
 
 /// Appends a key and a number, if there is one.
-#[tactic(auto, unfolding(crate::specs::Parts::number_part, crate::specs::Parts::with_part))]
+#[tactic(auto, using(crate::proofs::Pieces::key_more), unfolding(crate::specs::Parts::number_part, crate::specs::Parts::with_part))]
 pub(crate) fn push_number(
-    alloc: Global,
     text: &mut String,
     key: &str,
     number: Option<u32>,
@@ -60,15 +78,30 @@ pub(crate) fn push_number(
         (string_bytes text.new ≡ with_part (string_bytes text.old) (number_part key.now number)) }
 {
     match number {
-        Some(number) => push_part(text, format!(in alloc; "{key} {number}")?.as_str()),
+        Some(number) => {
+            push_key(text, key)?;
+            push_decimal(text, number)
+        }
         None => Ok(()),
     }
+}
+
+/// Appends a key and a name, unless the name is empty.
+#[tactic(auto, using(crate::proofs::Pieces::name_more), unfolding(crate::specs::Parts::keyed, crate::specs::Parts::with_part, crate::specs::Text::printable_text))]
+pub(crate) fn push_named(text: &mut String, key: &str, name: &[u8]) -> Result<(), AllocError>
+    ensures { OnOk result
+        (string_bytes text.new ≡ with_part (string_bytes text.old) (keyed key.now (name_text name.now))) }
+{
+    if name.is_empty() {
+        return Ok(());
+    }
+    push_key(text, key)?;
+    push_name(text, name)
 }
 
 /// Appends a key and a name, if there is one that is not empty.
 #[tactic(auto, unfolding(crate::specs::Parts::string_part, crate::specs::Parts::with_part))]
 pub(crate) fn push_string(
-    alloc: Global,
     text: &mut String,
     key: &str,
     name: Option<&[u8]>,
@@ -77,15 +110,27 @@ pub(crate) fn push_string(
         ≡ with_part (string_bytes text.old) (string_part key.now (option_copied name.entry))) }
 {
     match name {
-        Some(name) => push_keyed(alloc, text, key, name_text(alloc, name)?.as_str()),
+        Some(name) => push_named(text, key, name),
         None => Ok(()),
     }
+}
+
+/// Appends a key and a sentence, unless the sentence is empty.
+#[tactic(auto, using(crate::proofs::Pieces::sentence_more), unfolding(crate::specs::Parts::keyed, crate::specs::Parts::with_part, crate::specs::Text::printable_text))]
+fn push_said(text: &mut String, key: &str, words: &[u8]) -> Result<(), AllocError>
+    ensures { OnOk result (string_bytes text.new
+        ≡ with_part (string_bytes text.old) (keyed key.now (sentence_text words.now))) }
+{
+    if words.is_empty() {
+        return Ok(());
+    }
+    push_key(text, key)?;
+    push_sentence(text, words)
 }
 
 /// Appends a key and a sentence, if there is one that is not empty.
 #[tactic(auto, unfolding(crate::specs::Parts::words_part, crate::specs::Parts::with_part))]
 pub(crate) fn push_words(
-    alloc: Global,
     text: &mut String,
     key: &str,
     words: Option<&[u8]>,
@@ -94,9 +139,30 @@ pub(crate) fn push_words(
         ≡ with_part (string_bytes text.old) (words_part key.now (option_copied words.entry))) }
 {
     match words {
-        Some(words) => push_keyed(alloc, text, key, sentence_text(alloc, words)?.as_str()),
+        Some(words) => push_said(text, key, words),
         None => Ok(()),
     }
+}
+
+/// Appends a key and an IP address, unless the address has neither 4 nor 16 bytes.
+#[tactic(auto, using(crate::proofs::Pieces::four_more))]
+pub(crate) fn push_address(
+    alloc: Global,
+    text: &mut String,
+    key: &str,
+    ip: &[u8],
+) -> Result<(), AllocError>
+    ensures { OnOk result
+        (string_bytes text.new ≡ with_part (string_bytes text.old) (keyed key.now (ip_words ip.now))) }
+{
+    if ip.is_empty() {
+        return Ok(());
+    }
+    if ip.len() == 4 {
+        push_key(text, key)?;
+        return push_dotted(text, ip);
+    }
+    push_keyed(text, key, ip_words(alloc, ip)?.as_str())
 }
 
 /// Returns a number in hexadecimal with `0x` before it, or `0`.
@@ -139,6 +205,17 @@ fn prefix_of(alloc: Global, ip: String, length: u8, whole: u8) -> Result<String,
         return Ok(ip);
     }
     format!(in alloc; "{ip}/{length}")
+}
+
+/// Appends the length of a prefix in bits after an address, unless the prefix is as long as the address.
+pub(crate) fn push_length(text: &mut String, length: u8, whole: u8) -> Result<(), AllocError>
+    ensures { OnOk result (string_bytes text.new ≡ string_bytes text.old ++ prefix_end length whole) }
+{
+    if length == whole {
+        return Ok(());
+    }
+    text.push('/')?;
+    push_decimal(text, length as u32)
 }
 
 /// Returns the number of bits of an address of this family; 0 for other families than IPv4 and IPv6.

@@ -1,23 +1,24 @@
 //! The line of a route.
 
-ghost use Rattle.std.specs.Prelude.{◌≡◌, IfOk, OnOk, string_bytes};
+ghost use Rattle.std.specs.Prelude.{◌≡◌, IfOk, OnOk, codes, string_bytes};
 ghost use Rattle.std.specs.Option.{option_map};
 ghost use Rattle.netlink_route.specs.declared.routes.TheConstants.{RTA_DST, RTA_GATEWAY, RTA_PREFSRC, RTA_SRC, RTA_VIA};
-ghost use Rattle.netlink_lines.specs.Parts.{with_parts};
-ghost use Rattle.netlink_lines.specs.Route.{installer_part, is_own, kept_parts, last_parts, mark_part, origin_parts, preference_part, route_bytes, route_entry_line, route_front, route_next, route_table, route_words, scope_part, source_text, table_part, target_text, type_part, with_rest};
+ghost use Rattle.netlink_lines.specs.Parts.{keyed, prefix_text, with_part, with_parts};
+ghost use Rattle.netlink_lines.specs.Route.{installer_part, is_own, kept_parts, last_parts, mark_part, origin_parts, preference_part, route_bytes, route_entry_line, route_front, route_next, route_table, route_words, scope_part, table_part, type_part, with_rest, word_or_default};
 
 use crate::address::or_empty;
 use crate::device::{Known, push_device};
 use crate::name_table::Names;
-use crate::names::{protocol_text, route_type_text, scope_text, table_text};
+use crate::names::{push_protocol, push_scope, push_table, route_type_text};
 use crate::parts::{
-    host_length, prefix_text, push_keyed, push_number, push_part, push_realms, push_tos, push_when,
+    host_length, prefix_text, push_address, push_keyed, push_length, push_number, push_part,
+    push_realms, push_space, push_tos, push_when,
 };
 use crate::route_cache::{push_cache, push_lifetime};
 use crate::route_hops::{push_hops, push_next};
-use crate::route_metrics::metrics_text;
-use crate::route_names::{hop_flags_text, preference_text};
-use crate::text::ip_words;
+use crate::route_metrics::push_metrics;
+use crate::route_names::{push_hop_flags, push_preference};
+use crate::text::push_dotted;
 use netlink_family::MessageView;
 use netlink_route::Routes;
 use netlink_route::routes::{
@@ -35,6 +36,9 @@ const RTM_F_CLONED: u32 = 0x200;
 const RT_TABLE_MAIN: u32 = 254;
 
 const RTPROT_BOOT: u8 = 3;
+
+/// More bytes than the lines of most routes have, so that a line does not grow step by step.
+const USUAL: usize = 128;
 
 /// Returns the line of a message about an IPv4 or IPv6 route, as `ip route show table all`,
 /// `ip route get` and `ip monitor route` print it, with one space between its parts. A known link is
@@ -80,7 +84,7 @@ fn route_words(
     ensures { IfOk result (λ text. string_bytes text
         ≡ route_words known.now route.now.message_type route.now.payload.now) }
 {
-    let mut text = String::new(alloc);
+    let mut text = String::with_capacity(alloc, USUAL)?;
     push_front(alloc, &mut text, route)?;
     push_link(alloc, &mut text, known, route)?;
     push_origin(alloc, &mut text, route)?;
@@ -100,53 +104,81 @@ fn push_front(
         (route_front route.now.message_type route.now.payload.now)) }
 {
     push_when(text, route.message_type == RTM_DELROUTE, "Deleted")?;
-    push_part(
-        text,
-        type_text(alloc, route.header().u8(RTM_TYPE))?.as_str(),
-    )?;
-    push_part(text, target_text(alloc, route)?.as_str())?;
-    push_keyed(alloc, text, "from", source_text(alloc, route)?.as_str())?;
-    push_number(alloc, text, "nhid", route.view().u32(RTA_NH_ID))?;
-    push_tos(alloc, text, route.header().u8(RTM_TOS))
-}
-
-/// Returns the type of a route, unless it is `unicast`.
-fn type_text(alloc: Global, route_type: u8) -> Result<String, AllocError>
-    ensures { IfOk result (λ text. string_bytes text ≡ type_part route_type) }
-{
-    if route_type == 1 {
-        return Ok(String::new(alloc));
-    }
-    route_type_text(alloc, route_type)
-}
-
-/// Returns the destination; `default` for every address.
-fn target_text(alloc: Global, route: &MessageView<'_, Routes>) -> Result<String, AllocError>
-    ensures { IfOk result (λ text. string_bytes text ≡ target_text route.now.payload.now) }
-{
+    push_type(alloc, text, route.header().u8(RTM_TYPE))?;
     let whole = host_length(route.header().u8(RTM_FAMILY));
-    let to = prefix_text(
+    push_target(
         alloc,
+        text,
         target_of(route),
         route.header().u8(RTM_DST_LEN),
         whole,
     )?;
-    if to.is_empty() {
-        return String::from_str(alloc, "default");
-    }
-    Ok(to)
-}
-
-/// Returns the source; empty for every address.
-fn source_text(alloc: Global, route: &MessageView<'_, Routes>) -> Result<String, AllocError>
-    ensures { IfOk result (λ text. string_bytes text ≡ source_text route.now.payload.now) }
-{
-    let whole = host_length(route.header().u8(RTM_FAMILY));
-    prefix_text(
+    push_source(
         alloc,
+        text,
         source_of(route),
         route.header().u8(RTM_SRC_LEN),
         whole,
+    )?;
+    push_number(text, "nhid", route.view().u32(RTA_NH_ID))?;
+    push_tos(alloc, text, route.header().u8(RTM_TOS))
+}
+
+/// Appends the type of a route, unless it is `unicast`.
+#[tactic(auto, unfolding(crate::specs::Parts::with_part))]
+fn push_type(alloc: Global, text: &mut String, route_type: u8) -> Result<(), AllocError>
+    ensures { OnOk result
+        (string_bytes text.new ≡ with_part (string_bytes text.old) (type_part route_type)) }
+{
+    if route_type == 1 {
+        return Ok(());
+    }
+    push_part(text, route_type_text(alloc, route_type)?.as_str())
+}
+
+/// Appends the destination by its address and the length of its prefix; `default` for every address.
+#[tactic(auto, using(crate::proofs::Pieces::four_target))]
+fn push_target(
+    alloc: Global,
+    text: &mut String,
+    ip: &[u8],
+    length: u8,
+    whole: u8,
+) -> Result<(), AllocError>
+    ensures { OnOk result (string_bytes text.new ≡ with_part (string_bytes text.old)
+        (word_or_default (prefix_text ip.now length whole))) }
+{
+    if ip.len() == 4 {
+        push_space(text)?;
+        push_dotted(text, ip)?;
+        return push_length(text, length, whole);
+    }
+    let to = prefix_text(alloc, ip, length, whole)?;
+    if to.is_empty() {
+        return push_part(text, "default");
+    }
+    push_part(text, to.as_str())
+}
+
+/// Appends the source by its address and the length of its prefix; nothing for every address.
+#[tactic(auto, unfolding(crate::specs::Parts::keyed, crate::specs::Parts::prefix_of, crate::specs::Parts::prefix_text, crate::specs::Parts::with_part))]
+fn push_source(
+    alloc: Global,
+    text: &mut String,
+    ip: &[u8],
+    length: u8,
+    whole: u8,
+) -> Result<(), AllocError>
+    ensures { OnOk result (string_bytes text.new ≡ with_part (string_bytes text.old)
+        (keyed (codes "from") (prefix_text ip.now length whole))) }
+{
+    if ip.is_empty() && length == 0 {
+        return Ok(());
+    }
+    push_keyed(
+        text,
+        "from",
+        prefix_text(alloc, ip, length, whole)?.as_str(),
     )
 }
 
@@ -206,26 +238,12 @@ fn push_origin(
         ≡ with_parts (string_bytes text.old) (origin_parts route.now.payload.now)) }
 {
     let own = is_own(route);
-    push_part(text, table_part(alloc, table_of(route))?.as_str())?;
-    push_part(
-        text,
-        installer_text(alloc, own, route.header().u8(RTM_PROTOCOL))?.as_str(),
-    )?;
-    push_part(
-        text,
-        scope_part(alloc, own, route.header().u8(RTM_SCOPE))?.as_str(),
-    )?;
-    push_keyed(
-        alloc,
-        text,
-        "src",
-        ip_words(alloc, preferred_of(route))?.as_str(),
-    )?;
-    push_number(alloc, text, "metric", route.view().u32(RTA_PRIORITY))?;
-    push_part(
-        text,
-        hop_flags_text(alloc, route.header().u32(RTM_FLAGS))?.as_str(),
-    )
+    push_table_part(text, table_of(route))?;
+    push_installer(text, own, route.header().u8(RTM_PROTOCOL))?;
+    push_scope_part(text, own, route.header().u8(RTM_SCOPE))?;
+    push_address(alloc, text, "src", preferred_of(route))?;
+    push_number(text, "metric", route.view().u32(RTA_PRIORITY))?;
+    push_hop_flags(alloc, text, route.header().u32(RTM_FLAGS))
 }
 
 /// Returns whether the kernel did not look the route up for a request.
@@ -245,37 +263,43 @@ fn table_of(route: &MessageView<'_, Routes>) -> u32
     }
 }
 
-/// Returns the table, unless it is `main` or none.
-fn table_part(alloc: Global, table: u32) -> Result<String, AllocError>
-    ensures { IfOk result (λ text. string_bytes text ≡ table_part table) }
+/// Appends the table, unless it is `main` or none.
+#[tactic(auto, using(crate::proofs::Pieces::part_more), unfolding(crate::specs::Parts::with_part))]
+fn push_table_part(text: &mut String, table: u32) -> Result<(), AllocError>
+    ensures { OnOk result
+        (string_bytes text.new ≡ with_part (string_bytes text.old) (table_part table)) }
 {
     if table == 0 || table == RT_TABLE_MAIN {
-        return Ok(String::new(alloc));
+        return Ok(());
     }
-    let name = table_text(alloc, table)?;
-    format!(in alloc; "table {name}")
+    push_part(text, "table ")?;
+    push_table(text, table)
 }
 
-/// Returns who installed the route, unless it is `boot` or the route was looked up.
-fn installer_text(alloc: Global, own: bool, protocol: u8) -> Result<String, AllocError>
-    ensures { IfOk result (λ text. string_bytes text ≡ installer_part own protocol) }
+/// Appends who installed the route, unless it is `boot` or the route was looked up.
+#[tactic(auto, using(crate::proofs::Pieces::part_more), unfolding(crate::specs::Parts::with_part))]
+fn push_installer(text: &mut String, own: bool, protocol: u8) -> Result<(), AllocError>
+    ensures { OnOk result
+        (string_bytes text.new ≡ with_part (string_bytes text.old) (installer_part own protocol)) }
 {
     if !own || protocol == RTPROT_BOOT {
-        return Ok(String::new(alloc));
+        return Ok(());
     }
-    let name = protocol_text(alloc, protocol)?;
-    format!(in alloc; "proto {name}")
+    push_part(text, "proto ")?;
+    push_protocol(text, protocol)
 }
 
-/// Returns the scope, unless it is `global` or the route was looked up.
-fn scope_part(alloc: Global, own: bool, scope: u8) -> Result<String, AllocError>
-    ensures { IfOk result (λ text. string_bytes text ≡ scope_part own scope) }
+/// Appends the scope, unless it is `global` or the route was looked up.
+#[tactic(auto, using(crate::proofs::Pieces::part_more), unfolding(crate::specs::Parts::with_part))]
+fn push_scope_part(text: &mut String, own: bool, scope: u8) -> Result<(), AllocError>
+    ensures { OnOk result
+        (string_bytes text.new ≡ with_part (string_bytes text.old) (scope_part own scope)) }
 {
     if !own || scope == 0 {
-        return Ok(String::new(alloc));
+        return Ok(());
     }
-    let name = scope_text(alloc, scope)?;
-    format!(in alloc; "scope {name}")
+    push_part(text, "scope ")?;
+    push_scope(text, scope)
 }
 
 /// Returns the preferred source; empty if there is none.
@@ -311,9 +335,9 @@ fn push_kept(
     ensures { OnOk result (string_bytes text.new
         ≡ with_parts (string_bytes text.old) (kept_parts route.now.payload.now)) }
 {
-    push_part(text, mark_text(alloc, route.view().u32(RTA_MARK))?.as_str())?;
+    push_mark(alloc, text, route.view().u32(RTA_MARK))?;
     push_realms(alloc, text, "realm", "realms", route.view().u32(RTA_FLOW))?;
-    push_number(alloc, text, "uid", route.view().u32(RTA_UID))?;
+    push_number(text, "uid", route.view().u32(RTA_UID))?;
     push_cache(
         alloc,
         text,
@@ -322,20 +346,22 @@ fn push_kept(
     )
 }
 
-/// Returns a mark other than 0, in hexadecimal if it is 16 or greater.
-fn mark_text(alloc: Global, mark: Option<u32>) -> Result<String, AllocError>
-    ensures { IfOk result (λ text. string_bytes text ≡ mark_part mark) }
+/// Appends a mark other than 0, in hexadecimal if it is 16 or greater.
+#[tactic(auto, unfolding(crate::specs::Parts::with_part))]
+fn push_mark(alloc: Global, text: &mut String, mark: Option<u32>) -> Result<(), AllocError>
+    ensures { OnOk result
+        (string_bytes text.new ≡ with_part (string_bytes text.old) (mark_part mark)) }
 {
     match mark {
-        None => Ok(String::new(alloc)),
+        None => Ok(()),
         Some(mark) => {
             if mark == 0 {
-                return Ok(String::new(alloc));
+                return Ok(());
             }
             if mark < 16 {
-                return format!(in alloc; "mark {mark}");
+                return push_part(text, format!(in alloc; "mark {mark}")?.as_str());
             }
-            format!(in alloc; "mark 0x{mark:x}")
+            push_part(text, format!(in alloc; "mark 0x{mark:x}")?.as_str())
         }
     }
 }
@@ -351,20 +377,23 @@ fn push_last(
     ensures { OnOk result (string_bytes text.new
         ≡ with_parts (string_bytes text.old) (last_parts known.now route.now.payload.now)) }
 {
-    push_part(text, metrics_text(alloc, route)?.as_str())?;
+    push_metrics(alloc, text, route)?;
     push_device(alloc, text, known, "iif", route.view().u32(RTA_IIF))?;
-    push_part(
-        text,
-        preference_part(alloc, route.view().u8(RTA_PREF))?.as_str(),
-    )
+    push_preference_part(alloc, text, route.view().u8(RTA_PREF))
 }
 
-/// Returns the preference of a router, if there is one.
-fn preference_part(alloc: Global, preference: Option<u8>) -> Result<String, AllocError>
-    ensures { IfOk result (λ text. string_bytes text ≡ preference_part preference) }
+/// Appends the preference of a router, if there is one.
+#[tactic(auto, unfolding(crate::specs::Parts::with_part))]
+fn push_preference_part(
+    alloc: Global,
+    text: &mut String,
+    preference: Option<u8>,
+) -> Result<(), AllocError>
+    ensures { OnOk result
+        (string_bytes text.new ≡ with_part (string_bytes text.old) (preference_part preference)) }
 {
     match preference {
-        Some(preference) => preference_text(alloc, preference),
-        None => Ok(String::new(alloc)),
+        Some(preference) => push_preference(alloc, text, preference),
+        None => Ok(()),
     }
 }

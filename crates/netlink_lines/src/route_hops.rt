@@ -1,6 +1,6 @@
 //! The next hops of a route.
 
-ghost use Rattle.std.specs.Prelude.{◌≡◌, IfOk, OnOk, drop, length, string_bytes, take};
+ghost use Rattle.std.specs.Prelude.{◌≡◌, OnOk, drop, length, string_bytes, take};
 ghost use Rattle.std.specs.List.{fold};
 ghost use Rattle.netlink_family.specs.Finding.{first_at, found_in};
 ghost use Rattle.netlink_family.specs.Listing.{listed};
@@ -14,8 +14,8 @@ use crate::address::or_empty;
 use crate::device::push_device;
 use crate::name_table::Names;
 use crate::names::family_text;
-use crate::parts::{push_keyed, push_part, push_realms};
-use crate::route_names::hop_flags_text;
+use crate::parts::{push_address, push_number, push_part, push_realms};
+use crate::route_names::push_hop_flags;
 use crate::text::ip_words;
 use netlink_family::{BlockView, MessageView, Table, Value};
 use netlink_packet_core::parse_u32;
@@ -78,7 +78,7 @@ fn push_hop(
 }
 
 /// Appends a next hop by its flags and hops, the bytes before its attributes, and its attributes.
-#[tactic(auto, unfolding(crate::specs::RouteHops::hop_parts))]
+#[tactic(auto, unfolding(crate::specs::RouteHops::hop_parts, crate::specs::Parts::number_part))]
 fn push_hop_parts(
     alloc: Global,
     text: &mut String,
@@ -97,8 +97,8 @@ fn push_hop_parts(
     push_realms(alloc, text, "realm", "realms", attributes.u32(RTA_FLOW))?;
     push_device(alloc, text, known, "dev", Some(parse_u32(header).unwrap()))?;
     let weight = (word / 256) as u32 + 1;
-    push_part(text, format!(in alloc; "weight {weight}")?.as_str())?;
-    push_part(text, hop_flags_text(alloc, (word % 256) as u32)?.as_str())
+    push_number(text, "weight", Some(weight))?;
+    push_hop_flags(alloc, text, (word % 256) as u32)
 }
 
 /// Returns the gateway of a next hop; empty if there is none.
@@ -127,20 +127,22 @@ pub(crate) fn push_next(
     ensures { OnOk result (string_bytes text.new
         ≡ with_parts (string_bytes text.old) (next_parts gateway.now via.now)) }
 {
-    push_keyed(alloc, text, "via", ip_words(alloc, gateway)?.as_str())?;
-    push_part(text, via_text(alloc, via)?.as_str())
+    push_address(alloc, text, "via", gateway)?;
+    push_via(alloc, text, via)
 }
 
-/// Returns the gateway of another family: the name of the family and the address.
-fn via_text(alloc: Global, bytes: &[u8]) -> Result<String, AllocError>
-    ensures { IfOk result (λ text. string_bytes text ≡ via_part bytes.now) }
+/// Appends the gateway of another family: the name of the family and the address.
+#[tactic(auto, unfolding(crate::specs::Parts::with_part))]
+fn push_via(alloc: Global, text: &mut String, bytes: &[u8]) -> Result<(), AllocError>
+    ensures { OnOk result
+        (string_bytes text.new ≡ with_part (string_bytes text.old) (via_part bytes.now)) }
 {
     match bytes {
         [low, _, address @ ..] => {
             let family = family_text(alloc, *low)?;
             let address = ip_words(alloc, address)?;
-            format!(in alloc; "via {family} {address}")
+            push_part(text, format!(in alloc; "via {family} {address}")?.as_str())
         }
-        _ => Ok(String::new(alloc)),
+        _ => Ok(()),
     }
 }

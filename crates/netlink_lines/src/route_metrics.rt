@@ -1,12 +1,13 @@
 //! The metrics of a route.
 
-ghost use Rattle.std.specs.Prelude.{◌≡◌, ◌≢◌, IfOk, string_bytes, true};
+ghost use Rattle.std.specs.Prelude.{◌≡◌, ◌≢◌, IfOk, OnOk, string_bytes, true};
 ghost use Rattle.std.specs.Option.{option_copied, option_map};
 ghost use Rattle.netlink_family.specs.Finding.{first_at, found_in};
 ghost use Rattle.netlink_family.specs.Shapes.{has_type};
 ghost use Rattle.netlink_family.specs.Strings.{until_nul};
 ghost use Rattle.netlink_packet_core.specs.Numbers.{number_le};
 ghost use Rattle.netlink_route.specs.declared.routes.TheConstants.{RTA_METRICS, RTAX_CC_ALGO};
+ghost use Rattle.netlink_lines.specs.Parts.{with_part};
 ghost use Rattle.netlink_lines.specs.RouteMetrics.{IsMetrics, control_part, decimals, ecn_word, feature_text, has_lock, is_locked, lock_word, metric_kinds, metric_name, metric_of, metric_or_lock, metric_part, metric_value, metrics_text, nest_text, time_text};
 
 use crate::parts::push_part;
@@ -22,19 +23,20 @@ use std::alloc::{AllocError, Global};
 /// The kinds of metrics, in their order.
 const KINDS: [u16; 16] = [2, 3, 4, 5, 6, 7, 8, 9, 10, 11, 12, 13, 14, 15, 16, 17];
 
-/// Returns the metrics in `RTA_METRICS`, each after its name, and `lock` before the value of a
+/// Appends the metrics in `RTA_METRICS`, each after its name, and `lock` before the value of a
 /// locked one. A hop limit of 2^32 - 1 is left out.
-#[tactic(auto, unfolding(crate::specs::RouteMetrics::metrics_text))]
-pub(crate) fn metrics_text(
+#[tactic(auto, unfolding(crate::specs::RouteMetrics::metrics_text, crate::specs::Parts::with_part))]
+pub(crate) fn push_metrics(
     alloc: Global,
+    text: &mut String,
     route: &MessageView<'_, Routes>,
-) -> Result<String, AllocError>
-    ensures { IfOk result (λ text. string_bytes text
-        ≡ metrics_text (first_at 12 route.now.payload.now RTA_METRICS)) }
+) -> Result<(), AllocError>
+    ensures { OnOk result (string_bytes text.new ≡ with_part (string_bytes text.old)
+        (metrics_text (first_at 12 route.now.payload.now RTA_METRICS))) }
 {
     match route.view().nest(RTA_METRICS) {
-        None => Ok(String::new(alloc)),
-        Some(metrics) => nest_text(alloc, &metrics),
+        None => Ok(()),
+        Some(metrics) => push_part(text, nest_text(alloc, &metrics)?.as_str()),
     }
 }
 

@@ -1,6 +1,7 @@
 //! The names of the numbers in routes.
 
 ghost use Rattle.std.specs.Prelude.{◌≡◌, IfOk, OnOk, string_bytes};
+ghost use Rattle.netlink_lines.specs.Parts.{with_part};
 ghost use Rattle.netlink_lines.specs.RouteNames.{hop_flag_name, hop_flags_text, preference_text, with_hop_flag};
 
 use crate::parts::push_part;
@@ -22,23 +23,28 @@ const ORDER: [u32; 11] = [
     0x2000_0000,
 ];
 
-/// Returns the name of a router's preference, an `ICMPV6_ROUTER_PREF_*` of linux/icmpv6.h, after
+/// Appends the name of a router's preference, an `ICMPV6_ROUTER_PREF_*` of linux/icmpv6.h, after
 /// `pref`; for any other number, only the number.
-pub(crate) fn preference_text(alloc: Global, preference: u8) -> Result<String, AllocError>
-    ensures { IfOk result (λ text. string_bytes text ≡ preference_text preference) }
+pub(crate) fn push_preference(
+    alloc: Global,
+    text: &mut String,
+    preference: u8,
+) -> Result<(), AllocError>
+    ensures { OnOk result
+        (string_bytes text.new ≡ with_part (string_bytes text.old) (preference_text preference)) }
 {
     let name = match preference {
         0 => "pref medium",
         1 => "pref high",
         3 => "pref low",
-        _ => return format!(in alloc; "{preference}"),
+        _ => return push_part(text, format!(in alloc; "{preference}")?.as_str()),
     };
-    String::from_str(alloc, name)
+    push_part(text, name)
 }
 
 /// Returns the names of the flags that are set, with spaces between them.
 #[tactic(auto, unfolding(crate::specs::RouteNames::hop_flags_text))]
-pub(crate) fn hop_flags_text(alloc: Global, flags: u32) -> Result<String, AllocError>
+fn hop_flags_text(alloc: Global, flags: u32) -> Result<String, AllocError>
     ensures { IfOk result (λ text. string_bytes text ≡ hop_flags_text flags) }
 {
     let mut text = String::new(alloc);
@@ -46,6 +52,18 @@ pub(crate) fn hop_flags_text(alloc: Global, flags: u32) -> Result<String, AllocE
         push_hop_flag(&mut text, flags, bit)?;
     }
     Ok(text)
+}
+
+/// Appends these names as a part of a line.
+#[tactic(auto, unfolding(crate::specs::RouteNames::hop_flags_text, crate::specs::Parts::with_part))]
+pub(crate) fn push_hop_flags(alloc: Global, text: &mut String, flags: u32) -> Result<(), AllocError>
+    ensures { OnOk result
+        (string_bytes text.new ≡ with_part (string_bytes text.old) (hop_flags_text flags)) }
+{
+    if flags == 0 {
+        return Ok(());
+    }
+    push_part(text, hop_flags_text(alloc, flags)?.as_str())
 }
 
 /// Appends the name of a flag if it is set.

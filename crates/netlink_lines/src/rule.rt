@@ -107,7 +107,7 @@ fn push_source(
     let whole = host_length(rule.header().u8(FRH_FAMILY));
     let length = rule.header().u8(FRH_SRC_LEN);
     let from = prefix_text(alloc, or_empty(rule.view().bytes(FRA_SRC)), length, whole)?;
-    push_keyed(alloc, text, "from", word_or_all(from.as_str()))
+    push_keyed(text, "from", word_or_all(from.as_str()))
 }
 
 /// Appends the destination, if there is one.
@@ -123,7 +123,7 @@ fn push_destination(
     let whole = host_length(rule.header().u8(FRH_FAMILY));
     let length = destination_length(rule);
     let to = prefix_text(alloc, or_empty(rule.view().bytes(FRA_DST)), length, whole)?;
-    push_keyed(alloc, text, "to", to.as_str())
+    push_keyed(text, "to", to.as_str())
 }
 
 /// Returns the length of the prefix of the destination in bits.
@@ -175,10 +175,10 @@ fn push_mark(
     }
     let value = hex_text(alloc, or_zero(mark))?;
     match mask {
-        None => push_keyed(alloc, text, "fwmark", value.as_str()),
+        None => push_keyed(text, "fwmark", value.as_str()),
         Some(mask) => {
             if mask == u32::MAX {
-                return push_keyed(alloc, text, "fwmark", value.as_str());
+                return push_keyed(text, "fwmark", value.as_str());
             }
             let mask = hex_text(alloc, mask)?;
             push_part(text, format!(in alloc; "fwmark {value}/{mask}")?.as_str())

@@ -45,7 +45,7 @@ fn push_table(
     ensures { OnOk result (string_bytes text.new
         ≡ with_parts (string_bytes text.old) (table_parts table rule.now.payload.now)) }
 {
-    push_keyed(alloc, text, "lookup", table_text(alloc, table)?.as_str())?;
+    push_keyed(text, "lookup", table_text(alloc, table)?.as_str())?;
     push_suppressed(alloc, text, rule.view().u32(FRA_SUPPRESS_PREFIXLEN))?;
     push_group(alloc, text, rule.view().u32(FRA_SUPPRESS_IFGROUP))
 }
@@ -186,12 +186,7 @@ pub(crate) fn push_installer(
             if protocol == 0 || protocol == 2 {
                 return Ok(());
             }
-            push_keyed(
-                alloc,
-                text,
-                "proto",
-                protocol_text(alloc, protocol)?.as_str(),
-            )
+            push_keyed(text, "proto", protocol_text(alloc, protocol)?.as_str())
         }
     }
 }

@@ -1,8 +1,10 @@
 //! Bytes as text.
 
-ghost use Rattle.std.specs.Prelude.{◌≡◌, IfOk, OnOk, string_bytes};
+ghost use Rattle.std.specs.Prelude.{◌≡◌, ◌++◌, IfOk, OnOk, length, string_bytes};
+ghost use Rattle.std.specs.Net.Text.{ipv4_text};
 ghost use Rattle.netlink_lines.specs.Text.{bytes_text, ip_words, is_compatible, name_text, plain_words, printable_text, sentence_text, separated, with_printable};
 
+use crate::digits::push_decimal;
 use netlink_packet_core::{IpAddr, hex_pair, parse_ip};
 use std::alloc::{AllocError, Global};
 use std::net::{Ipv4Addr, Ipv6Addr};
@@ -55,11 +57,36 @@ pub fn sentence_text(alloc: Global, sentence: &[u8]) -> Result<String, AllocErro
 fn printable_text(alloc: Global, least: u8, bytes: &[u8]) -> Result<String, AllocError>
     ensures { IfOk result (λ text. string_bytes text ≡ printable_text least bytes.now) }
 {
-    let mut text = String::new(alloc);
-    for byte in bytes {
-        push_printable(&mut text, least, *byte)?;
-    }
+    let mut text = String::with_capacity(alloc, bytes.len())?;
+    push_bytes(&mut text, least, bytes)?;
     Ok(text)
+}
+
+/// Appends a name in this way.
+pub(crate) fn push_name(text: &mut String, name: &[u8]) -> Result<(), AllocError>
+    ensures { OnOk result (string_bytes text.new ≡ string_bytes text.old ++ name_text name.now) }
+{
+    push_bytes(text, 33, name)
+}
+
+/// Appends a sentence in this way.
+pub(crate) fn push_sentence(text: &mut String, sentence: &[u8]) -> Result<(), AllocError>
+    ensures { OnOk result
+        (string_bytes text.new ≡ string_bytes text.old ++ sentence_text sentence.now) }
+{
+    push_bytes(text, 32, sentence)
+}
+
+/// Appends bytes in this way, from `least` on.
+#[tactic(auto, unfolding(crate::specs::Text::printable_text))]
+fn push_bytes(text: &mut String, least: u8, bytes: &[u8]) -> Result<(), AllocError>
+    ensures { OnOk result
+        (string_bytes text.new ≡ string_bytes text.old ++ printable_text least bytes.now) }
+{
+    for byte in bytes {
+        push_printable(text, least, *byte)?;
+    }
+    Ok(())
 }
 
 /// Appends a byte, or `\x` and its two hexadecimal digits.
@@ -84,6 +111,20 @@ pub fn ip_words(alloc: Global, bytes: &[u8]) -> Result<String, AllocError>
         return format!(in alloc; "::{last}");
     }
     plain_words(alloc, bytes)
+}
+
+/// Appends an IPv4 address of these four bytes.
+pub(crate) fn push_dotted(text: &mut String, ip: &[u8]) -> Result<(), AllocError>
+    requires { length ip.now ≡ 4 }
+    ensures { OnOk result (string_bytes text.new ≡ string_bytes text.old ++ ipv4_text ip.now) }
+{
+    push_decimal(text, ip[0] as u32)?;
+    text.push('.')?;
+    push_decimal(text, ip[1] as u32)?;
+    text.push('.')?;
+    push_decimal(text, ip[2] as u32)?;
+    text.push('.')?;
+    push_decimal(text, ip[3] as u32)
 }
 
 /// Returns any other IP address as text.

@@ -1,0 +1,126 @@
+-- A part that is written to the end of a text piece by piece.
+use Rattle.std.proofs.Common.{◌≡◌, ◌∙◌, ◌<◌, ◌≤◌, ◌+◌, ◌++◌, ap, arith, refl, sym, ℕ, Bool, decimal, true, false, List, [], ◌∷◌, append_assoc, codes, if◌then◌else◌, length, length-append, append-nil, nat_lt, nat_le, ◌||◌, ◌==◌}
+use Rattle.std.specs.List.{fold}
+use Rattle.std.specs.Net.Text.{ipv4_text}
+use Rattle.netlink_packet_core.specs.Text.{hex_pair}
+use Rattle.netlink_lines.specs.Parts.{keyed, prefix_end, prefix_of, prefix_text, with_part}
+use Rattle.netlink_lines.specs.Route.{word_or_default}
+use Rattle.netlink_lines.specs.Text.{byte_text, ip_words, name_text, printable_text, sentence_text, separated, with_printable}
+
+-- a part of which a piece is written, and the rest of it
+pub part_more : (text front rest : List ℕ) → 0 < length front → with_part text (front ++ rest) ≡ with_part text front ++ rest
+unfolding with_part
+part_more text [] rest some = absurd (omega (arith, some))
+part_more [] (b ∷ front) rest some = refl
+part_more (c ∷ text) (b ∷ front) rest some = sym (append_assoc (c ∷ text) (codes " " ++ (b ∷ front)) rest)
+
+-- a key and a space, and what follows them
+pub key_more : (text key word : List ℕ)
+    → with_part text (key ++ (codes " " ++ word)) ≡ (separated (codes " ") text key ++ codes " ") ++ word
+unfolding with_part
+key_more [] [] word = refl
+key_more [] (b ∷ key) word = sym (append_assoc (b ∷ key) (codes " ") word)
+key_more (c ∷ text) [] word =
+    sym (append_assoc ((c ∷ text) ++ codes " ") (codes " ") word ∙ append_assoc (c ∷ text) (codes " ") (codes " " ++ word))
+key_more (c ∷ text) (b ∷ key) word =
+    sym (append_assoc ((c ∷ text) ++ (codes " " ++ (b ∷ key))) (codes " ") word
+    ∙ append_assoc (c ∷ text) (codes " " ++ (b ∷ key)) (codes " " ++ word))
+
+-- a key and a word that is not empty
+pub keyed_some : (key word : List ℕ) → 0 < length word → keyed key word ≡ key ++ (codes " " ++ word)
+unfolding keyed
+keyed_some key [] some = absurd (omega (arith, some))
+keyed_some key (b ∷ word) some = refl
+
+pub keyed_more : (text key word : List ℕ) → 0 < length word
+    → with_part text (keyed key word) ≡ (separated (codes " ") text key ++ codes " ") ++ word
+keyed_more text key word some = ap (with_part text) (keyed_some key word some) ∙ key_more text key word
+
+-- ---- names are as long as their bytes, or longer
+
+chosen_some : (holds : Bool) (xs ys : List ℕ) → 0 < length xs → 0 < length ys → 0 < length (if holds then xs else ys)
+chosen_some true xs ys some other = some
+chosen_some false xs ys some other = other
+
+byte_some : (least byte : ℕ) → 0 < length (byte_text least byte)
+byte_some least byte =
+    chosen_some (nat_lt byte least || nat_le 127 byte || byte == 92) (codes "\\x" ++ hex_pair byte) (byte ∷ []) (omega arith) (omega arith)
+
+printable_long : (least : ℕ) (text bytes : List ℕ)
+    → length text + length bytes ≤ length (fold (with_printable least) text bytes)
+printable_long least text [] = omega arith
+printable_long least text (b ∷ bytes) =
+    omega (arith, printable_long least (text ++ byte_text least b) bytes, length-append text (byte_text least b), byte_some least b)
+
+pub printable_some : (least : ℕ) (bytes : List ℕ) → 0 < length bytes → 0 < length (printable_text least bytes)
+unfolding printable_text
+printable_some least bytes some = omega (arith, some, printable_long least [] bytes)
+
+-- so a key and a name that is not empty are the key, a space and the name
+pub name_more : (text key name : List ℕ) → 0 < length name
+    → with_part text (keyed key (name_text name)) ≡ (separated (codes " ") text key ++ codes " ") ++ name_text name
+name_more text key name some = keyed_more text key (name_text name) (printable_some 33 name some)
+
+pub sentence_more : (text key words : List ℕ) → 0 < length words
+    → with_part text (keyed key (sentence_text words)) ≡ (separated (codes " ") text key ++ codes " ") ++ sentence_text words
+sentence_more text key words some = keyed_more text key (sentence_text words) (printable_some 32 words some)
+
+-- ---- addresses of four bytes
+
+pub four_words : (bytes : List ℕ) → length bytes ≡ 4 → ip_words bytes ≡ ipv4_text bytes
+four_words bytes four = grind (arith, four)
+
+pub dotted_some : (bytes : List ℕ) → 0 < length (ipv4_text bytes)
+dotted_some bytes = grind (arith, length-append)
+
+pub four_more : (text key bytes : List ℕ) → length bytes ≡ 4
+    → with_part text (keyed key (ip_words bytes)) ≡ (separated (codes " ") text key ++ codes " ") ++ ipv4_text bytes
+four_more text key bytes four =
+    ap (λ (w : List ℕ). with_part text (keyed key w)) (four_words bytes four) ∙ keyed_more text key (ipv4_text bytes) (dotted_some bytes)
+
+-- an address that is not there
+pub no_address : (text key bytes : List ℕ) → length bytes ≡ 0 → with_part text (keyed key (ip_words bytes)) ≡ text
+unfolding keyed with_part
+no_address text key [] none = refl
+no_address text key (b ∷ bytes) none = absurd (omega (arith, none))
+
+-- a destination of four bytes
+part_some : (text word : List ℕ) → 0 < length word → with_part text word ≡ separated (codes " ") text [] ++ word
+unfolding with_part
+part_some text [] some = absurd (omega (arith, some))
+part_some [] (b ∷ word) some = refl
+part_some (c ∷ text) (b ∷ word) some = sym (append_assoc (c ∷ text) (codes " ") (b ∷ word))
+
+kept : (holds : Bool) (word rest : List ℕ) → (if holds then word else word ++ rest) ≡ word ++ (if holds then [] else rest)
+kept true word rest = sym (append-nil word)
+kept false word rest = refl
+
+prefix_some : (word : List ℕ) (size whole : ℕ) → 0 < length word → prefix_of word size whole ≡ word ++ prefix_end size whole
+unfolding prefix_of
+prefix_some [] size whole some = absurd (omega (arith, some))
+prefix_some (b ∷ word) size whole some = kept (size == whole) (b ∷ word) (codes "/" ++ decimal size)
+
+target_some : (word rest : List ℕ) → 0 < length word → word_or_default (word ++ rest) ≡ word ++ rest
+target_some [] rest some = absurd (omega (arith, some))
+target_some (b ∷ word) rest some = refl
+
+pub four_target : (text bytes : List ℕ) (size whole : ℕ) → length bytes ≡ 4
+    → with_part text (word_or_default (prefix_text bytes size whole))
+    ≡ (separated (codes " ") text [] ++ ipv4_text bytes) ++ prefix_end size whole
+unfolding prefix_text
+four_target text bytes size whole four =
+    let ip : List ℕ = ipv4_text bytes in
+    let rest : List ℕ = prefix_end size whole in
+    ap (λ (w : List ℕ). with_part text (word_or_default (prefix_of w size whole))) (four_words bytes four)
+    ∙ ap (λ (w : List ℕ). with_part text (word_or_default w)) (prefix_some ip size whole (dotted_some bytes))
+    ∙ ap (with_part text) (target_some ip rest (dotted_some bytes))
+    ∙ part_some text (ip ++ rest) (omega (arith, length-append ip rest, dotted_some bytes))
+    ∙ sym (append_assoc (separated (codes " ") text []) ip rest)
+
+-- ---- links without a name
+
+pub index_more : (text key : List ℕ) (n : ℕ)
+    → with_part text (keyed key (codes "if" ++ decimal n)) ≡ ((separated (codes " ") text key ++ codes " ") ++ codes "if") ++ decimal n
+index_more text key n =
+    keyed_more text key (codes "if" ++ decimal n) (omega arith)
+    ∙ sym (append_assoc (separated (codes " ") text key ++ codes " ") (codes "if") (decimal n))
