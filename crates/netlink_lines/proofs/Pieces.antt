@@ -1,11 +1,11 @@
 -- A part that is written to the end of a text piece by piece.
-use Rattle.std.proofs.Common.{◌≡◌, ◌∙◌, ◌<◌, ◌≤◌, ◌+◌, ◌++◌, ap, arith, refl, sym, ℕ, Bool, decimal, true, false, List, [], ◌∷◌, append_assoc, codes, if◌then◌else◌, length, length-append, append-nil, nat_lt, nat_le, ◌||◌, ◌==◌}
+use Rattle.std.proofs.Common.{◌≡◌, ◌∙◌, ◌<◌, ◌≤◌, ◌+◌, ◌++◌, ap, arith, refl, sym, ℕ, Bool, decimal, true, false, List, [], ◌∷◌, append_assoc, codes, if◌then◌else◌, length, length-append, append-nil, drop, get_or, take, take_all, ◌-◌, nat_lt, nat_le, ◌||◌, ◌==◌}
 use Rattle.std.specs.List.{fold}
 use Rattle.std.specs.Net.Text.{ipv4_text}
 use Rattle.netlink_packet_core.specs.Text.{hex_pair}
 use Rattle.netlink_lines.specs.Parts.{keyed, prefix_end, prefix_of, prefix_text, with_part}
 use Rattle.netlink_lines.specs.Route.{word_or_default}
-use Rattle.netlink_lines.specs.Text.{byte_text, ip_words, name_text, printable_text, sentence_text, separated, with_printable}
+use Rattle.netlink_lines.specs.Text.{byte_text, bytes_text, ip_words, name_text, printable_text, sentence_text, pairs, separated, with_byte, with_pair, with_printable}
 
 -- a part of which a piece is written, and the rest of it
 pub part_more : (text front rest : List ℕ) → 0 < length front → with_part text (front ++ rest) ≡ with_part text front ++ rest
@@ -124,3 +124,46 @@ pub index_more : (text key : List ℕ) (n : ℕ)
 index_more text key n =
     keyed_more text key (codes "if" ++ decimal n) (omega arith)
     ∙ sym (append_assoc (separated (codes " ") text key ++ codes " ") (codes "if") (decimal n))
+
+pub four_part : (text bytes : List ℕ) → length bytes ≡ 4
+    → with_part text (ip_words bytes) ≡ separated (codes " ") text [] ++ ipv4_text bytes
+four_part text bytes four = ap (with_part text) (four_words bytes four) ∙ part_some text (ipv4_text bytes) (dotted_some bytes)
+
+-- ---- bytes with colons
+
+-- after the first byte each has a colon before it
+after_first : (b : ℕ) (text bytes : List ℕ) → fold with_byte (b ∷ text) bytes ≡ fold with_pair (b ∷ text) bytes
+after_first b text [] = refl
+after_first b text (c ∷ bytes) = after_first b (text ++ (codes ":" ++ hex_pair c)) bytes
+
+from_any : (text bytes : List ℕ) → fold with_pair text bytes ≡ text ++ pairs bytes
+from_any text [] = sym (append-nil text)
+from_any text (c ∷ bytes) =
+    let pair : List ℕ = codes ":" ++ hex_pair c in
+    from_any (text ++ pair) bytes ∙ append_assoc text pair (pairs bytes) ∙ ap (λ (l : List ℕ). text ++ l) (sym (from_any pair bytes))
+
+colons_at : (text : List ℕ) (b : ℕ) (bytes : List ℕ) → text ++ bytes_text (b ∷ bytes) ≡ (text ++ hex_pair b) ++ pairs bytes
+colons_at text b bytes =
+    ap (λ (l : List ℕ). text ++ l) (after_first _ _ bytes ∙ from_any (hex_pair b) bytes)
+    ∙ sym (append_assoc text (hex_pair b) (pairs bytes))
+
+pub colons_first : (text bytes : List ℕ) → 1 ≤ length bytes
+    → text ++ bytes_text bytes ≡ (text ++ hex_pair (get_or bytes 0 0)) ++ pairs (take (length bytes - 1) (drop 1 bytes))
+colons_first text [] some = absurd (omega (arith, some))
+colons_first text (b ∷ bytes) some =
+    let rest : take (length (b ∷ bytes) - 1) bytes ≡ bytes = take_all (length (b ∷ bytes) - 1) bytes (omega arith) in
+    colons_at text b bytes ∙ ap (λ (l : List ℕ). (text ++ hex_pair b) ++ pairs l) (sym rest)
+
+bytes_some : (bytes : List ℕ) → 0 < length bytes → 0 < length (bytes_text bytes)
+bytes_some [] some = absurd (omega (arith, some))
+bytes_some (b ∷ bytes) some =
+    omega (arith, ap length (colons_at [] b bytes), length-append (hex_pair b) (pairs bytes))
+
+pub bytes_more : (text key bytes : List ℕ) → 0 < length bytes
+    → with_part text (keyed key (bytes_text bytes)) ≡ (separated (codes " ") text key ++ codes " ") ++ bytes_text bytes
+bytes_more text key bytes some = keyed_more text key (bytes_text bytes) (bytes_some bytes some)
+
+pub no_bytes : (text key bytes : List ℕ) → length bytes ≡ 0 → with_part text (keyed key (bytes_text bytes)) ≡ text
+unfolding keyed with_part
+no_bytes text key [] none = refl
+no_bytes text key (b ∷ bytes) none = absurd (omega (arith, none))

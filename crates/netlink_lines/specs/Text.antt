@@ -17,6 +17,13 @@ with_byte text byte = separated (codes ":") text (hex_pair byte)
 abbrev pub bytes_text : List ℕ → List ℕ
 bytes_text bytes = fold with_byte [] bytes
 
+-- each with a colon before it
+abbrev pub with_pair : List ℕ → ℕ → List ℕ
+with_pair text byte = text ++ (codes ":" ++ hex_pair byte)
+
+abbrev pub pairs : List ℕ → List ℕ
+pairs bytes = fold with_pair [] bytes
+
 -- a byte as it is, if it is printable ASCII from a least one on and no backslash, or `\x` and two
 -- digits
 abbrev pub byte_text : ℕ → ℕ → List ℕ

@@ -11,7 +11,7 @@ use crate::address_flags::{push_flags, push_lifetimes};
 use crate::device::{Known, device_name};
 use crate::name_table::Names;
 use crate::names::{family_text, scope_text};
-use crate::parts::{push_keyed, push_number, push_part};
+use crate::parts::{push_address, push_keyed, push_number, push_part};
 use crate::text::{ip_words, name_text};
 use netlink_family::MessageView;
 use netlink_route::Addresses;
@@ -21,6 +21,9 @@ use netlink_route::addresses::{
     RTM_GETADDR,
 };
 use std::alloc::{AllocError, Global};
+
+/// More bytes than the lines of most addresses have, so that a line does not grow step by step.
+const USUAL: usize = 192;
 
 /// Returns the line of a message about an address, as `ip -o addr` prints it, with one space
 /// between its parts: the verb, the index and the name of the link, the family, the link's own
@@ -72,7 +75,9 @@ fn front_text(
     let index = address.header().u32(IFA_INDEX);
     let name = device_name(alloc, known, index)?;
     let family = family_text(alloc, address.header().u8(IFA_FAMILY))?;
-    format!(in alloc; "{verb}{index}: {name} {family}")
+    let mut text = String::with_capacity(alloc, USUAL)?;
+    write!(text, "{verb}{index}: {name} {family}")?;
+    Ok(text)
 }
 
 /// Appends the addresses, the length of the prefix, the metric and the scope.
@@ -88,18 +93,9 @@ fn push_places(
     let prefix = address.header().u8(IFA_PREFIXLEN);
     let own = own_text(alloc, local_ip(address), far_ip(address), prefix)?;
     push_part(text, own.as_str())?;
-    push_metric(
-        alloc,
-        text,
-        own.as_str(),
-        address.view().u32(IFA_RT_PRIORITY),
-    )?;
-    push_keyed(
-        text,
-        "brd",
-        ip_words(alloc, broadcast_ip(address))?.as_str(),
-    )?;
-    push_keyed(text, "any", ip_words(alloc, anycast_ip(address))?.as_str())?;
+    push_metric(text, own.as_str(), address.view().u32(IFA_RT_PRIORITY))?;
+    push_address(alloc, text, "brd", broadcast_ip(address))?;
+    push_address(alloc, text, "any", anycast_ip(address))?;
     let scope = scope_text(alloc, address.header().u8(IFA_SCOPE))?;
     push_keyed(text, "scope", scope.as_str())
 }
@@ -118,12 +114,7 @@ fn push_label(alloc: Global, text: &mut String, label: Option<&[u8]>) -> Result<
 
 /// Appends the metric, unless the text of the address is empty.
 #[tactic(auto, unfolding(crate::specs::Address::metric_part, crate::specs::Parts::with_part))]
-fn push_metric(
-    alloc: Global,
-    text: &mut String,
-    own: &str,
-    metric: Option<u32>,
-) -> Result<(), AllocError>
+fn push_metric(text: &mut String, own: &str, metric: Option<u32>) -> Result<(), AllocError>
     ensures { OnOk result
         (string_bytes text.new ≡ with_part (string_bytes text.old) (metric_part own.now metric)) }
 {

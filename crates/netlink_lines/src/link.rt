@@ -22,6 +22,9 @@ use netlink_route::links::{
 };
 use std::alloc::{AllocError, Global};
 
+/// More bytes than the lines of most links have, so that a line does not grow step by step.
+const USUAL: usize = 256;
+
 /// Returns the line of a message about a link, as `ip -o link` prints it, with one space between
 /// its parts: the verb, the index, the name and the lower link, the flags, the settings, the type
 /// of the device and its addresses, the network namespaces, the alias and the alternative names.
@@ -53,7 +56,7 @@ pub(crate) fn link_line(
     push_hardware(alloc, &mut text, link)?;
     push_spaces(alloc, &mut text, link)?;
     push_words(&mut text, "alias", link.view().str_bytes(IFLA_IFALIAS))?;
-    push_alternatives(alloc, &mut text, link)?;
+    push_alternatives(&mut text, link)?;
     push_string(&mut text, "kind", kind_of(link))?;
     text.push_str("\n")?;
     Ok(text)
@@ -74,7 +77,9 @@ fn front_text(
     let name = link_name(alloc, index, link)?;
     let below = below_words(alloc, known, link)?;
     let flags = flags_text(alloc, link.header().u32(IFI_FLAGS))?;
-    format!(in alloc; "{verb}{index}: {name}{below}: <{flags}>")
+    let mut text = String::with_capacity(alloc, USUAL)?;
+    write!(text, "{verb}{index}: {name}{below}: <{flags}>")?;
+    Ok(text)
 }
 
 /// Returns the verb of a message type.

@@ -103,7 +103,6 @@ fn push_down(text: &mut String, down: Option<u8>) -> Result<(), AllocError>
 /// Appends the alternative names in `IFLA_PROP_LIST`.
 #[tactic(auto, unfolding(crate::specs::LinkNames::alternatives_text))]
 pub(crate) fn push_alternatives(
-    alloc: Global,
     text: &mut String,
     link: &MessageView<'_, Links>,
 ) -> Result<(), AllocError>
@@ -112,34 +111,25 @@ pub(crate) fn push_alternatives(
 {
     match link.view().nest(IFLA_PROP_LIST) {
         None => Ok(()),
-        Some(properties) => push_properties(alloc, text, &properties),
+        Some(properties) => push_properties(text, &properties),
     }
 }
 
 /// Appends the alternative names in a list of properties.
-fn push_properties(
-    alloc: Global,
-    text: &mut String,
-    properties: &BlockView<'_>,
-) -> Result<(), AllocError>
+fn push_properties(text: &mut String, properties: &BlockView<'_>) -> Result<(), AllocError>
     requires { IsProperties (⟦<Links as Table>⟧.rows 16) properties.now }
     ensures { OnOk result (string_bytes text.new
         ≡ fold with_alternative (string_bytes text.old) (listed properties.now.block.now)) }
 {
     for (kind, value) in properties.attributes() {
-        push_property(alloc, text, kind, value)?;
+        push_property(text, kind, value)?;
     }
     Ok(())
 }
 
 /// Appends a property, if it is an alternative name.
 #[tactic(auto, unfolding(crate::specs::LinkNames::alternative_part, crate::specs::Parts::with_part))]
-fn push_property(
-    alloc: Global,
-    text: &mut String,
-    kind: u16,
-    value: Value<'_>,
-) -> Result<(), AllocError>
+fn push_property(text: &mut String, kind: u16, value: Value<'_>) -> Result<(), AllocError>
     requires { IsProperty kind value }
     ensures { OnOk result (string_bytes text.new
         ≡ with_part (string_bytes text.old) (alternative_part kind (value_bytes value.entry))) }

@@ -34,7 +34,7 @@ pub(crate) fn push_settings(
     push_state(alloc, text, link.view().u8(IFLA_OPERSTATE))?;
     push_mode(alloc, text, link.view().u8(IFLA_LINKMODE))?;
     push_group(alloc, text, link.view().u32(IFLA_GROUP))?;
-    push_queue(alloc, text, link.view().u32(IFLA_TXQLEN))?;
+    push_queue(text, link.view().u32(IFLA_TXQLEN))?;
     push_event(alloc, text, link.view().u32(IFLA_EVENT))
 }
 
@@ -100,7 +100,7 @@ fn group_text(alloc: Global, group: u32) -> Result<String, AllocError>
 
 /// Appends a length of the queue other than 0.
 #[tactic(auto, unfolding(crate::specs::LinkParts::queue_part, crate::specs::Parts::when, crate::specs::Parts::with_part))]
-fn push_queue(alloc: Global, text: &mut String, length: Option<u32>) -> Result<(), AllocError>
+fn push_queue(text: &mut String, length: Option<u32>) -> Result<(), AllocError>
     ensures { OnOk result
         (string_bytes text.new ≡ with_part (string_bytes text.old) (queue_part length)) }
 {

@@ -11,8 +11,7 @@ use crate::address::or_empty;
 use crate::device::{Known, push_device};
 use crate::name_table::Names;
 use crate::names::protocol_text;
-use crate::parts::{or_zero, push_keyed, push_part, push_when};
-use crate::text::{bytes_text, ip_words};
+use crate::parts::{or_zero, push_hardware, push_ip, push_keyed, push_part, push_when};
 use netlink_family::MessageView;
 use netlink_route::Neighbours;
 use netlink_route::neighbours::{
@@ -31,6 +30,9 @@ const NTF_OFFLOADED: u8 = 0x20;
 const NTF_ROUTER: u8 = 0x80;
 
 const NTF_EXT_MANAGED: u32 = 0x1;
+
+/// More bytes than the lines of most neighbours have, so that a line does not grow step by step.
+const USUAL: usize = 128;
 
 /// The states of a neighbour (`NUD_*` of linux/neighbour.h), in the order in which `ip` names them.
 const ORDER: [u16; 8] = [0x01, 0x02, 0x04, 0x08, 0x10, 0x20, 0x40, 0x80];
@@ -59,7 +61,7 @@ pub(crate) fn neighbour_line(
     ensures { IfOk result (λ text. string_bytes text
         ≡ neighbour_line known.now neighbour.now.message_type neighbour.now.payload.now) }
 {
-    let mut text = String::new(alloc);
+    let mut text = String::with_capacity(alloc, USUAL)?;
     push_front(alloc, &mut text, known, neighbour)?;
     let more = or_zero(neighbour.view().u32(NDA_FLAGS_EXT));
     push_flags(&mut text, neighbour.header().u8(NDM_FLAGS), more)?;
@@ -81,10 +83,9 @@ fn push_front(
         (neighbour_front known.now neighbour.now.message_type neighbour.now.payload.now)) }
 {
     push_part(text, verb_text(neighbour.message_type))?;
-    push_part(text, ip_words(alloc, address_of(neighbour))?.as_str())?;
+    push_ip(alloc, text, address_of(neighbour))?;
     push_link(alloc, text, known, index_of(neighbour))?;
-    let address = bytes_text(alloc, or_empty(neighbour.view().bytes(NDA_LLADDR)))?;
-    push_keyed(text, "lladdr", address.as_str())
+    push_hardware(text, "lladdr", or_empty(neighbour.view().bytes(NDA_LLADDR)))
 }
 
 /// Returns the address of the neighbour; empty if there is none.

@@ -88,7 +88,7 @@ fn push_parms(
 {
     push_device(alloc, text, known, "dev", parms.u32(NDTPA_IFINDEX))?;
     push_times(alloc, text, parms)?;
-    push_probes(alloc, text, parms)?;
+    push_probes(text, parms)?;
     push_delays(alloc, text, parms)
 }
 
@@ -165,7 +165,7 @@ fn push_times(alloc: Global, text: &mut String, parms: &BlockView<'_>) -> Result
 
 /// Appends the numbers of probes.
 #[tactic(auto, unfolding(crate::specs::NeighbourTable::probe_parts))]
-fn push_probes(alloc: Global, text: &mut String, parms: &BlockView<'_>) -> Result<(), AllocError>
+fn push_probes(text: &mut String, parms: &BlockView<'_>) -> Result<(), AllocError>
     requires rows { rows_in parms.now.rows.now ≡ ⟦<NeighbourTables as Table>⟧.rows 64 }
     requires policy { parms.now.policy ≡ PARMS }
     ensures { OnOk result (string_bytes text.new

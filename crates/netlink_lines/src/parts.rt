@@ -3,10 +3,10 @@
 ghost use Rattle.std.specs.Prelude.{◌≡◌, ◌++◌, [], IfOk, OnOk, codes, string_bytes};
 ghost use Rattle.std.specs.Option.{option_copied};
 ghost use Rattle.netlink_lines.specs.Parts.{hex_part, host_length, keyed, number_part, or_zero, prefix_end, prefix_of, prefix_text, realm_text, realms_part, string_part, tos_part, when, with_part, words_part};
-ghost use Rattle.netlink_lines.specs.Text.{ip_words, name_text, sentence_text, separated};
+ghost use Rattle.netlink_lines.specs.Text.{bytes_text, ip_words, name_text, sentence_text, separated};
 
 use crate::digits::push_decimal;
-use crate::text::{ip_words, push_dotted, push_name, push_sentence, push_separated};
+use crate::text::{ip_words, push_colons, push_dotted, push_name, push_sentence, push_separated};
 use netlink_packet_core::hex_pair;
 use std::alloc::{AllocError, Global};
 
@@ -205,6 +205,32 @@ fn prefix_of(alloc: Global, ip: String, length: u8, whole: u8) -> Result<String,
         return Ok(ip);
     }
     format!(in alloc; "{ip}/{length}")
+}
+
+/// Appends an IP address, unless it has neither 4 nor 16 bytes.
+#[tactic(auto, using(crate::proofs::Pieces::four_part))]
+pub(crate) fn push_ip(alloc: Global, text: &mut String, ip: &[u8]) -> Result<(), AllocError>
+    ensures { OnOk result
+        (string_bytes text.new ≡ with_part (string_bytes text.old) (ip_words ip.now)) }
+{
+    if ip.len() == 4 {
+        push_space(text)?;
+        return push_dotted(text, ip);
+    }
+    push_part(text, ip_words(alloc, ip)?.as_str())
+}
+
+/// Appends a key and bytes in hexadecimal, unless there are none.
+#[tactic(auto, using(crate::proofs::Pieces::bytes_more))]
+pub(crate) fn push_hardware(text: &mut String, key: &str, bytes: &[u8]) -> Result<(), AllocError>
+    ensures { OnOk result (string_bytes text.new
+        ≡ with_part (string_bytes text.old) (keyed key.now (bytes_text bytes.now))) }
+{
+    if bytes.is_empty() {
+        return Ok(());
+    }
+    push_key(text, key)?;
+    push_colons(text, bytes)
 }
 
 /// Appends the length of a prefix in bits after an address, unless the prefix is as long as the address.

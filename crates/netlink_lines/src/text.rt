@@ -2,7 +2,7 @@
 
 ghost use Rattle.std.specs.Prelude.{◌≡◌, ◌++◌, IfOk, OnOk, length, string_bytes};
 ghost use Rattle.std.specs.Net.Text.{ipv4_text};
-ghost use Rattle.netlink_lines.specs.Text.{bytes_text, ip_words, is_compatible, name_text, plain_words, printable_text, sentence_text, separated, with_printable};
+ghost use Rattle.netlink_lines.specs.Text.{bytes_text, ip_words, is_compatible, name_text, pairs, plain_words, printable_text, sentence_text, separated, with_printable};
 
 use crate::digits::push_decimal;
 use netlink_packet_core::{IpAddr, hex_pair, parse_ip};
@@ -28,11 +28,34 @@ pub(crate) fn push_separated(
 pub(crate) fn bytes_text(alloc: Global, bytes: &[u8]) -> Result<String, AllocError>
     ensures { IfOk result (λ text. string_bytes text ≡ bytes_text bytes.now) }
 {
-    let mut text = String::new(alloc);
-    for byte in bytes {
-        push_separated(&mut text, ":", hex_pair(*byte))?;
-    }
+    let mut text = String::with_capacity(alloc, bytes.len().saturating_mul(3))?;
+    push_colons(&mut text, bytes)?;
     Ok(text)
+}
+
+/// Appends bytes in this way.
+
+pub(crate) fn push_colons(text: &mut String, bytes: &[u8]) -> Result<(), AllocError>
+    ensures { OnOk result (string_bytes text.new ≡ string_bytes text.old ++ bytes_text bytes.now) }
+{
+    match bytes {
+        [] => Ok(()),
+        [first, rest @ ..] => {
+            text.push_str(hex_pair(*first))?;
+            push_pairs(text, rest)
+        }
+    }
+}
+
+/// Appends a colon and two hexadecimal digits for each byte.
+fn push_pairs(text: &mut String, bytes: &[u8]) -> Result<(), AllocError>
+    ensures { OnOk result (string_bytes text.new ≡ string_bytes text.old ++ pairs bytes.now) }
+{
+    for byte in bytes {
+        text.push(':')?;
+        text.push_str(hex_pair(*byte))?;
+    }
+    Ok(())
 }
 
 /// Returns a name, in which every byte that is not printable ASCII, a space or a backslash is `\x`

@@ -1,8 +1,0 @@
-use Rattle.std.proofs.Common.{◌≡◌, [], take, string_bytes}
-use Rattle.std.specs.List.{fold}
-use Rattle.netlink_lines.specs.Text.{with_byte}
-use Rattle.netlink_lines.proofs.text.bytes_text.Given as goal
-
--- the bytes so far are written
-abbrev pub invariant-loop-byte : goal.invariant-loop-byte
-invariant-loop-byte l = string_bytes l.text ≡ fold with_byte [] (take l.byte-index l.bytes)
