@@ -1,6 +1,6 @@
 //! The shapes of values, and the lookup of rows.
 
-ghost use Rattle.std.specs.Prelude.{◌≡◌, ◌==◌, ◌&&◌, None, true, if◌then◌else◌};
+ghost use Rattle.std.specs.Prelude.{◌≡◌, ◌≤◌, ◌==◌, ◌&&◌, None, true, if◌then◌else◌};
 ghost use Rattle.std.specs.Option.{option_map};
 ghost use Rattle.netlink_packet_core.specs.Views.{masked};
 ghost use Rattle.netlink_family.specs.Policies.{IsPart};
@@ -145,7 +145,8 @@ fn own_row(rows: &[Row], policy: u16, kind: u16) -> Option<&Row>
 }
 
 /// Returns the row of a policy and a kind. First tries index `kind - 1`, where the row is if every
-/// smaller kind of the first policy has one.
+/// smaller kind of the first policy has one, and then as many rows before it as the kind there is
+/// greater, where the row is if every kind between the two has one.
 #[inline(always)]
 fn row_at(rows: &[Row], policy: u16, kind: u16) -> Option<&Row>
     requires sorted { are_sorted (rows_in rows.now) ≡ true }
@@ -157,8 +158,21 @@ fn row_at(rows: &[Row], policy: u16, kind: u16) -> Option<&Row>
         if is_same(row.0, row.1, policy, kind) {
             return Some(row);
         }
+        let near = &rows[earlier(at, row.1, kind)];
+        if is_same(near.0, near.1, policy, kind) {
+            return Some(near);
+        }
     }
     search_row(rows, policy, kind)
+}
+
+/// Returns an index less than or equal to `at`: as many before it as one kind is greater than
+/// another.
+#[inline(always)]
+fn earlier(at: usize, greater: u16, kind: u16) -> usize
+    ensures { result ≤ at }
+{
+    at.saturating_sub(usize::from(greater.saturating_sub(kind)))
 }
 
 /// Returns the row of a policy and a kind, by binary search. First compares the last row, because
