@@ -1,16 +1,21 @@
 //! Bytes as hexadecimal text, many at a time.
 
-ghost use Rattle.std.specs.Prelude.{◌≡◌, ◌≤◌, ◌+◌, ◌*◌, ◌++◌, Ok, if◌then◌else◌, is_ok, length, string_bytes, string_capacity, string_len, take};
-ghost use Rattle.netlink_packet_core.specs.Text.{hex_digits, hex_text};
+ghost use Rattle.std.specs.Prelude.{◌≡◌, ◌≤◌, ◌<◌, ◌+◌, ◌*◌, ◌++◌, Ok, if◌then◌else◌, is_ok, length, map, string_bytes, string_capacity, string_len, take};
+ghost use Rattle.std.specs.Simd.Lanes.{Each1, put_chunk};
+ghost use Rattle.netlink_packet_core.specs.Text.{hex_digit, hex_digits, hex_text};
 
 use netlink_packet_core::hex_pair;
 use std::alloc::AllocError;
+use std::simd::prelude::*;
 
-/// The least number of bytes for which `push_hex` makes many digits at a time.
-const FEW: usize = 8;
+/// The least number of bytes for which the steps of `push_many` pay.
+const FEW: usize = 10;
+
+/// The number of bytes whose digits are appended at a time.
+const STEP: usize = 64;
 
 /// The number of bytes whose digits are made at a time.
-const STEP: usize = 64;
+const LANES: usize = 16;
 
 /// Appends the bytes as text: two hexadecimal digits each, or `-` if there are none. Returns
 /// `AllocError`, and leaves the text unchanged, if an allocation fails.
@@ -68,11 +73,60 @@ fn write_pairs(digits: &mut [u8; 128], bytes: &[u8])
     requires few { length bytes.now ≤ 64 }
     ensures digits { take (length bytes.now * 2) digits.new ≡ hex_digits bytes.now }
 {
-    for index in 0..bytes.len() {
+    let mut at = 0;
+    while at + LANES <= bytes.len() {
+        let (first, second) = pairs_of(u8x16::from_slice(&bytes[at..]));
+        store(digits, at * 2, first);
+        store(digits, at * 2 + LANES, second);
+        at += LANES;
+    }
+    for index in at..bytes.len() {
         let pair = hex_pair(bytes[index]).as_bytes();
         let high = pair[0];
         let low = pair[1];
         digits[index * 2] = high;
         digits[index * 2 + 1] = low;
     }
+}
+
+/// Writes 16 bytes at an offset.
+#[inline(always)]
+fn store(digits: &mut [u8; 128], at: usize, lanes: u8x16)
+    requires size { length lanes ≡ 16 }
+    requires room { at + 16 ≤ 128 }
+    ensures { digits.new ≡ put_chunk at digits.old lanes }
+{
+    lanes.copy_to_slice(&mut digits[at..]);
+}
+
+/// Returns the digits of the first eight and of the last eight of 16 bytes.
+#[inline(always)]
+fn pairs_of(bytes: u8x16) -> (u8x16, u8x16)
+    requires size { length bytes ≡ 16 }
+    requires fit { Each1 (λ b. b < 256) bytes }
+    ensures size { (length result.0 ≡ 16) × (length result.1 ≡ 16) }
+    ensures digits { result.0 ++ result.1 ≡ hex_digits bytes }
+{
+    let high = digits_of(bytes >> 4);
+    let low = digits_of(bytes & u8x16::splat(15));
+    (
+        high.shuffle(
+            low,
+            [0, 16, 1, 17, 2, 18, 3, 19, 4, 20, 5, 21, 6, 22, 7, 23],
+        ),
+        high.shuffle(
+            low,
+            [8, 24, 9, 25, 10, 26, 11, 27, 12, 28, 13, 29, 14, 30, 15, 31],
+        ),
+    )
+}
+
+/// Returns the digit of each number.
+#[inline(always)]
+fn digits_of(numbers: u8x16) -> u8x16
+    requires size { length numbers ≡ 16 }
+    requires digits { Each1 (λ n. n < 16) numbers }
+    ensures { result ≡ map hex_digit numbers }
+{
+    u8x16::from_array(*b"0123456789abcdef").swizzle_dyn(numbers)
 }
