@@ -1,8 +1,11 @@
 -- A part that is written to the end of a text piece by piece.
-use Rattle.std.proofs.Common.{◌≡◌, ◌∙◌, ◌<◌, ◌≤◌, ◌+◌, ◌++◌, ap, arith, refl, sym, ℕ, Bool, decimal, true, false, List, [], ◌∷◌, append_assoc, codes, if◌then◌else◌, length, length-append, append-nil, drop, get_or, take, take_all, ◌-◌, nat_lt, nat_le, ◌||◌, ◌==◌}
+use Rattle.std.proofs.Common.{◌≡◌, ◌∙◌, ◌<◌, ◌≤◌, ◌^◌, ◌+◌, ◌++◌, ap, arith, refl, sym, ℕ, Bool, decimal, true, false, List, [], ◌∷◌, append_assoc, codes, if◌then◌else◌, length, length-append, append-nil, drop, get_or, take, take_all, ◌-◌, nat_lt, nat_le, ◌||◌, ◌==◌}
 use Rattle.std.specs.List.{fold}
 use Rattle.std.specs.Net.Text.{ipv4_text}
 use Rattle.netlink_packet_core.specs.Text.{hex_pair}
+use Rattle.std.proofs.lemmas.Fmt.{decimal_nonempty}
+use Rattle.netlink_lines.specs.LinkParts.{group_text, mode_text}
+use Rattle.netlink_lines.specs.Names.{scope_text, state_text}
 use Rattle.netlink_lines.specs.Parts.{keyed, prefix_end, prefix_of, prefix_text, with_part}
 use Rattle.netlink_lines.specs.Route.{word_or_default}
 use Rattle.netlink_lines.specs.Text.{byte_text, bytes_text, ip_words, name_text, printable_text, sentence_text, pairs, separated, with_byte, with_pair, with_printable}
@@ -167,3 +170,35 @@ pub no_bytes : (text key bytes : List ℕ) → length bytes ≡ 0 → with_part 
 unfolding keyed with_part
 no_bytes text key [] none = refl
 no_bytes text key (b ∷ bytes) none = absurd (omega (arith, none))
+
+-- ---- names of numbers
+
+scope_some : (n : ℕ) → n < 2 ^ 32 → 0 < length (scope_text n)
+scope_some n fits = grind (arith, decimal_nonempty n (omega (arith, fits)))
+
+pub scope_more : (text key : List ℕ) (n : ℕ) → n < 2 ^ 32
+    → with_part text (keyed key (scope_text n)) ≡ (separated (codes " ") text key ++ codes " ") ++ scope_text n
+scope_more text key n fits = keyed_more text key (scope_text n) (scope_some n fits)
+
+state_some : (n : ℕ) → 0 < length (state_text n)
+state_some n = grind arith
+
+pub state_more : (text key : List ℕ) (n : ℕ)
+    → with_part text (keyed key (state_text n)) ≡ (separated (codes " ") text key ++ codes " ") ++ state_text n
+state_more text key n = keyed_more text key (state_text n) (state_some n)
+
+mode_some : (n : ℕ) → n < 2 ^ 32 → 0 < length (mode_text n)
+unfolding mode_text
+mode_some n fits = grind (arith, decimal_nonempty n (omega (arith, fits)))
+
+pub mode_more : (text key : List ℕ) (n : ℕ) → n < 2 ^ 32
+    → with_part text (keyed key (mode_text n)) ≡ (separated (codes " ") text key ++ codes " ") ++ mode_text n
+mode_more text key n fits = keyed_more text key (mode_text n) (mode_some n fits)
+
+group_some : (n : ℕ) → n < 2 ^ 32 → 0 < length (group_text n)
+unfolding group_text
+group_some n fits = grind (arith, decimal_nonempty n (omega (arith, fits)))
+
+pub group_more : (text key : List ℕ) (n : ℕ) → n < 2 ^ 32
+    → with_part text (keyed key (group_text n)) ≡ (separated (codes " ") text key ++ codes " ") ++ group_text n
+group_more text key n fits = keyed_more text key (group_text n) (group_some n fits)

@@ -1,17 +1,17 @@
 //! The line of an address.
 
-ghost use Rattle.std.specs.Prelude.{◌≡◌, IfOk, OnOk, string_bytes};
+ghost use Rattle.std.specs.Prelude.{◌≡◌, IfOk, OnOk, codes, string_bytes};
 ghost use Rattle.std.specs.Option.{option_copied};
 ghost use Rattle.netlink_route.specs.declared.addresses.TheConstants.{IFA_ADDRESS, IFA_ANYCAST, IFA_BROADCAST, IFA_LOCAL};
 ghost use Rattle.netlink_lines.specs.Address.{address_flags, address_front, address_ip, address_line, label_part, metric_part, or_byte, or_empty, own_text, peer_words, place_parts};
-ghost use Rattle.netlink_lines.specs.Names.{address_verb_text};
-ghost use Rattle.netlink_lines.specs.Parts.{with_part, with_parts};
+ghost use Rattle.netlink_lines.specs.Names.{address_verb_text, scope_text};
+ghost use Rattle.netlink_lines.specs.Parts.{keyed, with_part, with_parts};
 
 use crate::address_flags::{push_flags, push_lifetimes};
 use crate::device::{Known, device_name};
 use crate::name_table::Names;
-use crate::names::{family_text, scope_text};
-use crate::parts::{push_address, push_keyed, push_number, push_part};
+use crate::names::{family_text, push_scope};
+use crate::parts::{push_address, push_key, push_number, push_part};
 use crate::text::{ip_words, name_text};
 use netlink_family::MessageView;
 use netlink_route::Addresses;
@@ -96,8 +96,17 @@ fn push_places(
     push_metric(text, own.as_str(), address.view().u32(IFA_RT_PRIORITY))?;
     push_address(alloc, text, "brd", broadcast_ip(address))?;
     push_address(alloc, text, "any", anycast_ip(address))?;
-    let scope = scope_text(alloc, address.header().u8(IFA_SCOPE))?;
-    push_keyed(text, "scope", scope.as_str())
+    push_scope_part(text, address.header().u8(IFA_SCOPE))
+}
+
+/// Appends the scope.
+#[tactic(auto, using(crate::proofs::Pieces::scope_more))]
+fn push_scope_part(text: &mut String, scope: u8) -> Result<(), AllocError>
+    ensures { OnOk result (string_bytes text.new
+        ≡ with_part (string_bytes text.old) (keyed (codes "scope") (scope_text scope))) }
+{
+    push_key(text, "scope")?;
+    push_scope(text, scope)
 }
 
 /// Appends the label.

@@ -1,8 +1,9 @@
 //! The names of the types of devices.
 
-ghost use Rattle.std.specs.Prelude.{◌≡◌, IfOk, string_bytes};
+ghost use Rattle.std.specs.Prelude.{◌≡◌, ◌++◌, IfOk, OnOk, string_bytes};
 ghost use Rattle.netlink_lines.specs.Hardware.{hardware_name, hardware_text, late_name, line_name, low_name, name_or_brackets, tunnel_name};
 
+use crate::digits::push_decimal;
 use std::alloc::{AllocError, Global};
 
 /// Returns the name of a device type, an `ARPHRD_*` of linux/if_arp.h; for any other number, the
@@ -11,21 +12,34 @@ use std::alloc::{AllocError, Global};
 pub fn hardware_text(alloc: Global, layer_type: u16) -> Result<String, AllocError>
     ensures { IfOk result (λ text. string_bytes text ≡ hardware_text layer_type) }
 {
-    if layer_type >= 787 && layer_type < 800 {
-        let fabric = layer_type - 787;
-        return format!(in alloc; "fcfb{fabric}");
-    }
-    name_or_brackets(alloc, layer_type, hardware_name(layer_type))
+    let mut text = String::new(alloc);
+    push_type(&mut text, layer_type)?;
+    Ok(text)
 }
 
-/// Returns a name, or a number in brackets if the name is empty.
-fn name_or_brackets(alloc: Global, layer_type: u16, name: &str) -> Result<String, AllocError>
-    ensures { IfOk result (λ text. string_bytes text ≡ name_or_brackets layer_type name.now) }
+/// Appends the name of a device type in this way.
+#[tactic(auto, unfolding(crate::specs::Hardware::hardware_text))]
+pub(crate) fn push_type(text: &mut String, layer_type: u16) -> Result<(), AllocError>
+    ensures { OnOk result (string_bytes text.new ≡ string_bytes text.old ++ hardware_text layer_type) }
+{
+    if layer_type >= 787 && layer_type < 800 {
+        text.push_str("fcfb")?;
+        return push_decimal(text, (layer_type - 787) as u32);
+    }
+    push_or_brackets(text, layer_type, hardware_name(layer_type))
+}
+
+/// Appends a name, or a number in brackets if the name is empty.
+fn push_or_brackets(text: &mut String, layer_type: u16, name: &str) -> Result<(), AllocError>
+    ensures { OnOk result
+        (string_bytes text.new ≡ string_bytes text.old ++ name_or_brackets layer_type name.now) }
 {
     if name.is_empty() {
-        return format!(in alloc; "[{layer_type}]");
+        text.push('[')?;
+        push_decimal(text, layer_type as u32)?;
+        return text.push(']');
     }
-    String::from_str(alloc, name)
+    text.push_str(name)
 }
 
 /// Returns the name of a type; nothing for other numbers.

@@ -1,12 +1,13 @@
 //! The type of a device and its addresses.
 
-ghost use Rattle.std.specs.Prelude.{◌≡◌, IfOk, OnOk, string_bytes};
+ghost use Rattle.std.specs.Prelude.{◌≡◌, ◌++◌, IfOk, OnOk, codes, string_bytes};
 ghost use Rattle.netlink_lines.specs.LinkAddress.{broadcast_key, hardware_parts, ip_size, link_address, link_own, permanent_part};
+ghost use Rattle.netlink_lines.specs.Hardware.{hardware_text};
 ghost use Rattle.netlink_lines.specs.Parts.{with_part, with_parts};
 ghost use Rattle.netlink_route.specs.declared.links.TheConstants.{IFLA_ADDRESS, IFLA_BROADCAST, IFLA_PERM_ADDRESS};
 
 use crate::address::or_empty;
-use crate::hardware::hardware_text;
+use crate::hardware::push_type;
 use crate::parts::{push_keyed, push_part};
 use crate::text::{bytes_text, ip_words};
 use netlink_family::MessageView;
@@ -28,8 +29,7 @@ pub(crate) fn push_hardware(
         (hardware_parts link.now.payload.now)) }
 {
     let layer = link.header().u16(IFI_TYPE);
-    let hardware = hardware_text(alloc, layer)?;
-    push_part(text, format!(in alloc; "link/{hardware}")?.as_str())?;
+    push_layer(text, layer)?;
     push_part(text, link_address(alloc, layer, own_of(link))?.as_str())?;
     let broadcast = link_address(alloc, layer, broadcast_of(link))?;
     push_keyed(
@@ -38,6 +38,16 @@ pub(crate) fn push_hardware(
         broadcast.as_str(),
     )?;
     push_permanent(alloc, text, layer, own_of(link), permanent_of(link))
+}
+
+/// Appends the type of the device.
+#[tactic(auto, using(crate::proofs::Pieces::part_more), unfolding(crate::specs::Parts::with_part))]
+fn push_layer(text: &mut String, layer: u16) -> Result<(), AllocError>
+    ensures { OnOk result (string_bytes text.new
+        ≡ with_part (string_bytes text.old) (codes "link/" ++ hardware_text layer)) }
+{
+    push_part(text, "link/")?;
+    push_type(text, layer)
 }
 
 /// Returns the address of the device; empty if there is none.

@@ -1,13 +1,14 @@
 //! The settings of a link: the parts of its line before the type of the device.
 
-ghost use Rattle.std.specs.Prelude.{◌≡◌, IfOk, OnOk, string_bytes};
+ghost use Rattle.std.specs.Prelude.{◌≡◌, ◌++◌, IfOk, OnOk, string_bytes};
 ghost use Rattle.netlink_lines.specs.LinkParts.{event_part, event_text, group_part, group_text, mode_part, mode_text, queue_part, setting_parts, state_part};
 ghost use Rattle.netlink_lines.specs.Parts.{with_part, with_parts};
 
 use crate::device::push_device;
+use crate::digits::push_decimal;
 use crate::name_table::Names;
-use crate::names::state_text;
-use crate::parts::{push_keyed, push_number, push_string};
+use crate::names::push_state;
+use crate::parts::{push_key, push_keyed, push_number, push_string};
 use netlink_family::MessageView;
 use netlink_route::Links;
 use netlink_route::links::{
@@ -31,71 +32,80 @@ pub(crate) fn push_settings(
     push_number(text, "mtu", link.view().u32(IFLA_MTU))?;
     push_string(text, "qdisc", link.view().str_bytes(IFLA_QDISC))?;
     push_device(alloc, text, known, "master", link.view().u32(IFLA_MASTER))?;
-    push_state(alloc, text, link.view().u8(IFLA_OPERSTATE))?;
-    push_mode(alloc, text, link.view().u8(IFLA_LINKMODE))?;
-    push_group(alloc, text, link.view().u32(IFLA_GROUP))?;
+    push_state_part(alloc, text, link.view().u8(IFLA_OPERSTATE))?;
+    push_mode(text, link.view().u8(IFLA_LINKMODE))?;
+    push_group(text, link.view().u32(IFLA_GROUP))?;
     push_queue(text, link.view().u32(IFLA_TXQLEN))?;
     push_event(alloc, text, link.view().u32(IFLA_EVENT))
 }
 
 /// Appends the operational state.
-#[tactic(auto, unfolding(crate::specs::LinkParts::state_part, crate::specs::Parts::with_part))]
-fn push_state(alloc: Global, text: &mut String, state: Option<u8>) -> Result<(), AllocError>
+#[tactic(auto, using(crate::proofs::Pieces::state_more), unfolding(crate::specs::LinkParts::state_part, crate::specs::Parts::with_part))]
+fn push_state_part(alloc: Global, text: &mut String, state: Option<u8>) -> Result<(), AllocError>
     ensures { OnOk result
         (string_bytes text.new ≡ with_part (string_bytes text.old) (state_part state)) }
 {
     match state {
-        Some(state) => push_keyed(text, "state", state_text(alloc, state)?.as_str()),
+        Some(state) => {
+            push_key(text, "state")?;
+            push_state(alloc, text, state)
+        }
         None => Ok(()),
     }
 }
 
 /// Appends the mode, which determines whether the link becomes dormant.
-#[tactic(auto, unfolding(crate::specs::LinkParts::mode_part, crate::specs::Parts::with_part))]
-fn push_mode(alloc: Global, text: &mut String, mode: Option<u8>) -> Result<(), AllocError>
+#[tactic(auto, using(crate::proofs::Pieces::mode_more), unfolding(crate::specs::LinkParts::mode_part, crate::specs::Parts::with_part))]
+fn push_mode(text: &mut String, mode: Option<u8>) -> Result<(), AllocError>
     ensures { OnOk result
         (string_bytes text.new ≡ with_part (string_bytes text.old) (mode_part mode)) }
 {
     match mode {
-        Some(mode) => push_keyed(text, "mode", mode_text(alloc, mode)?.as_str()),
+        Some(mode) => {
+            push_key(text, "mode")?;
+            push_mode_name(text, mode)
+        }
         None => Ok(()),
     }
 }
 
-/// Returns the name of a mode (`IF_LINK_MODE_*` of linux/if.h), or the number in decimal.
+/// Appends the name of a mode (`IF_LINK_MODE_*` of linux/if.h), or the number in decimal.
 #[tactic(auto, unfolding(crate::specs::LinkParts::mode_text))]
-fn mode_text(alloc: Global, mode: u8) -> Result<String, AllocError>
-    ensures { IfOk result (λ text. string_bytes text ≡ mode_text mode) }
+fn push_mode_name(text: &mut String, mode: u8) -> Result<(), AllocError>
+    ensures { OnOk result (string_bytes text.new ≡ string_bytes text.old ++ mode_text mode) }
 {
     let name = match mode {
         0 => "DEFAULT",
         1 => "DORMANT",
-        _ => return format!(in alloc; "{mode}"),
+        _ => return push_decimal(text, mode as u32),
     };
-    String::from_str(alloc, name)
+    text.push_str(name)
 }
 
 /// Appends the group.
-#[tactic(auto, unfolding(crate::specs::LinkParts::group_part, crate::specs::Parts::with_part))]
-fn push_group(alloc: Global, text: &mut String, group: Option<u32>) -> Result<(), AllocError>
+#[tactic(auto, using(crate::proofs::Pieces::group_more), unfolding(crate::specs::LinkParts::group_part, crate::specs::Parts::with_part))]
+fn push_group(text: &mut String, group: Option<u32>) -> Result<(), AllocError>
     ensures { OnOk result
         (string_bytes text.new ≡ with_part (string_bytes text.old) (group_part group)) }
 {
     match group {
-        Some(group) => push_keyed(text, "group", group_text(alloc, group)?.as_str()),
+        Some(group) => {
+            push_key(text, "group")?;
+            push_group_name(text, group)
+        }
         None => Ok(()),
     }
 }
 
-/// Returns the name of a group. Only the group 0 has a name, `default`, without a file of names.
+/// Appends the name of a group. Only the group 0 has a name, `default`, without a file of names.
 #[tactic(auto, unfolding(crate::specs::LinkParts::group_text))]
-fn group_text(alloc: Global, group: u32) -> Result<String, AllocError>
-    ensures { IfOk result (λ text. string_bytes text ≡ group_text group) }
+fn push_group_name(text: &mut String, group: u32) -> Result<(), AllocError>
+    ensures { OnOk result (string_bytes text.new ≡ string_bytes text.old ++ group_text group) }
 {
     if group == 0 {
-        return String::from_str(alloc, "default");
+        return text.push_str("default");
     }
-    format!(in alloc; "{group}")
+    push_decimal(text, group)
 }
 
 /// Appends a length of the queue other than 0.

@@ -12,6 +12,15 @@ use std::alloc::{AllocError, Global};
 pub fn state_text(alloc: Global, state: u8) -> Result<String, AllocError>
     ensures { IfOk result (λ text. string_bytes text ≡ state_text state) }
 {
+    let mut text = String::new(alloc);
+    push_state(alloc, &mut text, state)?;
+    Ok(text)
+}
+
+/// Appends the name of an operational state in this way.
+pub(crate) fn push_state(alloc: Global, text: &mut String, state: u8) -> Result<(), AllocError>
+    ensures { OnOk result (string_bytes text.new ≡ string_bytes text.old ++ state_text state) }
+{
     let name = match state {
         0 => "UNKNOWN",
         1 => "NOTPRESENT",
@@ -20,9 +29,9 @@ pub fn state_text(alloc: Global, state: u8) -> Result<String, AllocError>
         4 => "TESTING",
         5 => "DORMANT",
         6 => "UP",
-        _ => return format!(in alloc; "0x{state:x}"),
+        _ => return text.push_str(format!(in alloc; "0x{state:x}")?.as_str()),
     };
-    String::from_str(alloc, name)
+    text.push_str(name)
 }
 
 /// Returns the name of an address family, an `AF_*` of linux/socket.h; for any other number,
