@@ -118,7 +118,8 @@ fn is_named(message_type: u16) -> bool
     (message_type == RTM_NEWLINK) | (message_type == RTM_DELLINK)
 }
 
-/// Returns lines with a time before them, if there is one.
+/// Returns lines with a time before them, if there is one. Inline, since most lines have none.
+#[inline(always)]
 fn timed(alloc: Global, time: Option<Time>, shown: Shown) -> Result<Shown, AllocError>
     ensures { IfOk result (λ s. (string_bytes s.text, s.is_malformed)
         ≡ timed time (string_bytes shown.text, shown.is_malformed)) }
@@ -159,7 +160,8 @@ fn lines_of<F: Line>(
 }
 
 /// Returns lines, and `interrupted` before them if these are the flags of a message of an
-/// interrupted dump.
+/// interrupted dump. Inline, since few are.
+#[inline(always)]
 fn marked(alloc: Global, flags: u16, shown: Shown) -> Result<Shown, AllocError>
     ensures { IfOk result (λ s. (string_bytes s.text, s.is_malformed)
         ≡ marked_if flags (string_bytes shown.text, shown.is_malformed)) }
