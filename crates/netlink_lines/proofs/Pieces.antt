@@ -4,6 +4,7 @@ use Rattle.std.specs.List.{fold}
 use Rattle.std.specs.Net.Text.{ipv4_text}
 use Rattle.netlink_packet_core.specs.Text.{hex_pair}
 use Rattle.std.proofs.lemmas.Fmt.{decimal_nonempty}
+use Rattle.netlink_lines.specs.AddressFlags.{seconds_text}
 use Rattle.netlink_lines.specs.LinkParts.{group_text, mode_text}
 use Rattle.netlink_lines.specs.Names.{scope_text, state_text}
 use Rattle.netlink_lines.specs.Parts.{keyed, prefix_end, prefix_of, prefix_text, with_part}
@@ -202,3 +203,16 @@ group_some n fits = grind (arith, decimal_nonempty n (omega (arith, fits)))
 pub group_more : (text key : List ℕ) (n : ℕ) → n < 2 ^ 32
     → with_part text (keyed key (group_text n)) ≡ (separated (codes " ") text key ++ codes " ") ++ group_text n
 group_more text key n fits = keyed_more text key (group_text n) (group_some n fits)
+
+-- ---- the times and the label of an address
+
+seconds_some : (n : ℕ) → 0 < length (seconds_text n)
+seconds_some n = chosen_some (n == 4294967295) (codes "forever") (decimal n ++ codes "sec") (omega arith) (omega (arith, length-append (decimal n) (codes "sec")))
+
+pub seconds_more : (text key : List ℕ) (n : ℕ)
+    → with_part text (keyed key (seconds_text n)) ≡ (separated (codes " ") text key ++ codes " ") ++ seconds_text n
+seconds_more text key n = keyed_more text key (seconds_text n) (seconds_some n)
+
+pub label_more : (text name : List ℕ) → 0 < length name
+    → with_part text (name_text name) ≡ separated (codes " ") text [] ++ name_text name
+label_more text name some = part_some text (name_text name) (printable_some 33 name some)

@@ -5,14 +5,15 @@ ghost use Rattle.std.specs.Option.{option_copied};
 ghost use Rattle.netlink_route.specs.declared.addresses.TheConstants.{IFA_ADDRESS, IFA_ANYCAST, IFA_BROADCAST, IFA_LOCAL};
 ghost use Rattle.netlink_lines.specs.Address.{address_flags, address_front, address_ip, address_line, label_part, metric_part, or_byte, or_empty, own_text, peer_words, place_parts};
 ghost use Rattle.netlink_lines.specs.Names.{address_verb_text, scope_text};
+ghost use Rattle.netlink_lines.specs.Text.{name_text};
 ghost use Rattle.netlink_lines.specs.Parts.{keyed, with_part, with_parts};
 
 use crate::address_flags::{push_flags, push_lifetimes};
 use crate::device::{Known, device_name};
 use crate::name_table::Names;
 use crate::names::{family_text, push_scope};
-use crate::parts::{push_address, push_key, push_number, push_part};
-use crate::text::{ip_words, name_text};
+use crate::parts::{push_address, push_key, push_number, push_part, push_space};
+use crate::text::{ip_words, push_name};
 use netlink_family::MessageView;
 use netlink_route::Addresses;
 use netlink_route::addresses::{
@@ -55,7 +56,7 @@ pub(crate) fn address_line(
     push_places(alloc, &mut text, address)?;
     let flags = flags_of(address);
     push_flags(alloc, &mut text, address.header().u8(IFA_FAMILY), flags)?;
-    push_label(alloc, &mut text, address.view().str_bytes(IFA_LABEL))?;
+    push_label(&mut text, address.view().str_bytes(IFA_LABEL))?;
     push_lifetimes(alloc, &mut text, flags, address.view().bytes(IFA_CACHEINFO))?;
     text.push_str("\n")?;
     Ok(text)
@@ -111,14 +112,27 @@ fn push_scope_part(text: &mut String, scope: u8) -> Result<(), AllocError>
 
 /// Appends the label.
 #[tactic(auto, unfolding(crate::specs::Parts::with_part))]
-fn push_label(alloc: Global, text: &mut String, label: Option<&[u8]>) -> Result<(), AllocError>
+fn push_label(text: &mut String, label: Option<&[u8]>) -> Result<(), AllocError>
     ensures { OnOk result (string_bytes text.new
         ≡ with_part (string_bytes text.old) (label_part (option_copied label.entry))) }
 {
     match label {
-        Some(label) => push_part(text, name_text(alloc, label)?.as_str()),
+        Some(label) => push_bare(text, label),
         None => Ok(()),
     }
+}
+
+/// Appends a name without a key, unless it is empty.
+#[tactic(auto, using(crate::proofs::Pieces::label_more), unfolding(crate::specs::Parts::with_part, crate::specs::Text::printable_text))]
+fn push_bare(text: &mut String, name: &[u8]) -> Result<(), AllocError>
+    ensures { OnOk result
+        (string_bytes text.new ≡ with_part (string_bytes text.old) (name_text name.now)) }
+{
+    if name.is_empty() {
+        return Ok(());
+    }
+    push_space(text)?;
+    push_name(text, name)
 }
 
 /// Appends the metric, unless the text of the address is empty.

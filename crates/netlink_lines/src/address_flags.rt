@@ -1,11 +1,12 @@
 //! The flags and the lifetimes of an address.
 
-ghost use Rattle.std.specs.Prelude.{◌≡◌, IfOk, OnOk, string_bytes};
+ghost use Rattle.std.specs.Prelude.{◌≡◌, ◌++◌, OnOk, codes, string_bytes};
 ghost use Rattle.std.specs.Option.{option_copied};
 ghost use Rattle.netlink_lines.specs.AddressFlags.{address_flag, flags_text, is_shown, lifetime_parts, named_flags, preferred_text, rest_part, seconds_text, with_flag};
-ghost use Rattle.netlink_lines.specs.Parts.{with_part, with_parts};
+ghost use Rattle.netlink_lines.specs.Parts.{keyed, with_part, with_parts};
 
-use crate::parts::{push_keyed, push_when};
+use crate::digits::push_decimal;
+use crate::parts::{push_key, push_keyed, push_when};
 use netlink_packet_core::{i32_at, u32_at};
 use std::alloc::{AllocError, Global};
 
@@ -126,36 +127,51 @@ pub(crate) fn push_lifetimes(
             if info.len() < 16 {
                 return Ok(());
             }
-            let valid = seconds_text(alloc, u32_at(info, 4))?;
-            push_keyed(text, "valid_lft", valid.as_str())?;
-            let preferred = preferred_text(alloc, flags, u32_at(info, 0), i32_at(info, 0))?;
-            push_keyed(text, "preferred_lft", preferred.as_str())
+            push_seconds(text, "valid_lft", u32_at(info, 4))?;
+            push_preferred(alloc, text, flags, u32_at(info, 0), i32_at(info, 0))
         }
     }
 }
 
-/// Returns a time in seconds; `forever` for 2^32 - 1.
-fn seconds_text(alloc: Global, seconds: u32) -> Result<String, AllocError>
-    ensures { IfOk result (λ text. string_bytes text ≡ seconds_text seconds) }
+/// Appends a key and a time in seconds.
+#[tactic(auto, using(crate::proofs::Pieces::seconds_more))]
+fn push_seconds(text: &mut String, key: &str, seconds: u32) -> Result<(), AllocError>
+    ensures { OnOk result (string_bytes text.new
+        ≡ with_part (string_bytes text.old) (keyed key.now (seconds_text seconds))) }
 {
-    if seconds == u32::MAX {
-        return String::from_str(alloc, "forever");
-    }
-    format!(in alloc; "{seconds}sec")
+    push_key(text, key)?;
+    push_time(text, seconds)
 }
 
-/// Returns how long an address is preferred, given as an unsigned number and as a signed one, which
+/// Appends a time in seconds; `forever` for 2^32 - 1.
+fn push_time(text: &mut String, seconds: u32) -> Result<(), AllocError>
+    ensures { OnOk result (string_bytes text.new ≡ string_bytes text.old ++ seconds_text seconds) }
+{
+    if seconds == u32::MAX {
+        return text.push_str("forever");
+    }
+    push_decimal(text, seconds)?;
+    text.push_str("sec")
+}
+
+/// Appends how long an address is preferred, given as an unsigned number and as a signed one, which
 /// is that of a deprecated address.
-fn preferred_text(
+fn push_preferred(
     alloc: Global,
+    text: &mut String,
     flags: u32,
     seconds: u32,
     signed: i32,
-) -> Result<String, AllocError>
-    ensures { IfOk result (λ text. string_bytes text ≡ preferred_text flags seconds signed) }
+) -> Result<(), AllocError>
+    ensures { OnOk result (string_bytes text.new ≡ with_part (string_bytes text.old)
+        (keyed (codes "preferred_lft") (preferred_text flags seconds signed))) }
 {
     if seconds == u32::MAX || flags & IFA_F_DEPRECATED == 0 {
-        return seconds_text(alloc, seconds);
+        return push_seconds(text, "preferred_lft", seconds);
     }
-    format!(in alloc; "{signed}sec")
+    push_keyed(
+        text,
+        "preferred_lft",
+        format!(in alloc; "{signed}sec")?.as_str(),
+    )
 }
