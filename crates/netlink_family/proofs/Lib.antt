@@ -9,3 +9,4 @@ pub mod Normalizing
 pub mod RowSearch
 pub mod PolicyRows
 pub mod Payloads
+pub mod WholeWalks

@@ -25,3 +25,4 @@ pub mod ShowLaws
 pub mod SortedLaws
 pub mod Strings
 pub mod Values
+pub mod Whole

@@ -1,9 +1,11 @@
 //! Finding the first attribute of a kind.
 
-ghost use Rattle.std.specs.Prelude.{◌≡◌, IfNone, IfSome, None, Some};
+ghost use Rattle.std.specs.Prelude.{◌≡◌, ◌<◌, IfNone, IfSome, None, Some, drop, length};
+ghost use Rattle.netlink_packet_core.specs.Views.{HoldsAttribute, shown};
 ghost use Rattle.netlink_family.specs.Listing.{first_of, listed};
+ghost use Rattle.netlink_family.specs.Whole.{IsWhole};
 
-use netlink_packet_core::NlasIterator;
+use netlink_packet_core::{NlaBuffer, NlasIterator, nla_align};
 
 /// Returns the value of the first attribute of a kind, whatever its flag bits. Returns `None` if no
 /// such attribute precedes an error of the walk.
@@ -23,4 +25,34 @@ pub(crate) fn first_value(block: &[u8], kind: u16) -> Option<&[u8]>
         }
     }
     None
+}
+
+/// The same in a block without an error of the walk, whose lengths it does not check again. It moves
+/// an offset and not a slice, which takes half the instructions for each attribute.
+pub(crate) fn first_whole(block: &[u8], kind: u16) -> Option<&[u8]>
+    requires whole { IsWhole block.now }
+    ensures some { IfSome result (λ v. first_of kind (listed block.now) ≡ Some v.now) }
+    ensures none { IfNone result (first_of kind (listed block.now) ≡ None) }
+{
+    let mut at = 0;
+    while at < block.len() {
+        let nla = attribute_at(block, at);
+        let its = nla.kind();
+        if its == kind {
+            return Some(nla.value());
+        }
+        at += nla_align(nla.length() as usize);
+    }
+    None
+}
+
+/// Returns the attribute at an offset in a block.
+#[inline(always)]
+fn attribute_at(block: &[u8], at: usize) -> NlaBuffer<&[u8]>
+    requires inside { at < length block.now }
+    requires whole { IsWhole (drop at block.now) }
+    ensures bytes { shown result ≡ drop at block.now }
+    ensures whole { HoldsAttribute (shown result) }
+{
+    NlaBuffer::new(&block[at..])
 }

@@ -11,7 +11,7 @@ ghost use Rattle.netlink_family.specs.Values.{NestHasRows, IsValueOf, value_shap
 use crate::attributes::Attributes;
 use crate::block_view::BlockView;
 use crate::choice::shape_among;
-use crate::find::first_value;
+use crate::find::first_whole;
 use crate::header_view::HeaderView;
 use crate::shape::{Shape, nest_block, policy_of};
 use crate::value::{
@@ -37,7 +37,7 @@ impl<'a> BlockView<'a> {
         ensures shaped { IfSome result (λ v. fits_in (within (rows_in self.now.rows.now) self.now.block.now) self.now.policy kind v.now ≡ true) }
     {
         are_shaped(self, self.block);
-        first_value(self.block, kind)
+        first_whole(self.block, kind)
     }
 
     /// Returns the value of the first attribute of this kind. Returns `None` if and only if there

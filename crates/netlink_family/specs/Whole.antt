@@ -1,0 +1,8 @@
+-- Blocks without an error of the walk.
+use Rattle.std.specs.Prelude.{ℕ, List, None}
+use Rattle.netlink_packet_core.specs.Attribute.{Attribute}
+use Rattle.netlink_packet_core.specs.Walk.{Walk}
+
+-- walking the bytes yields attributes, and then the end
+abbrev pub IsWhole : List ℕ → Type 0
+IsWhole bytes = (all : List Attribute) × Walk bytes all None
