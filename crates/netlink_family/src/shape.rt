@@ -177,6 +177,7 @@ fn earlier(at: usize, greater: u16, kind: u16) -> usize
 
 /// Returns the row of a policy and a kind, by binary search. First compares the last row, because
 /// many kinds without a row are greater than all those with one.
+#[inline(never)]
 fn search_row(rows: &[Row], policy: u16, kind: u16) -> Option<&Row>
     requires sorted { are_sorted (rows_in rows.now) ≡ true }
     ensures { option_map borrowed_row result ≡ row_at (rows_in rows.now) policy kind }
