@@ -10,3 +10,4 @@ pub mod RowSearch
 pub mod PolicyRows
 pub mod Payloads
 pub mod WholeWalks
+pub mod Indexing

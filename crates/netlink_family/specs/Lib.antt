@@ -7,6 +7,7 @@ pub mod ErrorTexts
 pub mod Errors
 pub mod Finding
 pub mod FindingLaws
+pub mod Index
 pub mod Iteration
 pub mod IterationLaws
 pub mod Listing

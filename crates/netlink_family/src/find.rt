@@ -48,7 +48,7 @@ pub(crate) fn first_whole(block: &[u8], kind: u16) -> Option<&[u8]>
 
 /// Returns the attribute at an offset in a block.
 #[inline(always)]
-fn attribute_at(block: &[u8], at: usize) -> NlaBuffer<&[u8]>
+pub(crate) fn attribute_at(block: &[u8], at: usize) -> NlaBuffer<&[u8]>
     requires inside { at < length block.now }
     requires whole { IsWhole (drop at block.now) }
     ensures bytes { shown result ≡ drop at block.now }

@@ -300,7 +300,7 @@ impl<'a> BlockView<'a> {
 }
 
 /// A law: the attributes have the shapes of their kinds. Does nothing at run time.
-fn are_shaped(view: &BlockView<'_>, block: &[u8])
+pub(crate) fn are_shaped(view: &BlockView<'_>, block: &[u8])
     requires { block.now ≡ view.now.block.now }
     ensures { AreShaped (within (rows_in view.now.rows.now) view.now.block.now) view.now.policy block.now }
 {}

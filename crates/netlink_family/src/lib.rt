@@ -6,6 +6,7 @@
 mod attribute_error;
 mod attributes;
 mod block;
+mod block_index;
 mod block_view;
 mod both;
 mod checked;
@@ -15,6 +16,7 @@ mod family;
 mod find;
 mod getters;
 mod header_view;
+mod index_getters;
 mod late;
 pub mod laws;
 mod owned;
@@ -26,6 +28,7 @@ mod view;
 
 pub use crate::attribute_error::{AttributeError, Reason};
 pub use crate::attributes::Attributes;
+pub use crate::block_index::BlockIndex;
 pub use crate::block_view::BlockView;
 pub use crate::both::{Both, Join, Joined};
 pub use crate::checked::CheckedAttributes;

@@ -1,0 +1,128 @@
+//! A block of attributes with the place of the first attribute of each kind, for many lookups.
+
+ghost use Rattle.std.specs.Prelude.{◌≡◌, ◌≢◌, ◌<◌, ℕ, IfNone, IfSome, None, Some, drop, length, slice_index, true};
+ghost use Rattle.netlink_packet_core.specs.Views.{HoldsAttribute, attribute_of};
+ghost use Rattle.netlink_family.specs.Finding.{found_at};
+ghost use Rattle.netlink_family.specs.Index.{ArePlaces};
+ghost use Rattle.netlink_family.specs.Listing.{first_of, listed};
+ghost use Rattle.netlink_family.specs.Shapes.{fits_in, rows_in, within};
+ghost use Rattle.netlink_family.specs.Whole.{IsWhole};
+ghost use Rattle.std.proofs.Props.{props};
+
+use crate::block_view::BlockView;
+use crate::find::{attribute_at, first_value};
+use crate::getters::are_shaped;
+use netlink_packet_core::{NlaBuffer, nla_align};
+
+/// The kinds that have a place.
+const KINDS: usize = 64;
+
+/// The offsets that a place can stand for are below this.
+const REACH: usize = 4 * 65535;
+
+/// A view of a block of attributes, with the place of the first attribute of each kind below 64, so
+/// that a getter does not walk the block. It is made in one pass by `BlockView::indexed`, and pays
+/// from about four getters on. Nothing allocates.
+#[derive(Debug)]
+pub struct BlockIndex<'a> {
+    /// The block.
+    pub view: BlockView<'a>,
+    /// For each kind 0 if no attribute before the rest has it, else 1 more than a quarter of the
+    /// offset of the first one that has it.
+    pub places: [u16; 64],
+    /// The attributes from the first one on whose offset is too large for a place; mostly none.
+    pub rest: &'a [u8],
+    pub ghost placed: { ArePlaces view.block.now rest.now places } by { Prim.hlevel props },
+}
+
+impl<'a> BlockView<'a> {
+    /// Returns the view with the places of its attributes, for many lookups.
+    pub fn indexed(&self) -> BlockIndex<'a>
+        ensures { result.view ≡ self.now }
+    {
+        are_shaped(self, self.block);
+        let (places, end) = placed(self.block);
+        BlockIndex {
+            view: *self,
+            places,
+            rest: rest_from(self.block, end),
+        }
+    }
+}
+
+impl<'a> BlockIndex<'a> {
+    /// Returns the value of the first attribute of this kind as bytes, whatever its shape.
+    pub fn first(&self, kind: u16) -> Option<&'a [u8]>
+        ensures some { IfSome result (λ v. found_at self.now.view kind ≡ Some v.now) }
+        ensures none { IfNone result (found_at self.now.view kind ≡ None) }
+        ensures shaped { IfSome result (λ v. fits_in (within (rows_in self.now.view.rows.now) self.now.view.block.now) self.now.view.policy kind v.now ≡ true) }
+    {
+        are_shaped(&self.view, self.view.block);
+        first_placed(self, kind)
+    }
+}
+
+/// Returns the places of the attributes of a block, and the offset of the rest.
+fn placed(block: &[u8]) -> ([u16; 64], usize)
+    requires whole { IsWhole block.now }
+    ensures places { ArePlaces block.now (drop result.1 block.now) result.0 }
+{
+    let mut places = [0u16; KINDS];
+    let mut at = 0;
+    while at < block.len() && at < REACH {
+        let nla = attribute_at(block, at);
+        enter(&mut places, nla.kind(), (at / 4 + 1) as u16);
+        at += nla_align(nla.length() as usize);
+    }
+    (places, at)
+}
+
+/// Enters the place of a kind, unless the kind has one.
+#[inline(always)]
+fn enter(places: &mut [u16; 64], kind: u16, place: u16)
+    ensures others { (k : ℕ) → k ≢ kind → slice_index places.new k ≡ slice_index places.old k }
+    ensures kept { (k : ℕ) → 0 < slice_index places.old k → slice_index places.new k ≡ slice_index places.old k }
+    ensures own { kind < 64 → slice_index places.old kind ≡ 0 → slice_index places.new kind ≡ place }
+{
+    let row = kind as usize;
+    if row < KINDS && places[row] == 0 {
+        places[row] = place;
+    }
+}
+
+/// Returns the bytes of a block from an offset on.
+fn rest_from(block: &[u8], at: usize) -> &[u8]
+    ensures { result.now ≡ drop at block.now }
+{
+    if at < block.len() {
+        return &block[at..];
+    }
+    &[]
+}
+
+/// Returns the value of the attribute at an offset in a block.
+#[inline(always)]
+fn value_at(block: &[u8], at: usize) -> &[u8]
+    requires whole { HoldsAttribute (drop at block.now) }
+    ensures { result.now ≡ (attribute_of (drop at block.now)).value }
+{
+    NlaBuffer::new(&block[at..]).value()
+}
+
+/// Returns the value of the first attribute of a kind, whatever its flag bits. A kind without a
+/// place takes a walk.
+#[inline(always)]
+fn first_placed<'a>(index: &BlockIndex<'a>, kind: u16) -> Option<&'a [u8]>
+    ensures some { IfSome result (λ v. first_of kind (listed index.now.view.block.now) ≡ Some v.now) }
+    ensures none { IfNone result (first_of kind (listed index.now.view.block.now) ≡ None) }
+{
+    let row = kind as usize;
+    if row >= KINDS {
+        return first_value(index.view.block, kind);
+    }
+    let place = index.places[row] as usize;
+    if place == 0 {
+        return first_value(index.rest, kind);
+    }
+    Some(value_at(index.view.block, 4 * (place - 1)))
+}
