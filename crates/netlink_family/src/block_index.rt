@@ -23,7 +23,7 @@ const REACH: usize = 4 * 65535;
 /// A view of a block of attributes, with the place of the first attribute of each kind below 64, so
 /// that a getter does not walk the block. It is made in one pass by `BlockView::indexed`, and pays
 /// from about four getters on. Nothing allocates.
-#[derive(Debug)]
+#[derive(Debug, Drop)]
 pub struct BlockIndex<'a> {
     /// The block.
     pub view: BlockView<'a>,
