@@ -14,7 +14,7 @@ use crate::link_parts::push_settings;
 use crate::name_table::Names;
 use crate::parts::{push_string, push_words};
 use crate::text::name_text;
-use netlink_family::MessageView;
+use netlink_family::{MessageIndex, MessageView};
 use netlink_route::Links;
 use netlink_route::links::{
     IFI_FLAGS, IFI_INDEX, IFLA_IFALIAS, IFLA_IFNAME, IFLA_INFO_KIND, IFLA_LINK, IFLA_LINK_NETNSID,
@@ -42,7 +42,6 @@ pub fn link_text(
 }
 
 /// Returns the line of a message about a link, as `link_text` does.
-#[tactic(auto, unfolding(crate::specs::Link::link_line))]
 pub(crate) fn link_line(
     alloc: Global,
     known: &Names<'_>,
@@ -51,11 +50,28 @@ pub(crate) fn link_line(
     ensures { IfOk result (λ text. string_bytes text
         ≡ link_line known.now link.now.message_type link.now.payload.now) }
 {
+    line_of(alloc, known, &link.indexed())
+}
+
+/// Returns the line of a message about a link by its places, since it asks for many attributes.
+#[tactic(auto, unfolding(crate::specs::Link::link_line))]
+fn line_of(
+    alloc: Global,
+    known: &Names<'_>,
+    link: &MessageIndex<'_, Links>,
+) -> Result<String, AllocError>
+    ensures { IfOk result (λ text. string_bytes text
+        ≡ link_line known.now link.now.message.message_type link.now.message.payload.now) }
+{
     let mut text = front_text(alloc, known, link)?;
     push_settings(alloc, &mut text, known, link)?;
     push_hardware(alloc, &mut text, link)?;
     push_spaces(alloc, &mut text, link)?;
-    push_words(&mut text, "alias", link.view().str_bytes(IFLA_IFALIAS))?;
+    push_words(
+        &mut text,
+        "alias",
+        link.attributes().str_bytes(IFLA_IFALIAS),
+    )?;
     push_alternatives(&mut text, link)?;
     push_string(&mut text, "kind", kind_of(link))?;
     text.push_str("\n")?;
@@ -67,12 +83,12 @@ pub(crate) fn link_line(
 fn front_text(
     alloc: Global,
     known: &Names<'_>,
-    link: &MessageView<'_, Links>,
+    link: &MessageIndex<'_, Links>,
 ) -> Result<String, AllocError>
     ensures { IfOk result (λ text. string_bytes text
-        ≡ link_front known.now link.now.message_type link.now.payload.now) }
+        ≡ link_front known.now link.now.message.message_type link.now.message.payload.now) }
 {
-    let verb = verb_text(link.message_type);
+    let verb = verb_text(link.message.message_type);
     let index = link.header().i32(IFI_INDEX);
     let name = link_name(alloc, index, link)?;
     let below = below_words(alloc, known, link)?;
@@ -95,11 +111,15 @@ fn verb_text(message_type: u16) -> &'static str
 }
 
 /// Returns the name of a link, or `if` and its index if it has none.
-fn link_name(alloc: Global, index: i32, link: &MessageView<'_, Links>) -> Result<String, AllocError>
+fn link_name(
+    alloc: Global,
+    index: i32,
+    link: &MessageIndex<'_, Links>,
+) -> Result<String, AllocError>
     ensures { IfOk result (λ text. string_bytes text
-        ≡ link_name index (link_string link.now.payload.now IFLA_IFNAME)) }
+        ≡ link_name index (link_string link.now.message.payload.now IFLA_IFNAME)) }
 {
-    match link.view().str_bytes(IFLA_IFNAME) {
+    match link.attributes().str_bytes(IFLA_IFNAME) {
         Some(name) => name_text(alloc, name),
         None => format!(in alloc; "if{index}"),
     }
@@ -109,15 +129,20 @@ fn link_name(alloc: Global, index: i32, link: &MessageView<'_, Links>) -> Result
 fn below_words(
     alloc: Global,
     known: &Names<'_>,
-    link: &MessageView<'_, Links>,
+    link: &MessageIndex<'_, Links>,
 ) -> Result<String, AllocError>
     ensures { IfOk result (λ text. string_bytes text ≡ below_words known.now
-        (link_signed link.now.payload.now IFLA_LINK_NETNSID) (link_number link.now.payload.now IFLA_LINK)) }
+        (link_signed link.now.message.payload.now IFLA_LINK_NETNSID) (link_number link.now.message.payload.now IFLA_LINK)) }
 {
-    match link.view().u32(IFLA_LINK) {
+    match link.attributes().u32(IFLA_LINK) {
         Some(0) => String::from_str(alloc, "@NONE"),
         Some(index) => {
-            let name = below_name(alloc, known, link.view().i32(IFLA_LINK_NETNSID), index)?;
+            let name = below_name(
+                alloc,
+                known,
+                link.attributes().i32(IFLA_LINK_NETNSID),
+                index,
+            )?;
             format!(in alloc; "@{name}")
         }
         None => Ok(String::new(alloc)),
@@ -141,8 +166,10 @@ fn below_name(
 }
 
 /// Returns the string in `IFLA_INFO_KIND` of the nest `IFLA_LINKINFO`, if there is one.
-fn kind_of<'a>(link: &MessageView<'a, Links>) -> Option<&'a [u8]>
-    ensures { option_copied result ≡ link_kind link.now.payload.now }
+fn kind_of<'a>(link: &MessageIndex<'a, Links>) -> Option<&'a [u8]>
+    ensures { option_copied result ≡ link_kind link.now.message.payload.now }
 {
-    link.view().nest(IFLA_LINKINFO)?.str_bytes(IFLA_INFO_KIND)
+    link.attributes()
+        .nest(IFLA_LINKINFO)?
+        .str_bytes(IFLA_INFO_KIND)
 }

@@ -10,7 +10,7 @@ use crate::address::or_empty;
 use crate::hardware::push_type;
 use crate::parts::{push_keyed, push_part};
 use crate::text::{bytes_text, ip_words};
-use netlink_family::MessageView;
+use netlink_family::MessageIndex;
 use netlink_route::Links;
 use netlink_route::links::{IFI_FLAGS, IFI_TYPE, IFLA_ADDRESS, IFLA_BROADCAST, IFLA_PERM_ADDRESS};
 use std::alloc::{AllocError, Global};
@@ -23,10 +23,10 @@ const IFF_POINTOPOINT: u32 = 0x10;
 pub(crate) fn push_hardware(
     alloc: Global,
     text: &mut String,
-    link: &MessageView<'_, Links>,
+    link: &MessageIndex<'_, Links>,
 ) -> Result<(), AllocError>
     ensures { OnOk result (string_bytes text.new ≡ with_parts (string_bytes text.old)
-        (hardware_parts link.now.payload.now)) }
+        (hardware_parts link.now.message.payload.now)) }
 {
     let layer = link.header().u16(IFI_TYPE);
     push_layer(text, layer)?;
@@ -51,24 +51,24 @@ fn push_layer(text: &mut String, layer: u16) -> Result<(), AllocError>
 }
 
 /// Returns the address of the device; empty if there is none.
-fn own_of<'a>(link: &MessageView<'a, Links>) -> &'a [u8]
-    ensures { result.now ≡ link_own link.now.payload.now IFLA_ADDRESS }
+fn own_of<'a>(link: &MessageIndex<'a, Links>) -> &'a [u8]
+    ensures { result.now ≡ link_own link.now.message.payload.now IFLA_ADDRESS }
 {
-    or_empty(link.view().bytes(IFLA_ADDRESS))
+    or_empty(link.attributes().bytes(IFLA_ADDRESS))
 }
 
 /// Returns the broadcast address, or that of the peer; empty if there is none.
-fn broadcast_of<'a>(link: &MessageView<'a, Links>) -> &'a [u8]
-    ensures { result.now ≡ link_own link.now.payload.now IFLA_BROADCAST }
+fn broadcast_of<'a>(link: &MessageIndex<'a, Links>) -> &'a [u8]
+    ensures { result.now ≡ link_own link.now.message.payload.now IFLA_BROADCAST }
 {
-    or_empty(link.view().bytes(IFLA_BROADCAST))
+    or_empty(link.attributes().bytes(IFLA_BROADCAST))
 }
 
 /// Returns the permanent address; empty if there is none.
-fn permanent_of<'a>(link: &MessageView<'a, Links>) -> &'a [u8]
-    ensures { result.now ≡ link_own link.now.payload.now IFLA_PERM_ADDRESS }
+fn permanent_of<'a>(link: &MessageIndex<'a, Links>) -> &'a [u8]
+    ensures { result.now ≡ link_own link.now.message.payload.now IFLA_PERM_ADDRESS }
 {
-    or_empty(link.view().bytes(IFLA_PERM_ADDRESS))
+    or_empty(link.attributes().bytes(IFLA_PERM_ADDRESS))
 }
 
 /// Returns the key before the broadcast address, which is that of the peer if a link has one.

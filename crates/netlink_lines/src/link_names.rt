@@ -10,7 +10,7 @@ ghost use Rattle.netlink_lines.specs.LinkNames.{IsProperties, IsProperty, altern
 ghost use Rattle.netlink_lines.specs.Parts.{with_part, with_parts};
 
 use crate::parts::{push_part, push_string, push_when};
-use netlink_family::{BlockView, MessageView, Table, Value, bytes_until_nul};
+use netlink_family::{BlockView, MessageIndex, Table, Value, bytes_until_nul};
 use netlink_route::Links;
 use netlink_route::links::{
     IFLA_ALT_IFNAME, IFLA_LINK_NETNSID, IFLA_NEW_IFINDEX, IFLA_NEW_NETNSID, IFLA_PROP_LIST,
@@ -24,36 +24,36 @@ use std::alloc::{AllocError, Global};
 pub(crate) fn push_spaces(
     alloc: Global,
     text: &mut String,
-    link: &MessageView<'_, Links>,
+    link: &MessageIndex<'_, Links>,
 ) -> Result<(), AllocError>
     ensures { OnOk result (string_bytes text.new
-        ≡ with_parts (string_bytes text.old) (space_parts link.now.payload.now)) }
+        ≡ with_parts (string_bytes text.old) (space_parts link.now.message.payload.now)) }
 {
     push_space(alloc, text, lower_space(link))?;
     push_signed(alloc, text, "new-netnsid", new_space(link))?;
     push_signed(alloc, text, "new-ifindex", new_index(link))?;
-    push_down(text, link.view().u8(IFLA_PROTO_DOWN))
+    push_down(text, link.attributes().u8(IFLA_PROTO_DOWN))
 }
 
 /// Returns the id of the network namespace of the lower link.
-fn lower_space(link: &MessageView<'_, Links>) -> Option<i32>
-    ensures { result ≡ space_id link.now.payload.now IFLA_LINK_NETNSID }
+fn lower_space(link: &MessageIndex<'_, Links>) -> Option<i32>
+    ensures { result ≡ space_id link.now.message.payload.now IFLA_LINK_NETNSID }
 {
-    link.view().i32(IFLA_LINK_NETNSID)
+    link.attributes().i32(IFLA_LINK_NETNSID)
 }
 
 /// Returns the id of the network namespace that the link moved to.
-fn new_space(link: &MessageView<'_, Links>) -> Option<i32>
-    ensures { result ≡ space_id link.now.payload.now IFLA_NEW_NETNSID }
+fn new_space(link: &MessageIndex<'_, Links>) -> Option<i32>
+    ensures { result ≡ space_id link.now.message.payload.now IFLA_NEW_NETNSID }
 {
-    link.view().i32(IFLA_NEW_NETNSID)
+    link.attributes().i32(IFLA_NEW_NETNSID)
 }
 
 /// Returns the index that the link has there.
-fn new_index(link: &MessageView<'_, Links>) -> Option<i32>
-    ensures { result ≡ space_id link.now.payload.now IFLA_NEW_IFINDEX }
+fn new_index(link: &MessageIndex<'_, Links>) -> Option<i32>
+    ensures { result ≡ space_id link.now.message.payload.now IFLA_NEW_IFINDEX }
 {
-    link.view().i32(IFLA_NEW_IFINDEX)
+    link.attributes().i32(IFLA_NEW_IFINDEX)
 }
 
 /// Appends the id of the network namespace of a lower link; `unknown` for one below 0.
@@ -104,12 +104,12 @@ fn push_down(text: &mut String, down: Option<u8>) -> Result<(), AllocError>
 #[tactic(auto, unfolding(crate::specs::LinkNames::alternatives_text))]
 pub(crate) fn push_alternatives(
     text: &mut String,
-    link: &MessageView<'_, Links>,
+    link: &MessageIndex<'_, Links>,
 ) -> Result<(), AllocError>
     ensures { OnOk result (string_bytes text.new ≡ alternatives_text (string_bytes text.old)
-        (first_at 16 link.now.payload.now IFLA_PROP_LIST)) }
+        (first_at 16 link.now.message.payload.now IFLA_PROP_LIST)) }
 {
-    match link.view().nest(IFLA_PROP_LIST) {
+    match link.attributes().nest(IFLA_PROP_LIST) {
         None => Ok(()),
         Some(properties) => push_properties(text, &properties),
     }

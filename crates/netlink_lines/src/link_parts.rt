@@ -9,7 +9,7 @@ use crate::digits::push_decimal;
 use crate::name_table::Names;
 use crate::names::push_state;
 use crate::parts::{push_key, push_keyed, push_number, push_string};
-use netlink_family::MessageView;
+use netlink_family::MessageIndex;
 use netlink_route::Links;
 use netlink_route::links::{
     IFLA_EVENT, IFLA_GROUP, IFLA_LINKMODE, IFLA_MASTER, IFLA_MTU, IFLA_OPERSTATE, IFLA_QDISC,
@@ -24,19 +24,25 @@ pub(crate) fn push_settings(
     alloc: Global,
     text: &mut String,
     known: &Names<'_>,
-    link: &MessageView<'_, Links>,
+    link: &MessageIndex<'_, Links>,
 ) -> Result<(), AllocError>
     ensures { OnOk result (string_bytes text.new ≡ with_parts (string_bytes text.old)
-        (setting_parts known.now link.now.payload.now)) }
+        (setting_parts known.now link.now.message.payload.now)) }
 {
-    push_number(text, "mtu", link.view().u32(IFLA_MTU))?;
-    push_string(text, "qdisc", link.view().str_bytes(IFLA_QDISC))?;
-    push_device(alloc, text, known, "master", link.view().u32(IFLA_MASTER))?;
-    push_state_part(alloc, text, link.view().u8(IFLA_OPERSTATE))?;
-    push_mode(text, link.view().u8(IFLA_LINKMODE))?;
-    push_group(text, link.view().u32(IFLA_GROUP))?;
-    push_queue(text, link.view().u32(IFLA_TXQLEN))?;
-    push_event(alloc, text, link.view().u32(IFLA_EVENT))
+    push_number(text, "mtu", link.attributes().u32(IFLA_MTU))?;
+    push_string(text, "qdisc", link.attributes().str_bytes(IFLA_QDISC))?;
+    push_device(
+        alloc,
+        text,
+        known,
+        "master",
+        link.attributes().u32(IFLA_MASTER),
+    )?;
+    push_state_part(alloc, text, link.attributes().u8(IFLA_OPERSTATE))?;
+    push_mode(text, link.attributes().u8(IFLA_LINKMODE))?;
+    push_group(text, link.attributes().u32(IFLA_GROUP))?;
+    push_queue(text, link.attributes().u32(IFLA_TXQLEN))?;
+    push_event(alloc, text, link.attributes().u32(IFLA_EVENT))
 }
 
 /// Appends the operational state.

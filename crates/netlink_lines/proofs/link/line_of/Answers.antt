@@ -1,6 +1,6 @@
 use Rattle.std.proofs.Common.{rules}
 use Rattle.netlink_lines.specs.Link.{link_line}
-use Rattle.netlink_lines.proofs.link.link_line.Goals as goal
+use Rattle.netlink_lines.proofs.link.line_of.Goals as goal
 
 pub returns : goal.returns
 unfolding link_line
