@@ -45,8 +45,8 @@ impl<'a, F: Table> MessageIndex<'a, F> {
         self.message.header()
     }
 
-    /// Returns the attributes, with getters by kind.
-    pub fn attributes(&self) -> &BlockIndex<'a>
+    /// Returns the attributes by their places, with getters by kind.
+    pub fn view(&self) -> &BlockIndex<'a>
         ensures rows { rows_in result.now.view.rows.now ≡ F.rows self.now.message.message_type }
         ensures policy { result.now.view.policy ≡ 0 }
         ensures block { result.now.view.block.now ≡ drop (F.header_len self.now.message.message_type) self.now.message.payload.now }

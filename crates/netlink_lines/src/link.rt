@@ -67,11 +67,7 @@ fn line_of(
     push_settings(alloc, &mut text, known, link)?;
     push_hardware(alloc, &mut text, link)?;
     push_spaces(alloc, &mut text, link)?;
-    push_words(
-        &mut text,
-        "alias",
-        link.attributes().str_bytes(IFLA_IFALIAS),
-    )?;
+    push_words(&mut text, "alias", link.view().str_bytes(IFLA_IFALIAS))?;
     push_alternatives(&mut text, link)?;
     push_string(&mut text, "kind", kind_of(link))?;
     text.push_str("\n")?;
@@ -119,7 +115,7 @@ fn link_name(
     ensures { IfOk result (λ text. string_bytes text
         ≡ link_name index (link_string link.now.message.payload.now IFLA_IFNAME)) }
 {
-    match link.attributes().str_bytes(IFLA_IFNAME) {
+    match link.view().str_bytes(IFLA_IFNAME) {
         Some(name) => name_text(alloc, name),
         None => format!(in alloc; "if{index}"),
     }
@@ -134,15 +130,10 @@ fn below_words(
     ensures { IfOk result (λ text. string_bytes text ≡ below_words known.now
         (link_signed link.now.message.payload.now IFLA_LINK_NETNSID) (link_number link.now.message.payload.now IFLA_LINK)) }
 {
-    match link.attributes().u32(IFLA_LINK) {
+    match link.view().u32(IFLA_LINK) {
         Some(0) => String::from_str(alloc, "@NONE"),
         Some(index) => {
-            let name = below_name(
-                alloc,
-                known,
-                link.attributes().i32(IFLA_LINK_NETNSID),
-                index,
-            )?;
+            let name = below_name(alloc, known, link.view().i32(IFLA_LINK_NETNSID), index)?;
             format!(in alloc; "@{name}")
         }
         None => Ok(String::new(alloc)),
@@ -169,7 +160,5 @@ fn below_name(
 fn kind_of<'a>(link: &MessageIndex<'a, Links>) -> Option<&'a [u8]>
     ensures { option_copied result ≡ link_kind link.now.message.payload.now }
 {
-    link.attributes()
-        .nest(IFLA_LINKINFO)?
-        .str_bytes(IFLA_INFO_KIND)
+    link.view().nest(IFLA_LINKINFO)?.str_bytes(IFLA_INFO_KIND)
 }

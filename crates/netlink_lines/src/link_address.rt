@@ -54,21 +54,21 @@ fn push_layer(text: &mut String, layer: u16) -> Result<(), AllocError>
 fn own_of<'a>(link: &MessageIndex<'a, Links>) -> &'a [u8]
     ensures { result.now ≡ link_own link.now.message.payload.now IFLA_ADDRESS }
 {
-    or_empty(link.attributes().bytes(IFLA_ADDRESS))
+    or_empty(link.view().bytes(IFLA_ADDRESS))
 }
 
 /// Returns the broadcast address, or that of the peer; empty if there is none.
 fn broadcast_of<'a>(link: &MessageIndex<'a, Links>) -> &'a [u8]
     ensures { result.now ≡ link_own link.now.message.payload.now IFLA_BROADCAST }
 {
-    or_empty(link.attributes().bytes(IFLA_BROADCAST))
+    or_empty(link.view().bytes(IFLA_BROADCAST))
 }
 
 /// Returns the permanent address; empty if there is none.
 fn permanent_of<'a>(link: &MessageIndex<'a, Links>) -> &'a [u8]
     ensures { result.now ≡ link_own link.now.message.payload.now IFLA_PERM_ADDRESS }
 {
-    or_empty(link.attributes().bytes(IFLA_PERM_ADDRESS))
+    or_empty(link.view().bytes(IFLA_PERM_ADDRESS))
 }
 
 /// Returns the key before the broadcast address, which is that of the peer if a link has one.

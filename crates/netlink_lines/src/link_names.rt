@@ -32,28 +32,28 @@ pub(crate) fn push_spaces(
     push_space(alloc, text, lower_space(link))?;
     push_signed(alloc, text, "new-netnsid", new_space(link))?;
     push_signed(alloc, text, "new-ifindex", new_index(link))?;
-    push_down(text, link.attributes().u8(IFLA_PROTO_DOWN))
+    push_down(text, link.view().u8(IFLA_PROTO_DOWN))
 }
 
 /// Returns the id of the network namespace of the lower link.
 fn lower_space(link: &MessageIndex<'_, Links>) -> Option<i32>
     ensures { result ≡ space_id link.now.message.payload.now IFLA_LINK_NETNSID }
 {
-    link.attributes().i32(IFLA_LINK_NETNSID)
+    link.view().i32(IFLA_LINK_NETNSID)
 }
 
 /// Returns the id of the network namespace that the link moved to.
 fn new_space(link: &MessageIndex<'_, Links>) -> Option<i32>
     ensures { result ≡ space_id link.now.message.payload.now IFLA_NEW_NETNSID }
 {
-    link.attributes().i32(IFLA_NEW_NETNSID)
+    link.view().i32(IFLA_NEW_NETNSID)
 }
 
 /// Returns the index that the link has there.
 fn new_index(link: &MessageIndex<'_, Links>) -> Option<i32>
     ensures { result ≡ space_id link.now.message.payload.now IFLA_NEW_IFINDEX }
 {
-    link.attributes().i32(IFLA_NEW_IFINDEX)
+    link.view().i32(IFLA_NEW_IFINDEX)
 }
 
 /// Appends the id of the network namespace of a lower link; `unknown` for one below 0.
@@ -109,7 +109,7 @@ pub(crate) fn push_alternatives(
     ensures { OnOk result (string_bytes text.new ≡ alternatives_text (string_bytes text.old)
         (first_at 16 link.now.message.payload.now IFLA_PROP_LIST)) }
 {
-    match link.attributes().nest(IFLA_PROP_LIST) {
+    match link.view().nest(IFLA_PROP_LIST) {
         None => Ok(()),
         Some(properties) => push_properties(text, &properties),
     }

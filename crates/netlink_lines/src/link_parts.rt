@@ -29,20 +29,14 @@ pub(crate) fn push_settings(
     ensures { OnOk result (string_bytes text.new ≡ with_parts (string_bytes text.old)
         (setting_parts known.now link.now.message.payload.now)) }
 {
-    push_number(text, "mtu", link.attributes().u32(IFLA_MTU))?;
-    push_string(text, "qdisc", link.attributes().str_bytes(IFLA_QDISC))?;
-    push_device(
-        alloc,
-        text,
-        known,
-        "master",
-        link.attributes().u32(IFLA_MASTER),
-    )?;
-    push_state_part(alloc, text, link.attributes().u8(IFLA_OPERSTATE))?;
-    push_mode(text, link.attributes().u8(IFLA_LINKMODE))?;
-    push_group(text, link.attributes().u32(IFLA_GROUP))?;
-    push_queue(text, link.attributes().u32(IFLA_TXQLEN))?;
-    push_event(alloc, text, link.attributes().u32(IFLA_EVENT))
+    push_number(text, "mtu", link.view().u32(IFLA_MTU))?;
+    push_string(text, "qdisc", link.view().str_bytes(IFLA_QDISC))?;
+    push_device(alloc, text, known, "master", link.view().u32(IFLA_MASTER))?;
+    push_state_part(alloc, text, link.view().u8(IFLA_OPERSTATE))?;
+    push_mode(text, link.view().u8(IFLA_LINKMODE))?;
+    push_group(text, link.view().u32(IFLA_GROUP))?;
+    push_queue(text, link.view().u32(IFLA_TXQLEN))?;
+    push_event(alloc, text, link.view().u32(IFLA_EVENT))
 }
 
 /// Appends the operational state.

@@ -19,7 +19,7 @@ use crate::route_hops::{push_hops, push_next};
 use crate::route_metrics::push_metrics;
 use crate::route_names::{push_hop_flags, push_preference};
 use crate::text::push_dotted;
-use netlink_family::MessageView;
+use netlink_family::{MessageIndex, MessageView};
 use netlink_route::Routes;
 use netlink_route::routes::{
     RTA_CACHEINFO, RTA_DST, RTA_FLOW, RTA_GATEWAY, RTA_IIF, RTA_MARK, RTA_NH_ID, RTA_OIF, RTA_PREF,
@@ -68,8 +68,9 @@ pub(crate) fn route_entry_line(
     if route.message_type == RTM_GETROUTE || host_length(route.header().u8(RTM_FAMILY)) == 0 {
         return Ok(None);
     }
-    let mut text = route_words(alloc, known, route)?;
-    push_hops(alloc, &mut text, known, route)?;
+    let route = route.indexed();
+    let mut text = route_words(alloc, known, &route)?;
+    push_hops(alloc, &mut text, known, &route)?;
     text.push_str("\n")?;
     Ok(Some(text))
 }
@@ -79,10 +80,10 @@ pub(crate) fn route_entry_line(
 fn route_words(
     alloc: Global,
     known: &Names<'_>,
-    route: &MessageView<'_, Routes>,
+    route: &MessageIndex<'_, Routes>,
 ) -> Result<String, AllocError>
     ensures { IfOk result (λ text. string_bytes text
-        ≡ route_words known.now route.now.message_type route.now.payload.now) }
+        ≡ route_words known.now route.now.message.message_type route.now.message.payload.now) }
 {
     let mut text = String::with_capacity(alloc, USUAL)?;
     push_front(alloc, &mut text, route)?;
@@ -98,28 +99,18 @@ fn route_words(
 fn push_front(
     alloc: Global,
     text: &mut String,
-    route: &MessageView<'_, Routes>,
+    route: &MessageIndex<'_, Routes>,
 ) -> Result<(), AllocError>
     ensures { OnOk result (string_bytes text.new ≡ with_parts (string_bytes text.old)
-        (route_front route.now.message_type route.now.payload.now)) }
+        (route_front route.now.message.message_type route.now.message.payload.now)) }
 {
-    push_when(text, route.message_type == RTM_DELROUTE, "Deleted")?;
+    push_when(text, route.message.message_type == RTM_DELROUTE, "Deleted")?;
     push_type(alloc, text, route.header().u8(RTM_TYPE))?;
     let whole = host_length(route.header().u8(RTM_FAMILY));
-    push_target(
-        alloc,
-        text,
-        target_of(route),
-        route.header().u8(RTM_DST_LEN),
-        whole,
-    )?;
-    push_source(
-        alloc,
-        text,
-        source_of(route),
-        route.header().u8(RTM_SRC_LEN),
-        whole,
-    )?;
+    let to = target_of(route);
+    push_target(alloc, text, to, route.header().u8(RTM_DST_LEN), whole)?;
+    let from = source_of(route);
+    push_source(alloc, text, from, route.header().u8(RTM_SRC_LEN), whole)?;
     push_number(text, "nhid", route.view().u32(RTA_NH_ID))?;
     push_tos(alloc, text, route.header().u8(RTM_TOS))
 }
@@ -183,15 +174,15 @@ fn push_source(
 }
 
 /// Returns the address of the destination; empty if there is none.
-fn target_of<'a>(route: &MessageView<'a, Routes>) -> &'a [u8]
-    ensures { result.now ≡ route_bytes route.now.payload.now RTA_DST }
+fn target_of<'a>(route: &MessageIndex<'a, Routes>) -> &'a [u8]
+    ensures { result.now ≡ route_bytes route.now.message.payload.now RTA_DST }
 {
     or_empty(route.view().ip(RTA_DST))
 }
 
 /// Returns the address of the source; empty if there is none.
-fn source_of<'a>(route: &MessageView<'a, Routes>) -> &'a [u8]
-    ensures { result.now ≡ route_bytes route.now.payload.now RTA_SRC }
+fn source_of<'a>(route: &MessageIndex<'a, Routes>) -> &'a [u8]
+    ensures { result.now ≡ route_bytes route.now.message.payload.now RTA_SRC }
 {
     or_empty(route.view().ip(RTA_SRC))
 }
@@ -202,25 +193,25 @@ fn push_link(
     alloc: Global,
     text: &mut String,
     known: &Names<'_>,
-    route: &MessageView<'_, Routes>,
+    route: &MessageIndex<'_, Routes>,
 ) -> Result<(), AllocError>
     ensures { OnOk result (string_bytes text.new
-        ≡ with_parts (string_bytes text.old) (route_next known.now route.now.payload.now)) }
+        ≡ with_parts (string_bytes text.old) (route_next known.now route.now.message.payload.now)) }
 {
     push_next(alloc, text, gateway_of(route), via_of(route))?;
     push_device(alloc, text, known, "dev", route.view().u32(RTA_OIF))
 }
 
 /// Returns the gateway; empty if there is none.
-fn gateway_of<'a>(route: &MessageView<'a, Routes>) -> &'a [u8]
-    ensures { result.now ≡ route_bytes route.now.payload.now RTA_GATEWAY }
+fn gateway_of<'a>(route: &MessageIndex<'a, Routes>) -> &'a [u8]
+    ensures { result.now ≡ route_bytes route.now.message.payload.now RTA_GATEWAY }
 {
     or_empty(route.view().ip(RTA_GATEWAY))
 }
 
 /// Returns the gateway of another family; empty if there is none.
-fn via_of<'a>(route: &MessageView<'a, Routes>) -> &'a [u8]
-    ensures { result.now ≡ route_bytes route.now.payload.now RTA_VIA }
+fn via_of<'a>(route: &MessageIndex<'a, Routes>) -> &'a [u8]
+    ensures { result.now ≡ route_bytes route.now.message.payload.now RTA_VIA }
 {
     or_empty(route.view().bytes(RTA_VIA))
 }
@@ -232,10 +223,10 @@ fn via_of<'a>(route: &MessageView<'a, Routes>) -> &'a [u8]
 fn push_origin(
     alloc: Global,
     text: &mut String,
-    route: &MessageView<'_, Routes>,
+    route: &MessageIndex<'_, Routes>,
 ) -> Result<(), AllocError>
     ensures { OnOk result (string_bytes text.new
-        ≡ with_parts (string_bytes text.old) (origin_parts route.now.payload.now)) }
+        ≡ with_parts (string_bytes text.old) (origin_parts route.now.message.payload.now)) }
 {
     let own = is_own(route);
     push_table_part(text, table_of(route))?;
@@ -247,15 +238,15 @@ fn push_origin(
 }
 
 /// Returns whether the kernel did not look the route up for a request.
-fn is_own(route: &MessageView<'_, Routes>) -> bool
-    ensures { result ≡ is_own route.now.payload.now }
+fn is_own(route: &MessageIndex<'_, Routes>) -> bool
+    ensures { result ≡ is_own route.now.message.payload.now }
 {
     route.header().u32(RTM_FLAGS) & RTM_F_CLONED == 0
 }
 
 /// Returns the number of the table, from the attribute or the header.
-fn table_of(route: &MessageView<'_, Routes>) -> u32
-    ensures { result ≡ route_table route.now.payload.now }
+fn table_of(route: &MessageIndex<'_, Routes>) -> u32
+    ensures { result ≡ route_table route.now.message.payload.now }
 {
     match route.view().u32(RTA_TABLE) {
         Some(table) => table,
@@ -303,8 +294,8 @@ fn push_scope_part(text: &mut String, own: bool, scope: u8) -> Result<(), AllocE
 }
 
 /// Returns the preferred source; empty if there is none.
-fn preferred_of<'a>(route: &MessageView<'a, Routes>) -> &'a [u8]
-    ensures { result.now ≡ route_bytes route.now.payload.now RTA_PREFSRC }
+fn preferred_of<'a>(route: &MessageIndex<'a, Routes>) -> &'a [u8]
+    ensures { result.now ≡ route_bytes route.now.message.payload.now RTA_PREFSRC }
 {
     or_empty(route.view().ip(RTA_PREFSRC))
 }
@@ -315,10 +306,10 @@ fn push_rest(
     alloc: Global,
     text: &mut String,
     known: &Names<'_>,
-    route: &MessageView<'_, Routes>,
+    route: &MessageIndex<'_, Routes>,
 ) -> Result<(), AllocError>
     ensures { OnOk result (string_bytes text.new
-        ≡ with_rest known.now (string_bytes text.old) route.now.payload.now) }
+        ≡ with_rest known.now (string_bytes text.old) route.now.message.payload.now) }
 {
     push_kept(alloc, text, route)?;
     push_lifetime(alloc, text, route.view().bytes(RTA_CACHEINFO))?;
@@ -330,10 +321,10 @@ fn push_rest(
 fn push_kept(
     alloc: Global,
     text: &mut String,
-    route: &MessageView<'_, Routes>,
+    route: &MessageIndex<'_, Routes>,
 ) -> Result<(), AllocError>
     ensures { OnOk result (string_bytes text.new
-        ≡ with_parts (string_bytes text.old) (kept_parts route.now.payload.now)) }
+        ≡ with_parts (string_bytes text.old) (kept_parts route.now.message.payload.now)) }
 {
     push_mark(alloc, text, route.view().u32(RTA_MARK))?;
     push_realms(alloc, text, "realm", "realms", route.view().u32(RTA_FLOW))?;
@@ -372,10 +363,10 @@ fn push_last(
     alloc: Global,
     text: &mut String,
     known: &Names<'_>,
-    route: &MessageView<'_, Routes>,
+    route: &MessageIndex<'_, Routes>,
 ) -> Result<(), AllocError>
     ensures { OnOk result (string_bytes text.new
-        ≡ with_parts (string_bytes text.old) (last_parts known.now route.now.payload.now)) }
+        ≡ with_parts (string_bytes text.old) (last_parts known.now route.now.message.payload.now)) }
 {
     push_metrics(alloc, text, route)?;
     push_device(alloc, text, known, "iif", route.view().u32(RTA_IIF))?;

@@ -17,7 +17,7 @@ use crate::names::family_text;
 use crate::parts::{push_address, push_number, push_part, push_realms};
 use crate::route_names::push_hop_flags;
 use crate::text::ip_words;
-use netlink_family::{BlockView, MessageView, Table, Value};
+use netlink_family::{BlockView, MessageIndex, Table, Value};
 use netlink_packet_core::parse_u32;
 use netlink_route::Routes;
 use netlink_route::routes::{RTA_FLOW, RTA_GATEWAY, RTA_MULTIPATH, RTA_VIA};
@@ -29,10 +29,10 @@ pub(crate) fn push_hops(
     alloc: Global,
     text: &mut String,
     known: &Names<'_>,
-    route: &MessageView<'_, Routes>,
+    route: &MessageIndex<'_, Routes>,
 ) -> Result<(), AllocError>
     ensures { OnOk result (string_bytes text.new ≡ hops_text known.now (string_bytes text.old)
-        (first_at 12 route.now.payload.now RTA_MULTIPATH)) }
+        (first_at 12 route.now.message.payload.now RTA_MULTIPATH)) }
 {
     match route.view().nest(RTA_MULTIPATH) {
         None => Ok(()),

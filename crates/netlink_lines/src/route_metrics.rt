@@ -12,7 +12,7 @@ ghost use Rattle.netlink_lines.specs.RouteMetrics.{IsMetrics, control_part, deci
 
 use crate::parts::push_part;
 use crate::text::sentence_text;
-use netlink_family::{BlockView, MessageView, Table};
+use netlink_family::{BlockView, MessageIndex, Table};
 use netlink_route::Routes;
 use netlink_route::routes::{
     RTA_METRICS, RTAX_CC_ALGO, RTAX_FEATURES, RTAX_HOPLIMIT, RTAX_LOCK, RTAX_RTO_MIN, RTAX_RTT,
@@ -29,10 +29,10 @@ const KINDS: [u16; 16] = [2, 3, 4, 5, 6, 7, 8, 9, 10, 11, 12, 13, 14, 15, 16, 17
 pub(crate) fn push_metrics(
     alloc: Global,
     text: &mut String,
-    route: &MessageView<'_, Routes>,
+    route: &MessageIndex<'_, Routes>,
 ) -> Result<(), AllocError>
     ensures { OnOk result (string_bytes text.new ≡ with_part (string_bytes text.old)
-        (metrics_text (first_at 12 route.now.payload.now RTA_METRICS))) }
+        (metrics_text (first_at 12 route.now.message.payload.now RTA_METRICS))) }
 {
     match route.view().nest(RTA_METRICS) {
         None => Ok(()),
