@@ -5,6 +5,7 @@ mod errors;
 mod getters;
 mod messages;
 mod nests;
+mod places;
 mod push;
 mod records;
 mod short;
