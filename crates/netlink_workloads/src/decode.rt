@@ -1,7 +1,7 @@
 //! Dumps that are decoded, and attributes that are read by their kinds.
 
 use crate::digest::Digest;
-use crate::fields::{put_attr, put_message, set_u32};
+use crate::fields::{put_attr, put_message, set_u32, u16_of};
 use crate::links::long_links;
 use crate::random::Random;
 use netlink_family::{BlockView, CheckedAttributes, Joined, MessageView, Value};
@@ -58,7 +58,8 @@ impl Dump {
     }
 
     /// Returns the next message: two thirds are routes, a thirtieth whole links, and the others the
-    /// samples in any order. Each differs in its sequence number and in what follows its header.
+    /// samples in any order. No two have the same payload: a route has its number as its priority, a
+    /// link as its index, and a sample in the three bytes after its family.
     fn next(&mut self, number: u32) -> Option<&[u8]> {
         let chosen = self.random.below(30);
         let some = self.random.next();
@@ -75,11 +76,14 @@ impl Dump {
         set_u32(frame, 8, number);
         if chosen < 20 {
             set_u32(frame, 40, some);
-            set_u32(frame, 48, some >> 24);
+            set_u32(frame, 48, number);
             set_u32(frame, 56, some.rotate_left(8));
             set_u32(frame, 64, some & 63);
         } else if chosen == 20 {
-            set_u32(frame, 20, some >> 16);
+            set_u32(frame, 20, number);
+        } else {
+            let family = u16_of(frame, 16) & 255;
+            set_u32(frame, 16, (number << 8) | family as u32);
         }
         Some(frame)
     }
