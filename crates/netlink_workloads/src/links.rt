@@ -19,7 +19,7 @@ struct Sample {
     mtu: usize,
 }
 
-/// Makes messages of links that come and go.
+/// Makes messages of links that appear again and again, with other flags and another MTU.
 #[derive(Drop)]
 pub(crate) struct Links {
     random: Random,

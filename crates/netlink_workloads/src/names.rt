@@ -20,7 +20,7 @@ pub(crate) struct Names {
 }
 
 impl Names {
-    /// Takes the first long message of a link among the samples. Returns `None` if there is none, or if
+    /// Takes the last long message of a link among the samples. Returns `None` if there is none, or if
     /// an allocation fails.
     pub(crate) fn new(alloc: Global, datagram: &[u8], seed: u32) -> Option<Names> {
         let mut all = long_links(alloc, datagram).ok()?;
