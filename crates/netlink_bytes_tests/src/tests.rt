@@ -5,6 +5,7 @@ mod contexts;
 mod copies;
 mod errors;
 mod fields;
+mod hexadecimal;
 mod mark;
 mod memory_not_asked;
 mod number;

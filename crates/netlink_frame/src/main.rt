@@ -4,7 +4,6 @@
 mod command;
 mod ending;
 mod frames;
-mod hexadecimal;
 pub mod laws;
 mod nlas;
 pub mod overwrite;

@@ -10,9 +10,8 @@ ghost use Rattle.netlink_packet_core.specs.Views.{attribute_of, shown, HoldsAttr
 ghost use Rattle.netlink_packet_core.specs.Walk.{Walk};
 ghost use Rattle.netlink_frame.specs.Lines.{kind_text, nla_line, nla_lines};
 
-use crate::hexadecimal::push_hex;
 use netlink_packet_core::laws::walk_unique;
-use netlink_packet_core::{DecodeError, NlaBuffer, NlasIterator, hex_pair};
+use netlink_packet_core::{DecodeError, NlaBuffer, NlasIterator, hex_pair, push_hex};
 use std::alloc::{AllocError, Global};
 use std::fmt::Write;
 

@@ -6,9 +6,8 @@ ghost use Rattle.netlink_packet_core.specs.Header.{header_lines};
 ghost use Rattle.netlink_packet_core.specs.Text.{hex_text, number_line};
 ghost use Rattle.netlink_frame.specs.Lines.{message_lines, payload_words};
 
-use crate::hexadecimal::push_hex;
 use crate::ping_pong::PingPongMessage;
-use netlink_packet_core::{DecodeError, NetlinkHeader, NetlinkMessage, NetlinkPayload};
+use netlink_packet_core::{DecodeError, NetlinkHeader, NetlinkMessage, NetlinkPayload, push_hex};
 use std::alloc::{AllocError, Global};
 
 /// Returns the six lines of a message: one for each field of its header, in decimal, and one for

@@ -7,8 +7,8 @@ use crate::tests::mark::refuse_from_here;
 use crate::tests::number::{Number, Order};
 use crate::tests::value::{READ, REFUSED};
 use netlink_bytes::{
-    DecodeError, ErrorContext, NonZeroI32, copy_of, hex_pair, i32_at, parse_string, put_i32,
-    put_u16, put_u32, u16_at, u32_at,
+    DecodeError, ErrorContext, NonZeroI32, copy_of, hex_pair, i32_at, parse_string, push_hex,
+    put_i32, put_u16, put_u32, u16_at, u32_at,
 };
 use std::alloc::Global;
 use std::process::Abort;
@@ -190,5 +190,19 @@ fn causes_and_empty_texts(rt: HostRuntime) -> Result<(), Fail> {
     assert!(rt; parse_string(alloc, &[])?.as_str().is_empty());
     assert!(rt; parse_string(alloc, &[0])?.as_str().is_empty());
     assert!(rt; copy_of(alloc, &[])?.is_empty());
+    Ok(())
+}
+
+#[test]
+fn digits_for_which_there_is_room(rt: HostRuntime) -> Result<(), Fail> {
+    let alloc = rt.alloc();
+    let bytes = [0x5a; 200];
+    let mut text = String::with_capacity(alloc, 400)?;
+    refuse_from_here(alloc);
+    for size in 0..=bytes.len() {
+        text.clear();
+        assert!(rt; push_hex(&mut text, &bytes[..size]).is_ok(), "size {size}");
+        assert!(rt; text.len() == (size * 2).max(1), "size {size}");
+    }
     Ok(())
 }

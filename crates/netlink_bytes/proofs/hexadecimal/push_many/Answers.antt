@@ -1,7 +1,7 @@
 use Rattle.std.proofs.Common.{rules, ◌≡◌, ◌≤◌, ◌+◌, ◌-◌, ◌++◌, ◌∙◌, append-nil, arith, length, string_bytes, sym, take}
-use Rattle.netlink_packet_core.specs.Text.{hex_digits}
-use Rattle.netlink_frame.proofs.Digits.{digits_join}
-use Rattle.netlink_frame.proofs.hexadecimal.push_many.Goals as goal
+use Rattle.netlink_bytes.specs.Text.{hex_digits}
+use Rattle.netlink_bytes.proofs.Digits.{digits_join}
+use Rattle.netlink_bytes.proofs.hexadecimal.push_many.Goals as goal
 
 pub loop-at-init : goal.loop-at-init
 unfolding hex_digits

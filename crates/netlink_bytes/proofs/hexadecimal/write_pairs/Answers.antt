@@ -1,10 +1,10 @@
 use Rattle.std.proofs.Common.{rules, ◌<◌, ◌≤◌, ◌+◌, ◌*◌, ◌∙◌, arith, length, refl, w8}
 use Rattle.std.proofs.lemmas.Simd.{below_from_Fits, chunk-fits}
 use Rattle.std.specs.Simd.Lanes.{chunk}
-use Rattle.netlink_packet_core.specs.Text.{hex_digits}
-use Rattle.netlink_frame.proofs.Digits.{two_written}
-use Rattle.netlink_frame.proofs.Lanes.{block_written}
-use Rattle.netlink_frame.proofs.hexadecimal.write_pairs.Goals as goal
+use Rattle.netlink_bytes.specs.Text.{hex_digits}
+use Rattle.netlink_bytes.proofs.Digits.{two_written}
+use Rattle.netlink_bytes.proofs.Lanes.{block_written}
+use Rattle.netlink_bytes.proofs.hexadecimal.write_pairs.Goals as goal
 
 pub loop-at-init : goal.loop-at-init
 unfolding hex_digits

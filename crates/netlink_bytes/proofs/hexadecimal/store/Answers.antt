@@ -1,7 +1,7 @@
 use Rattle.std.proofs.Common.{◌-◌, append-nil, arith, drop, length-drop, refl, take_all}
 use Rattle.std.proofs.lemmas.List.{drop_all}
 use Rattle.std.proofs.lemmas.Simd.{put_chunk_is}
-use Rattle.netlink_frame.proofs.hexadecimal.store.Goals as goal
+use Rattle.netlink_bytes.proofs.hexadecimal.store.Goals as goal
 
 pub returns : goal.returns
 returns c =

@@ -1,6 +1,6 @@
 use Rattle.std.proofs.Common.{◌≡◌, ◌≤◌, ◌-◌, ◌*◌, length, take}
-use Rattle.netlink_packet_core.specs.Text.{hex_digits}
-use Rattle.netlink_frame.proofs.hexadecimal.write_pairs.Given as goal
+use Rattle.netlink_bytes.specs.Text.{hex_digits}
+use Rattle.netlink_bytes.proofs.hexadecimal.write_pairs.Given as goal
 
 -- the digits of the bytes so far are written
 abbrev pub invariant-loop-at : goal.invariant-loop-at

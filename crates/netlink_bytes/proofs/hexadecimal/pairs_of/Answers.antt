@@ -1,8 +1,8 @@
 use Rattle.std.proofs.Common.{◌≡◌, ◌/◌, ◌%◌, ◌^◌, ◌∙◌, ℕ, ap, bit_and, map, replicate}
 use Rattle.std.proofs.lemmas.Simd.{length-zip2, zip2_splat}
-use Rattle.netlink_packet_core.specs.Text.{hex_digit}
-use Rattle.netlink_frame.proofs.Lanes.{highs_small, low_is, lows_small, woven}
-use Rattle.netlink_frame.proofs.hexadecimal.pairs_of.Goals as goal
+use Rattle.netlink_bytes.specs.Text.{hex_digit}
+use Rattle.netlink_bytes.proofs.Lanes.{highs_small, low_is, lows_small, woven}
+use Rattle.netlink_bytes.proofs.hexadecimal.pairs_of.Goals as goal
 
 pub returns-clause-digits : goal.returns-clause-digits
 returns-clause-digits c =

@@ -1,7 +1,7 @@
 use Rattle.std.proofs.Common.{IsUtf8, arith, subst, sym}
 use Rattle.std.proofs.lemmas.Str.{IsUtf8-from_ascii}
-use Rattle.netlink_frame.proofs.Digits.{digits_ascii}
-use Rattle.netlink_frame.proofs.hexadecimal.push_step.Goals as goal
+use Rattle.netlink_bytes.proofs.Digits.{digits_ascii}
+use Rattle.netlink_bytes.proofs.hexadecimal.push_step.Goals as goal
 
 pub returns-in-Err-clause-appends : goal.returns-in-Err-clause-appends
 returns-in-Err-clause-appends c =

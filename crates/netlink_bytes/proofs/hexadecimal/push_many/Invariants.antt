@@ -1,6 +1,6 @@
 use Rattle.std.proofs.Common.{◌≡◌, ◌≤◌, ◌+◌, ◌-◌, ◌*◌, ◌++◌, length, string_bytes, string_capacity, string_len, take}
-use Rattle.netlink_packet_core.specs.Text.{hex_digits}
-use Rattle.netlink_frame.proofs.hexadecimal.push_many.Given as goal
+use Rattle.netlink_bytes.specs.Text.{hex_digits}
+use Rattle.netlink_bytes.proofs.hexadecimal.push_many.Given as goal
 
 -- the digits of the bytes so far have been appended, and there is room for the others
 abbrev pub invariant-loop-at : goal.invariant-loop-at

@@ -7,8 +7,8 @@ use Rattle.std.proofs.lemmas.Nat.{and_le_r, and_mask}
 use Rattle.std.proofs.lemmas.Simd.{Each1-all, Each1-get_or, Each1-weaker, Each1-zip2, Each2-splat, get_or-swz_l_below, length-put_chunk, length-swz_l, swz_l, take_more_put_chunk}
 use Rattle.std.specs.List.{range_with_len}
 use Rattle.std.specs.Simd.Lanes.{Each1, chunk, pick_l, put_chunk, zip2}
-use Rattle.netlink_packet_core.specs.Text.{hex_digit, hex_digits}
-use Rattle.netlink_frame.proofs.Digits.{digits_join}
+use Rattle.netlink_bytes.specs.Text.{hex_digit, hex_digits}
+use Rattle.netlink_bytes.proofs.Digits.{digits_join}
 
 -- "0123456789abcdef"
 abbrev pub table : List ℕ
