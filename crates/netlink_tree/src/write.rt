@@ -14,7 +14,7 @@ use crate::fault::TreeFault;
 use crate::tree::{GREATEST_DEPTH, NlaTree};
 use netlink_packet_core::laws::written_walks;
 use netlink_packet_core::{NLA_HEADER_SIZE, NLA_VALUE_MAX, append_nla, nla_align, put_u16};
-use std::alloc::Global;
+use std::alloc::{AllocError, Global};
 
 /// Returns the canonical block of trees, at every depth: each attribute has its kind unchanged and
 /// is padded with zeros, and the value of a nest is the block of what is inside. Requires
@@ -81,6 +81,7 @@ fn whole_size(trees: &[NlaTree]) -> Option<usize>
 
 /// Returns the size of the value that a tree is written with, or `None` if it or a value inside is
 /// too long.
+#[inline(always)]
 #[cycle(sizes)]
 fn value_size(tree: &NlaTree) -> Option<usize>
     ensures { MatchOption result
@@ -130,45 +131,68 @@ fn bytes_of(alloc: Global, trees: &[NlaTree], size: usize) -> Result<Vec<u8>, Tr
     Ok(block)
 }
 
-/// Appends the encoded trees to a block. Requires that no value is too long. Returns `Decode` with
-/// `OutOfMemory` if an allocation fails.
+/// Appends the encoded trees to a block. Requires that no value is too long. Returns `AllocError`
+/// if an allocation fails.
 #[cycle(writing)]
-fn append_trees(alloc: Global, block: &mut Vec<u8>, trees: &[NlaTree]) -> Result<(), TreeFault>
+fn append_trees(alloc: Global, block: &mut Vec<u8>, trees: &[NlaTree]) -> Result<(), AllocError>
     requires { are_too_long (views trees.now) ≡ false }
     ensures ok { OnOk result (block.new.items ≡ block.old.items ++ tree_bytes (views trees.now)) }
     ensures in_range { OnOk result (TreesInRange (views trees.now)) }
-    ensures err { IfErr result (λ e. e ≡ TreeFault.Decode DecodeError.OutOfMemory) }
     ensures empty { trees.now ≡ [] → IsOk result }
 {
     for tree in trees {
         match tree {
-            NlaTree::Leaf { kind, value } => append_nla(alloc, block, *kind, value)?,
+            NlaTree::Leaf { kind, value } => append_attribute(alloc, block, *kind, value)?,
             NlaTree::Nest { kind, children } => append_nest(alloc, block, *kind, children)?,
         }
     }
     Ok(())
 }
 
+/// Appends an attribute to a block, padded with zeros. Requires that its value is not too long.
+/// Returns `AllocError` if an allocation fails. A value of 4 bytes, which most numbers are, is
+/// appended at once with its header.
+#[inline(always)]
+#[tactic(auto, unfolding(netlink_packet_core::specs::Numbers::bytes_le))]
+fn append_attribute(
+    alloc: Global,
+    block: &mut Vec<u8>,
+    kind: u16,
+    value: &[u8],
+) -> Result<(), AllocError>
+    requires fits { length value.now ≤ value_max }
+    ensures ok { OnOk result
+        (block.new.items ≡ block.old.items ++ padded (attribute_with kind value.now)) }
+{
+    if let [a, b, c, d] = value {
+        let [low, high] = kind.to_le_bytes();
+        return block.extend_from_slice(&[8, 0, low, high, *a, *b, *c, *d]);
+    }
+    match append_nla(alloc, block, kind, value) {
+        Ok(()) => Ok(()),
+        Err(_) => Err(AllocError),
+    }
+}
+
 /// Appends an encoded nest to a block: its header, and then what is inside, whose size is written
 /// into the header afterward. Requires that no value is too long, and that what is inside has at
-/// most `NLA_VALUE_MAX` bytes. Returns `Decode` with `OutOfMemory` if an allocation fails.
+/// most `NLA_VALUE_MAX` bytes. Returns `AllocError` if an allocation fails.
 #[cycle(writing)]
 fn append_nest(
     alloc: Global,
     block: &mut Vec<u8>,
     kind: u16,
     children: &[NlaTree],
-) -> Result<(), TreeFault>
+) -> Result<(), AllocError>
     requires inside { are_too_long (views children.now) ≡ false }
     requires fits { length (tree_bytes (views children.now)) ≤ value_max }
     ensures ok { OnOk result
         (block.new.items ≡ block.old.items
         ++ padded (attribute_with kind (tree_bytes (views children.now)))) }
     ensures in_range { OnOk result (TreesInRange (views children.now)) }
-    ensures err { IfErr result (λ e. e ≡ TreeFault.Decode DecodeError.OutOfMemory) }
 {
     let start = block.len();
-    append_nla(alloc, block, kind, &[])?;
+    append_attribute(alloc, block, kind, &[])?;
     append_trees(alloc, block, children)?;
     count_from(block, start);
     Ok(())

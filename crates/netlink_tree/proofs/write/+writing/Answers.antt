@@ -7,7 +7,7 @@ pub append_nest-count_from-requires-clause-inside : goal.append_nest-count_from-
 append_nest-count_from-requires-clause-inside t c =
     let start = c.len-start.ensures ∙ c.args.block.now.ok.0 in
     let size =
-    nest_length c.args.block.now.items _ _ _ (views c.args.children.now) c.in_ok-append_nla.ensures.ok c.in_ok-append_trees.ensures.ok
+    nest_length c.args.block.now.items _ _ _ (views c.args.children.now) c.in_ok-append_attribute.ensures.ok c.in_ok-append_trees.ensures.ok
     in
     omega arith
 
@@ -15,7 +15,7 @@ pub append_nest-count_from-requires-clause-fits : goal.append_nest-count_from-re
 append_nest-count_from-requires-clause-fits t c =
     let start = c.len-start.ensures ∙ c.args.block.now.ok.0 in
     let size =
-    nest_length c.args.block.now.items _ _ _ (views c.args.children.now) c.in_ok-append_nla.ensures.ok c.in_ok-append_trees.ensures.ok
+    nest_length c.args.block.now.items _ _ _ (views c.args.children.now) c.in_ok-append_attribute.ensures.ok c.in_ok-append_trees.ensures.ok
     in
     let fits = c.requires.fits in
     omega arith
@@ -23,4 +23,4 @@ append_nest-count_from-requires-clause-fits t c =
 pub append_nest-returns-clause-ok : goal.append_nest-returns-clause-ok
 append_nest-returns-clause-ok t c =
     nest_counted c.args.block.now.items _ _ _ c.args.kind _ (views c.args.children.now) (c.len-start.ensures ∙ c.args.block.now.ok.0)
-    c.in_ok-append_nla.ensures.ok c.in_ok-append_trees.ensures.ok c.count_from.ensures
+    c.in_ok-append_attribute.ensures.ok c.in_ok-append_trees.ensures.ok c.count_from.ensures
