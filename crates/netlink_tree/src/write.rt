@@ -6,7 +6,7 @@ ghost use Rattle.netlink_packet_core.specs.Nla.{attribute_with};
 ghost use Rattle.netlink_packet_core.specs.DecodeError.{DecodeError};
 ghost use Rattle.netlink_packet_core.specs.Numbers.{bytes_le};
 ghost use Rattle.netlink_packet_core.specs.Storage.{put_at};
-ghost use Rattle.netlink_tree.specs.Tree.{view, views, levels, AreWellFormed, TreesInRange};
+ghost use Rattle.netlink_tree.specs.Tree.{view, views, levels, levels_inside, AreWellFormed, TreesInRange};
 ghost use Rattle.netlink_tree.specs.Reading.{Trees};
 ghost use Rattle.netlink_tree.specs.Writing.{written, tree_bytes, is_long, is_too_long, are_too_long, writing, IsCanonicalDeep, IsWriteFault};
 
@@ -34,11 +34,13 @@ pub fn write_tree(alloc: Global, trees: &[NlaTree]) -> Result<Vec<u8>, TreeFault
     ensures canonical { IfOk result (λ v. IsCanonicalDeep v.items) }
     ensures empty { trees.now ≡ [] → IsOk result }
 {
-    if is_too_deep(trees, GREATEST_DEPTH) {
-        return Err(TreeFault::TooDeep);
-    }
-    match whole_size(trees) {
-        None => Err(TreeFault::TooLong),
+    match whole_size(trees, GREATEST_DEPTH) {
+        None => {
+            if is_too_deep(trees, GREATEST_DEPTH) {
+                return Err(TreeFault::TooDeep);
+            }
+            Err(TreeFault::TooLong)
+        }
         Some(size) => {
             written_walks();
             bytes_of(alloc, trees, size)
@@ -63,51 +65,58 @@ fn is_too_deep(trees: &[NlaTree], limit: usize) -> bool
     false
 }
 
-/// Returns the size of the encoded trees, or `usize::MAX` if that is smaller. Returns `None` if a
-/// value, or the encoding inside a nest, is too long.
+/// Returns the size of the encoded trees, or `usize::MAX` if that is smaller. Returns `None` if
+/// attributes are nested more than `limit` levels deep, or if a value, or the encoding inside a
+/// nest, is too long.
 #[tactic(auto, using(crate::proofs::TreeWriting::text_sizes))]
-fn whole_size(trees: &[NlaTree]) -> Option<usize>
+fn whole_size(trees: &[NlaTree], limit: usize) -> Option<usize>
     ensures { MatchOption result
-        (are_too_long (views trees.now) ≡ true)
-        (λ n. (are_too_long (views trees.now) ≡ false)
+        (nat_lt limit (levels (views trees.now)) || are_too_long (views trees.now) ≡ true)
+        (λ n. (nat_lt limit (levels (views trees.now)) ≡ false)
+        × (are_too_long (views trees.now) ≡ false)
         × (n ≡ min (length (tree_bytes (views trees.now))) usize.MAX)) }
 {
     let mut size: usize = 0;
     for tree in trees {
-        size = size.saturating_add(nla_align(value_size(tree)? + NLA_HEADER_SIZE));
+        let value = value_size(tree, limit.checked_sub(1)?)?;
+        size = size.saturating_add(nla_align(value + NLA_HEADER_SIZE));
     }
     Some(size)
 }
 
-/// Returns the size of the value that a tree is written with, or `None` if it or a value inside is
-/// too long.
+/// Returns the size of the value that a tree is written with. Returns `None` if attributes are
+/// nested in it more than `limit` levels deep, or if it or a value inside is too long.
 #[inline(always)]
 #[cycle(sizes)]
-fn value_size(tree: &NlaTree) -> Option<usize>
+fn value_size(tree: &NlaTree, limit: usize) -> Option<usize>
     ensures { MatchOption result
-        (is_too_long (view tree.now) ≡ true)
-        (λ n. (is_too_long (view tree.now) ≡ false) × (n ≤ value_max)
+        (nat_lt limit (levels_inside (view tree.now)) || is_too_long (view tree.now) ≡ true)
+        (λ n. (nat_lt limit (levels_inside (view tree.now)) ≡ false)
+        × (is_too_long (view tree.now) ≡ false) × (n ≤ value_max)
         × (n ≡ length (written (view tree.now)).value)) }
 {
     match tree {
         NlaTree::Leaf { value, .. } => (value.len() <= NLA_VALUE_MAX).then_some(value.len()),
-        NlaTree::Nest { children, .. } => text_size(children),
+        NlaTree::Nest { children, .. } => text_size(children, limit),
     }
 }
 
-/// Returns the size of the encoded trees inside a nest, or `None` if it or a value in them is too
-/// long.
+/// Returns the size of the encoded trees inside a nest. Returns `None` if attributes are nested
+/// more than `limit` levels deep, or if it or a value in them is too long.
 #[tactic(auto, using(crate::proofs::TreeWriting::text_sizes))]
 #[cycle(sizes)]
-fn text_size(trees: &[NlaTree]) -> Option<usize>
+fn text_size(trees: &[NlaTree], limit: usize) -> Option<usize>
     ensures { MatchOption result
-        (are_too_long (views trees.now) || is_long (tree_bytes (views trees.now)) ≡ true)
-        (λ n. (are_too_long (views trees.now) ≡ false) × (n ≤ value_max)
+        (nat_lt limit (levels (views trees.now))
+        || (are_too_long (views trees.now) || is_long (tree_bytes (views trees.now))) ≡ true)
+        (λ n. (nat_lt limit (levels (views trees.now)) ≡ false)
+        × (are_too_long (views trees.now) ≡ false) × (n ≤ value_max)
         × (n ≡ length (tree_bytes (views trees.now)))) }
 {
     let mut size = 0;
     for tree in trees {
-        size += nla_align(value_size(tree)? + NLA_HEADER_SIZE);
+        let value = value_size(tree, limit.checked_sub(1)?)?;
+        size += nla_align(value + NLA_HEADER_SIZE);
         if size > NLA_VALUE_MAX {
             return None;
         }
