@@ -49,7 +49,6 @@ pub(crate) fn device_name(
 /// Appends a key and the name of a link, if there is one.
 #[tactic(auto, unfolding(crate::specs::Device::device_text, crate::specs::Parts::keyed, crate::specs::Parts::with_part))]
 pub(crate) fn push_device(
-    alloc: Global,
     text: &mut String,
     known: &Names<'_>,
     key: &str,

@@ -4,8 +4,8 @@ ghost use Rattle.std.specs.Prelude.{◌≡◌, ◌<◌, ◌/◌, ◌%◌, ◌+�
 
 use std::alloc::AllocError;
 
-/// Appends a number in decimal. Its digits go to the text one by one, by threes, since numbers are
-/// much of a line and the formatter takes several times as long.
+/// Appends a number in decimal. It is split into groups of three digits, and each digit is appended
+/// by itself: lines have many numbers, and the formatter takes several times as long.
 #[tactic(auto, using(crate::proofs::Threes::after_six))]
 pub(crate) fn push_decimal(text: &mut String, number: u32) -> Result<(), AllocError>
     ensures { OnOk result (string_bytes text.new ≡ string_bytes text.old ++ decimal number) }

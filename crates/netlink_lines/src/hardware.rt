@@ -17,7 +17,7 @@ pub fn hardware_text(alloc: Global, layer_type: u16) -> Result<String, AllocErro
     Ok(text)
 }
 
-/// Appends the name of a device type in this way.
+/// Appends the name of a device type as `hardware_text` returns it.
 #[tactic(auto, unfolding(crate::specs::Hardware::hardware_text))]
 pub(crate) fn push_type(text: &mut String, layer_type: u16) -> Result<(), AllocError>
     ensures { OnOk result (string_bytes text.new ≡ string_bytes text.old ++ hardware_text layer_type) }

@@ -31,8 +31,8 @@ pub(crate) fn push_settings(
 {
     push_number(text, "mtu", link.view().u32(IFLA_MTU))?;
     push_string(text, "qdisc", link.view().str_bytes(IFLA_QDISC))?;
-    push_device(alloc, text, known, "master", link.view().u32(IFLA_MASTER))?;
-    push_state_part(alloc, text, link.view().u8(IFLA_OPERSTATE))?;
+    push_device(text, known, "master", link.view().u32(IFLA_MASTER))?;
+    push_state_part(text, link.view().u8(IFLA_OPERSTATE))?;
     push_mode(text, link.view().u8(IFLA_LINKMODE))?;
     push_group(text, link.view().u32(IFLA_GROUP))?;
     push_queue(text, link.view().u32(IFLA_TXQLEN))?;
@@ -41,14 +41,14 @@ pub(crate) fn push_settings(
 
 /// Appends the operational state.
 #[tactic(auto, using(crate::proofs::Pieces::state_more), unfolding(crate::specs::LinkParts::state_part, crate::specs::Parts::with_part))]
-fn push_state_part(alloc: Global, text: &mut String, state: Option<u8>) -> Result<(), AllocError>
+fn push_state_part(text: &mut String, state: Option<u8>) -> Result<(), AllocError>
     ensures { OnOk result
         (string_bytes text.new ≡ with_part (string_bytes text.old) (state_part state)) }
 {
     match state {
         Some(state) => {
             push_key(text, "state")?;
-            push_state(alloc, text, state)
+            push_state(text, state)
         }
         None => Ok(()),
     }

@@ -51,7 +51,7 @@ pub(crate) fn next_lines<F: Line>(
         (memory_of state.old) (string_bytes s.text, s.is_malformed) (memory_of state.new)) }
 {
     let before = state.time;
-    // Most messages are here, and are not asked for what only the others can be.
+    // Most messages are of the family, so this is checked first.
     if NetlinkBuffer::new(frame).message_type() >= MIN_TYPE {
         let shown = family_shown::<F>(alloc, &mut state.known, at, frame)?;
         state.time = None;
@@ -69,8 +69,8 @@ pub(crate) fn next_lines<F: Line>(
     }
 }
 
-/// Returns the lines of a message of the family in a frame, and updates the names of links by it
-/// before. Checks the payload once for both. Requires that the bytes are one frame.
+/// Updates the names of links by the message of the family in a frame, and returns its lines. Checks
+/// the payload once for both. Requires that the bytes are one frame.
 fn family_shown<F: Line>(
     alloc: Global,
     known: &mut NameTable,

@@ -17,7 +17,7 @@ use std::alloc::{AllocError, Global};
 use std::collections::BTreeMap;
 use std::marker::Model;
 
-/// The number of links from which on an index is faster than a search of the list.
+/// With this many links or more, an index is faster than a search of the list.
 const MANY_LINKS: usize = 64;
 
 /// Names of links to print, the oldest first.
@@ -149,8 +149,8 @@ impl NameTable {
         Ok(())
     }
 
-    /// Enters a name as `enter_name` does. If an allocation fails, names are searched in the list
-    /// from then on.
+    /// Enters a name as `enter_name` does. After an allocation fails, the table has no index, and
+    /// names are searched in the list.
     fn enter(&mut self, alloc: Global, index: u32, name: &[u8]) -> Result<(), AllocError>
         ensures { OnOk result (self.new ≡ with_name index name.now self.old) }
     {

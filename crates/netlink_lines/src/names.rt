@@ -13,12 +13,12 @@ pub fn state_text(alloc: Global, state: u8) -> Result<String, AllocError>
     ensures { IfOk result (λ text. string_bytes text ≡ state_text state) }
 {
     let mut text = String::new(alloc);
-    push_state(alloc, &mut text, state)?;
+    push_state(&mut text, state)?;
     Ok(text)
 }
 
-/// Appends the name of an operational state in this way.
-pub(crate) fn push_state(alloc: Global, text: &mut String, state: u8) -> Result<(), AllocError>
+/// Appends the name of an operational state as `state_text` returns it.
+pub(crate) fn push_state(text: &mut String, state: u8) -> Result<(), AllocError>
     ensures { OnOk result (string_bytes text.new ≡ string_bytes text.old ++ state_text state) }
 {
     let name = match state {
@@ -29,7 +29,7 @@ pub(crate) fn push_state(alloc: Global, text: &mut String, state: u8) -> Result<
         4 => "TESTING",
         5 => "DORMANT",
         6 => "UP",
-        _ => return text.push_str(format!(in alloc; "0x{state:x}")?.as_str()),
+        _ => return write!(text, "0x{state:x}"),
     };
     text.push_str(name)
 }
@@ -44,8 +44,8 @@ pub fn family_text(alloc: Global, family: u8) -> Result<String, AllocError>
     Ok(text)
 }
 
-/// Appends the name of an address family in this way.
-pub(crate) fn push_family(text: &mut String, family: u8) -> Result<(), AllocError>
+/// Appends the name of an address family as `family_text` returns it.
+fn push_family(text: &mut String, family: u8) -> Result<(), AllocError>
     ensures { OnOk result (string_bytes text.new ≡ string_bytes text.old ++ family_text family) }
 {
     let name = match family {
@@ -72,7 +72,7 @@ pub fn scope_text(alloc: Global, scope: u8) -> Result<String, AllocError>
     Ok(text)
 }
 
-/// Appends the name of a scope in this way.
+/// Appends the name of a scope as `scope_text` returns it.
 pub(crate) fn push_scope(text: &mut String, scope: u8) -> Result<(), AllocError>
     ensures { OnOk result (string_bytes text.new ≡ string_bytes text.old ++ scope_text scope) }
 {
@@ -145,7 +145,7 @@ pub(crate) fn route_type_text(alloc: Global, route_type: u8) -> Result<String, A
 
 /// Appends the name of a type of route; `none` for the type 0.
 #[tactic(auto, unfolding(crate::specs::Names::route_type_text))]
-pub(crate) fn push_route_type(text: &mut String, route_type: u8) -> Result<(), AllocError>
+fn push_route_type(text: &mut String, route_type: u8) -> Result<(), AllocError>
     ensures { OnOk result
         (string_bytes text.new ≡ string_bytes text.old ++ route_type_text route_type) }
 {

@@ -84,7 +84,7 @@ fn push_front(
 {
     push_part(text, verb_text(neighbour.message_type))?;
     push_ip(alloc, text, address_of(neighbour))?;
-    push_link(alloc, text, known, index_of(neighbour))?;
+    push_link(text, known, index_of(neighbour))?;
     push_hardware(text, "lladdr", or_empty(neighbour.view().bytes(NDA_LLADDR)))
 }
 
@@ -113,19 +113,14 @@ fn index_in(header: &[u8], index: i32) -> u32
 
 /// Appends the name of a link other than 0.
 #[tactic(auto, unfolding(crate::specs::Neighbour::neighbour_device, crate::specs::Parts::when, crate::specs::Parts::with_part))]
-fn push_link(
-    alloc: Global,
-    text: &mut String,
-    known: &Names<'_>,
-    index: u32,
-) -> Result<(), AllocError>
+fn push_link(text: &mut String, known: &Names<'_>, index: u32) -> Result<(), AllocError>
     ensures { OnOk result
         (string_bytes text.new ≡ with_part (string_bytes text.old) (neighbour_device known.now index)) }
 {
     if index == 0 {
         return Ok(());
     }
-    push_device(alloc, text, known, "dev", Some(index))
+    push_device(text, known, "dev", Some(index))
 }
 
 /// Returns the verb of a message type. The kernel sends a request if it has no entry for an address.

@@ -86,7 +86,7 @@ fn push_parms(
     ensures { OnOk result (string_bytes text.new
         ≡ with_parts (string_bytes text.old) (parm_parts known.now parms.now.block.now)) }
 {
-    push_device(alloc, text, known, "dev", parms.u32(NDTPA_IFINDEX))?;
+    push_device(text, known, "dev", parms.u32(NDTPA_IFINDEX))?;
     push_times(alloc, text, parms)?;
     push_probes(text, parms)?;
     push_delays(alloc, text, parms)

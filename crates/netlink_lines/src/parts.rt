@@ -44,8 +44,7 @@ pub(crate) fn push_when(text: &mut String, holds: bool, part: &str) -> Result<()
     push_part(text, part)
 }
 
-/// Appends a key and a space, after a space if the text is not empty. What follows is appended
-/// after it, without a text of its own.
+/// Appends a key and a space, after a space if the text is not empty. The caller appends the value.
 pub(crate) fn push_key(text: &mut String, key: &str) -> Result<(), AllocError>
     ensures { OnOk result
         (string_bytes text.new ≡ separated (codes " ") (string_bytes text.old) key.now ++ codes " ") }

@@ -199,7 +199,7 @@ fn push_link(
         ≡ with_parts (string_bytes text.old) (route_next known.now route.now.message.payload.now)) }
 {
     push_next(alloc, text, gateway_of(route), via_of(route))?;
-    push_device(alloc, text, known, "dev", route.view().u32(RTA_OIF))
+    push_device(text, known, "dev", route.view().u32(RTA_OIF))
 }
 
 /// Returns the gateway; empty if there is none.
@@ -369,7 +369,7 @@ fn push_last(
         ≡ with_parts (string_bytes text.old) (last_parts known.now route.now.message.payload.now)) }
 {
     push_metrics(alloc, text, route)?;
-    push_device(alloc, text, known, "iif", route.view().u32(RTA_IIF))?;
+    push_device(text, known, "iif", route.view().u32(RTA_IIF))?;
     push_preference_part(alloc, text, route.view().u8(RTA_PREF))
 }
 

@@ -95,7 +95,7 @@ fn push_hop_parts(
     push_part(text, "nexthop")?;
     push_next(alloc, text, gateway_of(attributes), via_of(attributes))?;
     push_realms(alloc, text, "realm", "realms", attributes.u32(RTA_FLOW))?;
-    push_device(alloc, text, known, "dev", Some(parse_u32(header).unwrap()))?;
+    push_device(text, known, "dev", Some(parse_u32(header).unwrap()))?;
     let weight = (word / 256) as u32 + 1;
     push_number(text, "weight", Some(weight))?;
     push_hop_flags(alloc, text, (word % 256) as u32)

@@ -33,8 +33,7 @@ pub(crate) fn bytes_text(alloc: Global, bytes: &[u8]) -> Result<String, AllocErr
     Ok(text)
 }
 
-/// Appends bytes in this way.
-
+/// Appends bytes as `bytes_text` returns them.
 pub(crate) fn push_colons(text: &mut String, bytes: &[u8]) -> Result<(), AllocError>
     ensures { OnOk result (string_bytes text.new ≡ string_bytes text.old ++ bytes_text bytes.now) }
 {
@@ -85,14 +84,14 @@ fn printable_text(alloc: Global, least: u8, bytes: &[u8]) -> Result<String, Allo
     Ok(text)
 }
 
-/// Appends a name in this way.
+/// Appends a name as `name_text` returns it.
 pub(crate) fn push_name(text: &mut String, name: &[u8]) -> Result<(), AllocError>
     ensures { OnOk result (string_bytes text.new ≡ string_bytes text.old ++ name_text name.now) }
 {
     push_bytes(text, 33, name)
 }
 
-/// Appends a sentence in this way.
+/// Appends a sentence as `sentence_text` returns it.
 pub(crate) fn push_sentence(text: &mut String, sentence: &[u8]) -> Result<(), AllocError>
     ensures { OnOk result
         (string_bytes text.new ≡ string_bytes text.old ++ sentence_text sentence.now) }
@@ -100,7 +99,7 @@ pub(crate) fn push_sentence(text: &mut String, sentence: &[u8]) -> Result<(), Al
     push_bytes(text, 32, sentence)
 }
 
-/// Appends bytes in this way, from `least` on.
+/// Appends bytes as `printable_text` returns them.
 #[tactic(auto, unfolding(crate::specs::Text::printable_text))]
 fn push_bytes(text: &mut String, least: u8, bytes: &[u8]) -> Result<(), AllocError>
     ensures { OnOk result
