@@ -180,8 +180,8 @@ pub(crate) fn value_error(
     shape_error(levels, rows, policy, shape, at, kind, value)
 }
 
-/// The same if the shape of the kind is already known. Tests first what most values are, so that
-/// these do not initialize the space for an error.
+/// Like `value_error`, for a caller that has looked up the shape. First accepts a value that is no
+/// nest and has its shape, as most do, so that an error is prepared only for the others.
 #[inline(always)]
 #[cycle(errors)]
 fn shape_error(

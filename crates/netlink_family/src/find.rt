@@ -27,8 +27,9 @@ pub(crate) fn first_value(block: &[u8], kind: u16) -> Option<&[u8]>
     None
 }
 
-/// The same in a block without an error of the walk, whose lengths it does not check again. It moves
-/// an offset and not a slice, which takes half the instructions for each attribute.
+/// Like `first_value`, for a block whose attributes are all whole, as those of a `BlockView` are. It
+/// does not check their lengths again, and moves an offset, not a slice: half the instructions for
+/// each attribute.
 pub(crate) fn first_whole(block: &[u8], kind: u16) -> Option<&[u8]>
     requires whole { IsWhole block.now }
     ensures some { IfSome result (λ v. first_of kind (listed block.now) ≡ Some v.now) }
@@ -37,8 +38,8 @@ pub(crate) fn first_whole(block: &[u8], kind: u16) -> Option<&[u8]>
     let mut at = 0;
     while at < block.len() {
         let nla = attribute_at(block, at);
-        let its = nla.kind();
-        if its == kind {
+        let nla_kind = nla.kind();
+        if nla_kind == kind {
             return Some(nla.value());
         }
         at += nla_align(nla.length() as usize);

@@ -144,9 +144,10 @@ fn own_row(rows: &[Row], policy: u16, kind: u16) -> Option<&Row>
     row_at(rows, policy, kind & NLA_TYPE_MASK)
 }
 
-/// Returns the row of a policy and a kind. First tries index `kind - 1`, where the row is if every
-/// smaller kind of the first policy has one, and then as many rows before it as the kind there is
-/// greater, where the row is if every kind between the two has one.
+/// Returns the row of a policy and a kind. First tries index `kind - 1`, where the row is if the first
+/// policy has a row for every smaller kind. If some of these kinds have no row, that index has a
+/// greater kind. Then goes back from there by the difference of the two kinds, and tries the row
+/// there. If neither is the row, searches.
 #[inline(always)]
 fn row_at(rows: &[Row], policy: u16, kind: u16) -> Option<&Row>
     requires sorted { are_sorted (rows_in rows.now) ≡ true }
@@ -166,8 +167,8 @@ fn row_at(rows: &[Row], policy: u16, kind: u16) -> Option<&Row>
     search_row(rows, policy, kind)
 }
 
-/// Returns an index less than or equal to `at`: as many before it as one kind is greater than
-/// another.
+/// Returns the index that is `greater - kind` before `at`, or 0 if there is none. Returns `at` if
+/// `greater` is not greater than `kind`.
 #[inline(always)]
 fn earlier(at: usize, greater: u16, kind: u16) -> usize
     ensures { result ≤ at }

@@ -9,13 +9,13 @@ use Rattle.netlink_family.specs.Whole.{IsWhole}
 use Rattle.netlink_family.proofs.WholeWalks.{whole_first, whole_next}
 use Rattle.netlink_family.proofs.find.first_whole.Goals as goal
 
-pub returns-then-its-kind-clause-some : goal.returns-then-its-kind-clause-some
-returns-then-its-kind-clause-some c =
+pub returns-then-nla_kind-kind-clause-some : goal.returns-then-nla_kind-kind-clause-some
+returns-then-nla_kind-kind-clause-some c =
     let bytes : List ℕ = drop c.loop-at.at c.args.block.now in
     let left = length-drop c.loop-at.at c.args.block.now in
     let same : masked (raw_kind bytes) ≡ c.args.kind =
-    ap (λ (b : List ℕ). masked (raw_kind b)) (sym c.attribute_at-nla.ensures.bytes) ∙ sym c.kind-its.ensures.number
-    ∙ c.if-its-kind.true in
+    ap (λ (b : List ℕ). masked (raw_kind b)) (sym c.attribute_at-nla.ensures.bytes) ∙ sym c.kind-nla_kind.ensures.number
+    ∙ c.if-nla_kind-kind.true in
     c.loop-at.invariant.1
     ∙ whole_first c.args.kind bytes (omega (arith, left, c.loop-at-test.true)) c.loop-at.invariant.0 same
     ∙ ap (λ (b : List ℕ). Some (attribute_of b).value) (sym c.attribute_at-nla.ensures.bytes) ∙ ap Some (sym c.value.ensures.bytes)
@@ -33,8 +33,8 @@ loop-at-preserved c =
     (omega (arith, size, least)) (omega (arith, size, least)) in
     let a : Attribute = attribute_of bytes in
     let other : masked a.kind ≢ c.args.kind =
-    λ same. c.if-its-kind.false
-    (c.kind-its.ensures.number ∙ ap (λ (b : List ℕ). masked (raw_kind b)) c.attribute_at-nla.ensures.bytes ∙ same) in
+    λ same. c.if-nla_kind-kind.false
+    (c.kind-nla_kind.ensures.number ∙ ap (λ (b : List ℕ). masked (raw_kind b)) c.attribute_at-nla.ensures.bytes ∙ same) in
     let split : drop (c.loop-at.at + end) c.args.block.now ≡ drop end bytes = sym (drop-drop end c.loop-at.at c.args.block.now) in (
       subst IsWhole (sym split) next.whole,
       c.loop-at.invariant.1 ∙ ap (first_of c.args.kind) (before_step bytes a (drop end bytes) next.starts)
