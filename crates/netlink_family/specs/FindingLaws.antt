@@ -6,7 +6,7 @@ use Rattle.std.proofs.lemmas.Bool.{and_parts, eqb-true, eq-eqb}
 use Rattle.netlink_packet_core.specs.Attribute.{Attribute}
 use Rattle.netlink_packet_core.specs.ReadingLaws.{attributes_in-walk}
 use Rattle.netlink_packet_core.specs.Views.{masked}
-use Rattle.netlink_family.specs.Finding.{be16_by, be32_by, be64_by, bytes_by, exact_by, first_in, found_in, i32_by, i64_by, ip_by, nest_by, nest_header_by, str_by, u16_by, u32_by, u64_by, u8_by}
+use Rattle.netlink_family.specs.Finding.{bytes_by, exact_by, first_in, found_in, i32_by, ip_by, nest_by, str_by, u16_by, u32_by, u64_by, u8_by}
 use Rattle.netlink_family.specs.Listing.{first_of, listed, listed_all}
 use Rattle.netlink_family.specs.NestLaws.{kind_has}
 use Rattle.netlink_family.specs.Shapes.{Scope, any_kind, fits_in, has_shape, is_shaped, nest_levels, or_first, resolved, row_at, shape_by, shape_among}
@@ -143,18 +143,6 @@ u64_none s = grind arith
 pub i32_none : (s : Shape) → i32_by s None ≡ None
 i32_none s = grind arith
 
-pub i64_none : (s : Shape) → i64_by s None ≡ None
-i64_none s = grind arith
-
-pub be16_none : (s : Shape) → be16_by s None ≡ None
-be16_none s = grind arith
-
-pub be32_none : (s : Shape) → be32_by s None ≡ None
-be32_none s = grind arith
-
-pub be64_none : (s : Shape) → be64_by s None ≡ None
-be64_none s = grind arith
-
 pub ip_none : (s : Shape) → ip_by s None ≡ None
 ip_none s = grind arith
 
@@ -169,6 +157,3 @@ exact_none s = grind arith
 
 pub nest_none : (s : Shape) → nest_by s None ≡ None
 nest_none s = grind arith
-
-pub nest_header_none : (s : Shape) → nest_header_by s None ≡ None
-nest_header_none s = grind arith

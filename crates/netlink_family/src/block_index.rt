@@ -2,7 +2,7 @@
 
 ghost use Rattle.std.specs.Prelude.{◌≡◌, ◌≢◌, ◌<◌, ℕ, IfNone, IfSome, None, Some, drop, length, slice_index, true};
 ghost use Rattle.netlink_packet_core.specs.Views.{HoldsAttribute, attribute_of};
-ghost use Rattle.netlink_family.specs.Finding.{found_at};
+ghost use Rattle.netlink_family.specs.Finding.{found_at, shape_at};
 ghost use Rattle.netlink_family.specs.Index.{ArePlaces};
 ghost use Rattle.netlink_family.specs.Listing.{first_of, listed};
 ghost use Rattle.netlink_family.specs.Shapes.{fits_in, rows_in, within};
@@ -12,6 +12,7 @@ ghost use Rattle.std.proofs.Props.{props};
 use crate::block_view::BlockView;
 use crate::find::{attribute_at, first_value};
 use crate::getters::are_shaped;
+use crate::shape::Shape;
 use netlink_packet_core::{NlaBuffer, nla_align};
 
 /// The kinds that have a place.
@@ -59,6 +60,20 @@ impl<'a> BlockIndex<'a> {
     {
         are_shaped(&self.view, self.view.block);
         first_placed(self, kind)
+    }
+
+    /// Returns the shape of this kind. Returns `None` if the places alone show that there is no such
+    /// attribute, so that the shape of most missing kinds is not looked up.
+    #[inline(always)]
+    pub(crate) fn shape_if_placed(&self, kind: u16) -> Option<Shape>
+        ensures some { IfSome result (λ shape. shape ≡ shape_at self.now.view kind) }
+        ensures none { IfNone result (found_at self.now.view kind ≡ None) }
+    {
+        are_shaped(&self.view, self.view.block);
+        if is_missing(self, kind) {
+            return None;
+        }
+        Some(self.view.shape(kind))
     }
 }
 
@@ -125,4 +140,17 @@ fn first_placed<'a>(index: &BlockIndex<'a>, kind: u16) -> Option<&'a [u8]>
         return first_value(index.rest, kind);
     }
     Some(value_at(index.view.block, 4 * (place - 1)))
+}
+
+/// Returns whether the places alone show that no attribute has a kind: it has no place, and there is
+/// no rest.
+#[inline(always)]
+fn is_missing(index: &BlockIndex<'_>, kind: u16) -> bool
+    ensures { result ≡ true → first_of kind (listed index.now.view.block.now) ≡ None }
+{
+    let row = kind as usize;
+    if row >= KINDS {
+        return false;
+    }
+    index.places[row] == 0 && index.rest.is_empty()
 }

@@ -56,20 +56,19 @@ impl<'a> BlockView<'a> {
     /// Returns a view of the attributes in the first attribute of this kind. Returns `None` if and
     /// only if there is no such attribute or the table gives the kind another shape than `Nested`
     /// and `HeaderNested`.
-    #[tactic(auto, using(crate::specs::NestLaws::nest_shaped, crate::specs::FindingLaws::nest_none))]
+    #[tactic(auto, using(crate::specs::NestLaws::nest_shaped))]
     pub fn nest(&self, kind: u16) -> Option<BlockView<'a>>
         ensures some { IfSome result (λ v. nest_by (shape_at self.now kind) (found_at self.now kind) ≡ Some v.block.now) }
         ensures none { IfNone result (nest_by (shape_at self.now kind) (found_at self.now kind) ≡ None) }
         ensures policy { IfSome result (λ v. v.policy ≡ policy_by (shape_at self.now kind)) }
         ensures rows { IfSome result (λ v. v.rows.now ≡ self.now.rows.now) }
     {
-        let found = self.first(kind)?;
         let shape = self.shape(kind);
         match policy_of(shape) {
             Some(policy) => Some(BlockView {
                 rows: self.rows,
                 policy,
-                block: nest_block(shape, found),
+                block: nest_block(shape, self.first(kind)?),
             }),
             None => None,
         }
@@ -78,16 +77,15 @@ impl<'a> BlockView<'a> {
     /// Returns the header of the nest in the first attribute of this kind. Returns `None` if and
     /// only if there is no such attribute or the table gives the kind another shape than
     /// `HeaderNested`.
-    #[tactic(auto, using(crate::specs::NestLaws::header_inside, crate::specs::FindingLaws::nest_header_none))]
+    #[tactic(auto, using(crate::specs::NestLaws::header_inside))]
     pub fn nest_header(&self, kind: u16) -> Option<HeaderView<'a>>
         ensures some { IfSome result (λ v. nest_header_by (shape_at self.now kind) (found_at self.now kind) ≡ Some v.bytes.now) }
         ensures none { IfNone result (nest_header_by (shape_at self.now kind) (found_at self.now kind) ≡ None) }
         ensures size { IfSome result (λ v. length v.bytes.now ≡ nest_start (shape_at self.now kind)) }
     {
-        let found = self.first(kind)?;
         match self.shape(kind) {
             Shape::HeaderNested { size, .. } => Some(HeaderView {
-                bytes: &found[..size as usize],
+                bytes: &self.first(kind)?[..size as usize],
                 missing: 0,
             }),
             _ => None,
@@ -96,117 +94,108 @@ impl<'a> BlockView<'a> {
 
     /// Returns the value of the first attribute of this kind. Returns `None` if and only if there
     /// is no such attribute or the table gives the kind another shape than `U8`.
-    #[tactic(auto, using(crate::specs::FindingLaws::u8_size, crate::specs::FindingLaws::u8_none))]
+    #[tactic(auto, using(crate::specs::FindingLaws::u8_size))]
     pub fn u8(&self, kind: u16) -> Option<u8>
         ensures { result ≡ u8_by (shape_at self.now kind) (found_at self.now kind) }
     {
-        let found = self.first(kind)?;
         match self.shape(kind) {
-            Shape::U8 => Some(found[0]),
+            Shape::U8 => Some(self.first(kind)?[0]),
             _ => None,
         }
     }
 
     /// Returns the value of the first attribute of this kind. Returns `None` if and only if there
     /// is no such attribute or the table gives the kind another shape than `U16`.
-    #[tactic(auto, using(crate::specs::FindingLaws::u16_size, crate::specs::FindingLaws::u16_none))]
+    #[tactic(auto, using(crate::specs::FindingLaws::u16_size))]
     pub fn u16(&self, kind: u16) -> Option<u16>
         ensures { result ≡ u16_by (shape_at self.now kind) (found_at self.now kind) }
     {
-        let found = self.first(kind)?;
         match self.shape(kind) {
-            Shape::U16 => Some(u16_in(found)),
+            Shape::U16 => Some(u16_in(self.first(kind)?)),
             _ => None,
         }
     }
 
     /// Returns the value of the first attribute of this kind. Returns `None` if and only if there
     /// is no such attribute or the table gives the kind another shape than `U32`.
-    #[tactic(auto, using(crate::specs::FindingLaws::u32_size, crate::specs::FindingLaws::u32_none))]
+    #[tactic(auto, using(crate::specs::FindingLaws::u32_size))]
     pub fn u32(&self, kind: u16) -> Option<u32>
         ensures { result ≡ u32_by (shape_at self.now kind) (found_at self.now kind) }
     {
-        let found = self.first(kind)?;
         match self.shape(kind) {
-            Shape::U32 => Some(u32_in(found)),
+            Shape::U32 => Some(u32_in(self.first(kind)?)),
             _ => None,
         }
     }
 
     /// Returns the value of the first attribute of this kind. Returns `None` if and only if there
     /// is no such attribute or the table gives the kind another shape than `U64`.
-    #[tactic(auto, using(crate::specs::FindingLaws::u64_size, crate::specs::FindingLaws::u64_none))]
+    #[tactic(auto, using(crate::specs::FindingLaws::u64_size))]
     pub fn u64(&self, kind: u16) -> Option<u64>
         ensures { result ≡ u64_by (shape_at self.now kind) (found_at self.now kind) }
     {
-        let found = self.first(kind)?;
         match self.shape(kind) {
-            Shape::U64 => Some(u64_in(found)),
+            Shape::U64 => Some(u64_in(self.first(kind)?)),
             _ => None,
         }
     }
 
     /// Returns the value of the first attribute of this kind. Returns `None` if and only if there
     /// is no such attribute or the table gives the kind another shape than `I32`.
-    #[tactic(auto, using(crate::specs::FindingLaws::i32_size, crate::specs::FindingLaws::i32_none))]
+    #[tactic(auto, using(crate::specs::FindingLaws::i32_size))]
     pub fn i32(&self, kind: u16) -> Option<i32>
         ensures { result ≡ i32_by (shape_at self.now kind) (found_at self.now kind) }
     {
-        let found = self.first(kind)?;
         match self.shape(kind) {
-            Shape::I32 => Some(i32_in(found)),
+            Shape::I32 => Some(i32_in(self.first(kind)?)),
             _ => None,
         }
     }
 
     /// Returns the value of the first attribute of this kind. Returns `None` if and only if there
     /// is no such attribute or the table gives the kind another shape than `I64`.
-    #[tactic(auto, using(crate::specs::FindingLaws::i64_size, crate::specs::FindingLaws::i64_none))]
+    #[tactic(auto, using(crate::specs::FindingLaws::i64_size))]
     pub fn i64(&self, kind: u16) -> Option<i64>
         ensures { result ≡ i64_by (shape_at self.now kind) (found_at self.now kind) }
     {
-        let found = self.first(kind)?;
         match self.shape(kind) {
-            Shape::I64 => Some(i64_in(found)),
+            Shape::I64 => Some(i64_in(self.first(kind)?)),
             _ => None,
         }
     }
 
     /// Returns the value of the first attribute of this kind. Returns `None` if and only if there
     /// is no such attribute or the table gives the kind another shape than `Be16`.
-    #[tactic(auto, using(crate::specs::FindingLaws::be16_size, crate::specs::FindingLaws::be16_none))]
+    #[tactic(auto, using(crate::specs::FindingLaws::be16_size))]
     pub fn be16(&self, kind: u16) -> Option<u16>
         ensures { result ≡ be16_by (shape_at self.now kind) (found_at self.now kind) }
     {
-        let found = self.first(kind)?;
         match self.shape(kind) {
-            Shape::Be16 => Some(be16_in(found)),
+            Shape::Be16 => Some(be16_in(self.first(kind)?)),
             _ => None,
         }
     }
 
     /// Returns the value of the first attribute of this kind. Returns `None` if and only if there
     /// is no such attribute or the table gives the kind another shape than `Be32`.
-    #[tactic(auto, using(crate::specs::FindingLaws::be32_size, crate::specs::FindingLaws::be32_none))]
+    #[tactic(auto, using(crate::specs::FindingLaws::be32_size))]
     pub fn be32(&self, kind: u16) -> Option<u32>
         ensures { result ≡ be32_by (shape_at self.now kind) (found_at self.now kind) }
     {
-        let found = self.first(kind)?;
         match self.shape(kind) {
-            Shape::Be32 => Some(be32_in(found)),
+            Shape::Be32 => Some(be32_in(self.first(kind)?)),
             _ => None,
         }
     }
 
     /// Returns the value of the first attribute of this kind. Returns `None` if and only if there
     /// is no such attribute or the table gives the kind another shape than `Be64`.
-    #[tactic(auto, using(crate::specs::FindingLaws::be64_size, crate::specs::FindingLaws::be64_none))]
+    #[tactic(auto, using(crate::specs::FindingLaws::be64_size))]
     pub fn be64(&self, kind: u16) -> Option<u64>
         ensures { result ≡ be64_by (shape_at self.now kind) (found_at self.now kind) }
     {
-        let found = self.first(kind)?;
         match self.shape(kind) {
-            Shape::Be64 => Some(be64_in(found)),
+            Shape::Be64 => Some(be64_in(self.first(kind)?)),
             _ => None,
         }
     }
@@ -214,69 +203,59 @@ impl<'a> BlockView<'a> {
     /// Returns the string in the first attribute of this kind, without its NUL. Returns `None` if
     /// and only if there is no such attribute or the table gives the kind another shape than `Str`
     /// and `NulStr`.
-    #[tactic(auto, using(crate::specs::FindingLaws::str_none))]
     pub fn str_bytes(&self, kind: u16) -> Option<&'a [u8]>
         ensures some { IfSome result (λ v. str_by (shape_at self.now kind) (found_at self.now kind) ≡ Some v.now) }
         ensures none { IfNone result (str_by (shape_at self.now kind) (found_at self.now kind) ≡ None) }
     {
-        let found = self.first(kind)?;
         match self.shape(kind) {
-            Shape::NulStr | Shape::Str => Some(bytes_until_nul(found)),
+            Shape::NulStr | Shape::Str => Some(bytes_until_nul(self.first(kind)?)),
             _ => None,
         }
     }
 
     /// Like `str_bytes`, but as a `str`. Also returns `None` if the string is not UTF-8.
-    #[tactic(auto, using(crate::specs::FindingLaws::str_none))]
     pub fn str(&self, kind: u16) -> Option<&'a str>
         ensures some { IfSome result (λ v. str_by (shape_at self.now kind) (found_at self.now kind) ≡ Some v.now) }
         ensures utf8 { IsSome result ↔ IsSomeAnd (str_by (shape_at self.now kind) (found_at self.now kind)) IsUtf8 }
     {
-        let found = self.first(kind)?;
         match self.shape(kind) {
-            Shape::NulStr | Shape::Str => str_until_nul(found),
+            Shape::NulStr | Shape::Str => str_until_nul(self.first(kind)?),
             _ => None,
         }
     }
 
     /// Returns the IP address in the first attribute of this kind, 4 or 16 bytes. Returns `None` if
     /// and only if there is no such attribute or the table gives the kind another shape than `Ip`.
-    #[tactic(auto, using(crate::specs::FindingLaws::ip_none))]
     pub fn ip(&self, kind: u16) -> Option<&'a [u8]>
         ensures some { IfSome result (λ v. ip_by (shape_at self.now kind) (found_at self.now kind) ≡ Some v.now) }
         ensures none { IfNone result (ip_by (shape_at self.now kind) (found_at self.now kind) ≡ None) }
     {
-        let found = self.first(kind)?;
         match self.shape(kind) {
-            Shape::Ip => Some(found),
+            Shape::Ip => self.first(kind),
             _ => None,
         }
     }
 
     /// Returns the value of the first attribute of this kind. Returns `None` if and only if there
     /// is no such attribute or the table gives the kind another shape than `ExactLen`.
-    #[tactic(auto, using(crate::specs::FindingLaws::exact_none))]
     pub fn exact(&self, kind: u16) -> Option<&'a [u8]>
         ensures some { IfSome result (λ v. exact_by (shape_at self.now kind) (found_at self.now kind) ≡ Some v.now) }
         ensures none { IfNone result (exact_by (shape_at self.now kind) (found_at self.now kind) ≡ None) }
     {
-        let found = self.first(kind)?;
         match self.shape(kind) {
-            Shape::ExactLen(_) => Some(found),
+            Shape::ExactLen(_) => self.first(kind),
             _ => None,
         }
     }
 
     /// Returns the value of the first attribute of this kind. Returns `None` if and only if there
     /// is no such attribute or the table gives the kind another shape than `Bytes` and `MinLen`.
-    #[tactic(auto, using(crate::specs::FindingLaws::bytes_none))]
     pub fn bytes(&self, kind: u16) -> Option<&'a [u8]>
         ensures some { IfSome result (λ v. bytes_by (shape_at self.now kind) (found_at self.now kind) ≡ Some v.now) }
         ensures none { IfNone result (bytes_by (shape_at self.now kind) (found_at self.now kind) ≡ None) }
     {
-        let found = self.first(kind)?;
         match self.shape(kind) {
-            Shape::Bytes | Shape::MinLen(_) => Some(found),
+            Shape::Bytes | Shape::MinLen(_) => self.first(kind),
             _ => None,
         }
     }

@@ -20,13 +20,12 @@ impl<'a> BlockIndex<'a> {
         ensures policy { IfSome result (λ v. v.policy ≡ policy_by (shape_at self.now.view kind)) }
         ensures rows { IfSome result (λ v. v.rows.now ≡ self.now.view.rows.now) }
     {
-        let found = self.first(kind)?;
-        let shape = self.view.shape(kind);
+        let shape = self.shape_if_placed(kind)?;
         match policy_of(shape) {
             Some(policy) => Some(BlockView {
                 rows: self.view.rows,
                 policy,
-                block: nest_block(shape, found),
+                block: nest_block(shape, self.first(kind)?),
             }),
             None => None,
         }
@@ -38,9 +37,8 @@ impl<'a> BlockIndex<'a> {
     pub fn u8(&self, kind: u16) -> Option<u8>
         ensures { result ≡ u8_by (shape_at self.now.view kind) (found_at self.now.view kind) }
     {
-        let found = self.first(kind)?;
-        match self.view.shape(kind) {
-            Shape::U8 => Some(found[0]),
+        match self.shape_if_placed(kind)? {
+            Shape::U8 => Some(self.first(kind)?[0]),
             _ => None,
         }
     }
@@ -51,9 +49,8 @@ impl<'a> BlockIndex<'a> {
     pub fn u16(&self, kind: u16) -> Option<u16>
         ensures { result ≡ u16_by (shape_at self.now.view kind) (found_at self.now.view kind) }
     {
-        let found = self.first(kind)?;
-        match self.view.shape(kind) {
-            Shape::U16 => Some(u16_in(found)),
+        match self.shape_if_placed(kind)? {
+            Shape::U16 => Some(u16_in(self.first(kind)?)),
             _ => None,
         }
     }
@@ -64,9 +61,8 @@ impl<'a> BlockIndex<'a> {
     pub fn u32(&self, kind: u16) -> Option<u32>
         ensures { result ≡ u32_by (shape_at self.now.view kind) (found_at self.now.view kind) }
     {
-        let found = self.first(kind)?;
-        match self.view.shape(kind) {
-            Shape::U32 => Some(u32_in(found)),
+        match self.shape_if_placed(kind)? {
+            Shape::U32 => Some(u32_in(self.first(kind)?)),
             _ => None,
         }
     }
@@ -77,9 +73,8 @@ impl<'a> BlockIndex<'a> {
     pub fn u64(&self, kind: u16) -> Option<u64>
         ensures { result ≡ u64_by (shape_at self.now.view kind) (found_at self.now.view kind) }
     {
-        let found = self.first(kind)?;
-        match self.view.shape(kind) {
-            Shape::U64 => Some(u64_in(found)),
+        match self.shape_if_placed(kind)? {
+            Shape::U64 => Some(u64_in(self.first(kind)?)),
             _ => None,
         }
     }
@@ -90,9 +85,8 @@ impl<'a> BlockIndex<'a> {
     pub fn i32(&self, kind: u16) -> Option<i32>
         ensures { result ≡ i32_by (shape_at self.now.view kind) (found_at self.now.view kind) }
     {
-        let found = self.first(kind)?;
-        match self.view.shape(kind) {
-            Shape::I32 => Some(i32_in(found)),
+        match self.shape_if_placed(kind)? {
+            Shape::I32 => Some(i32_in(self.first(kind)?)),
             _ => None,
         }
     }
@@ -105,9 +99,8 @@ impl<'a> BlockIndex<'a> {
         ensures some { IfSome result (λ v. str_by (shape_at self.now.view kind) (found_at self.now.view kind) ≡ Some v.now) }
         ensures none { IfNone result (str_by (shape_at self.now.view kind) (found_at self.now.view kind) ≡ None) }
     {
-        let found = self.first(kind)?;
-        match self.view.shape(kind) {
-            Shape::NulStr | Shape::Str => Some(bytes_until_nul(found)),
+        match self.shape_if_placed(kind)? {
+            Shape::NulStr | Shape::Str => Some(bytes_until_nul(self.first(kind)?)),
             _ => None,
         }
     }
@@ -119,9 +112,8 @@ impl<'a> BlockIndex<'a> {
         ensures some { IfSome result (λ v. ip_by (shape_at self.now.view kind) (found_at self.now.view kind) ≡ Some v.now) }
         ensures none { IfNone result (ip_by (shape_at self.now.view kind) (found_at self.now.view kind) ≡ None) }
     {
-        let found = self.first(kind)?;
-        match self.view.shape(kind) {
-            Shape::Ip => Some(found),
+        match self.shape_if_placed(kind)? {
+            Shape::Ip => self.first(kind),
             _ => None,
         }
     }
@@ -133,9 +125,8 @@ impl<'a> BlockIndex<'a> {
         ensures some { IfSome result (λ v. exact_by (shape_at self.now.view kind) (found_at self.now.view kind) ≡ Some v.now) }
         ensures none { IfNone result (exact_by (shape_at self.now.view kind) (found_at self.now.view kind) ≡ None) }
     {
-        let found = self.first(kind)?;
-        match self.view.shape(kind) {
-            Shape::ExactLen(_) => Some(found),
+        match self.shape_if_placed(kind)? {
+            Shape::ExactLen(_) => self.first(kind),
             _ => None,
         }
     }
@@ -147,9 +138,8 @@ impl<'a> BlockIndex<'a> {
         ensures some { IfSome result (λ v. bytes_by (shape_at self.now.view kind) (found_at self.now.view kind) ≡ Some v.now) }
         ensures none { IfNone result (bytes_by (shape_at self.now.view kind) (found_at self.now.view kind) ≡ None) }
     {
-        let found = self.first(kind)?;
-        match self.view.shape(kind) {
-            Shape::Bytes | Shape::MinLen(_) => Some(found),
+        match self.shape_if_placed(kind)? {
+            Shape::Bytes | Shape::MinLen(_) => self.first(kind),
             _ => None,
         }
     }
