@@ -1,13 +1,14 @@
 //! Shapes that are chosen by the value of another attribute.
 
-ghost use Rattle.std.specs.Prelude.{◌≡◌, ◌==◌, ◌&&◌, bytes_eq, true};
+ghost use Rattle.std.specs.Prelude.{ℕ, ◌≡◌, ◌==◌, ◌&&◌, IfSome, List, bytes_eq, true};
 ghost use Rattle.netlink_family.specs.Listing.{first_of, listed};
 ghost use Rattle.netlink_family.specs.Policies.{IsPart};
 ghost use Rattle.netlink_family.specs.Shapes.{CachesOther, choice_at, choice_by, resolved, rows_in, shape_among, within, are_sorted};
 
 use crate::find::first_value;
-use crate::shape::{Row, Shape, cached_shape, row_shape, rows_from};
+use crate::shape::{Row, Shape, cached_shape, near_row, row_shape, rows_from};
 use crate::value::bytes_until_nul;
+use netlink_packet_core::NLA_TYPE_MASK;
 
 /// Returns the shape of a kind in a policy, among the attributes of a block.
 #[inline(always)]
@@ -16,6 +17,19 @@ pub(crate) fn shape_among(rows: &[Row], policy: u16, block: &[u8], kind: u16) ->
     ensures { result ≡ shape_among (within (rows_in rows.now) block.now) policy kind }
 {
     resolved(rows, block, row_shape(rows, policy, kind))
+}
+
+/// Returns the shape of a kind in a policy, in any block, if the row of the kind is found without a
+/// search and its shape is not chosen by a value.
+#[inline(always)]
+pub(crate) fn near_shape(rows: &[Row], policy: u16, kind: u16) -> Option<Shape>
+    requires sorted { are_sorted (rows_in rows.now) ≡ true }
+    ensures { IfSome result (λ shape. (block : List ℕ) → shape ≡ shape_among (within (rows_in rows.now) block) policy kind) }
+{
+    match near_row(rows, policy, kind & NLA_TYPE_MASK)?.3 {
+        Shape::Chosen { .. } => None,
+        shape => Some(shape),
+    }
 }
 
 /// Like `shape_among`, for a kind that is looked up among `own`, the rows of the policy.

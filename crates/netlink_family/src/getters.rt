@@ -10,7 +10,7 @@ ghost use Rattle.netlink_family.specs.Values.{NestHasRows, IsValueOf, value_shap
 
 use crate::attributes::Attributes;
 use crate::block_view::BlockView;
-use crate::choice::shape_among;
+use crate::choice::{near_shape, shape_among};
 use crate::find::first_whole;
 use crate::header_view::HeaderView;
 use crate::shape::{Shape, nest_block, policy_of};
@@ -27,7 +27,10 @@ impl<'a> BlockView<'a> {
     pub fn shape(&self, kind: u16) -> Shape
         ensures { result ≡ shape_at self.now kind }
     {
-        shape_among(self.rows, self.policy, self.block, kind)
+        match near_shape(self.rows, self.policy, kind) {
+            Some(shape) => shape,
+            None => far_shape(self, kind),
+        }
     }
 
     /// Returns the value of the first attribute of this kind as bytes, whatever its shape.
@@ -276,6 +279,15 @@ impl<'a> BlockView<'a> {
             other: None,
         }
     }
+}
+
+/// Returns the shape of a kind, as `BlockView::shape` does. Not inline, because a getter that has
+/// these calls saves more registers, even if it makes none of them.
+#[inline(never)]
+fn far_shape(view: &BlockView<'_>, kind: u16) -> Shape
+    ensures { result ≡ shape_at view.now kind }
+{
+    shape_among(view.rows, view.policy, view.block, kind)
 }
 
 /// A law: the attributes have the shapes of their kinds. Does nothing at run time.

@@ -1,6 +1,6 @@
 //! The shapes of values, and the lookup of rows.
 
-ghost use Rattle.std.specs.Prelude.{◌≡◌, ◌≤◌, ◌==◌, ◌&&◌, None, true, if◌then◌else◌};
+ghost use Rattle.std.specs.Prelude.{◌≡◌, ◌≤◌, ◌==◌, ◌&&◌, IfSome, None, Some, true, if◌then◌else◌};
 ghost use Rattle.std.specs.Option.{option_map};
 ghost use Rattle.netlink_packet_core.specs.Views.{masked};
 ghost use Rattle.netlink_family.specs.Policies.{IsPart};
@@ -144,14 +144,26 @@ fn own_row(rows: &[Row], policy: u16, kind: u16) -> Option<&Row>
     row_at(rows, policy, kind & NLA_TYPE_MASK)
 }
 
-/// Returns the row of a policy and a kind. First tries index `kind - 1`, where the row is if the first
-/// policy has a row for every smaller kind. If some of these kinds have no row, that index has a
-/// greater kind. Then goes back from there by the difference of the two kinds, and tries the row
-/// there. If neither is the row, searches.
+/// Returns the row of a policy and a kind.
 #[inline(always)]
 fn row_at(rows: &[Row], policy: u16, kind: u16) -> Option<&Row>
     requires sorted { are_sorted (rows_in rows.now) ≡ true }
     ensures { option_map borrowed_row result ≡ row_at (rows_in rows.now) policy kind }
+{
+    match near_row(rows, policy, kind) {
+        Some(row) => Some(row),
+        None => search_row(rows, policy, kind),
+    }
+}
+
+/// Returns the row of a policy and a kind if it is where it is found without a search. First tries
+/// index `kind - 1`, where the row is if the first policy has a row for every smaller kind. If some
+/// of these kinds have no row, that index has a greater kind. Then goes back from there by the
+/// difference of the two kinds, and tries the row there.
+#[inline(always)]
+pub(crate) fn near_row(rows: &[Row], policy: u16, kind: u16) -> Option<&Row>
+    requires sorted { are_sorted (rows_in rows.now) ≡ true }
+    ensures { IfSome result (λ row. Some (borrowed_row row) ≡ row_at (rows_in rows.now) policy kind) }
 {
     let at = usize::from(kind.wrapping_sub(1));
     if at < rows.len() {
@@ -164,7 +176,7 @@ fn row_at(rows: &[Row], policy: u16, kind: u16) -> Option<&Row>
             return Some(near);
         }
     }
-    search_row(rows, policy, kind)
+    None
 }
 
 /// Returns the index that is `greater - kind` before `at`, or 0 if there is none. Returns `at` if

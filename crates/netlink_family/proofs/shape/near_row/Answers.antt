@@ -1,6 +1,6 @@
 use Rattle.std.proofs.Common.{arith}
 use Rattle.netlink_family.proofs.RowSearch.{found_at}
-use Rattle.netlink_family.proofs.shape.row_at.Goals as goal
+use Rattle.netlink_family.proofs.shape.near_row.Goals as goal
 
 pub returns-then-is_same : goal.returns-then-is_same
 returns-then-is_same c =
