@@ -73,21 +73,6 @@ by_choice scope kind false none late =
     λ k. ap (λ (b : Bool). not b || is_some (first_of (masked kind) scope.1)) (shape_unchosen scope.0 kind k none) in
     (each kind, keeps_each scope kind scope.1 each)
 
--- it is late if it changes a shape: a kind that chooses none changes none
-late_by : (scope : Scope) (kind : ℕ) (is : Bool) → chooses scope.0 kind ≡ is
-    → not (keeps_shape scope kind kind && list_all (keeps scope kind) scope.1)
-    ≡ (is && not (keeps_shape scope kind kind && list_all (keeps scope kind) scope.1))
-late_by scope kind true some = refl
-late_by scope kind false none =
-    let kept = by_choice scope kind false none refl in
-    ap (λ (b : Bool). not b) (and_from (keeps_shape scope kind kind) (list_all (keeps scope kind) scope.1) kept.0 kept.1)
-
-pub late_if_changed : (scope : Scope) (kind : ℕ) (kept : Bool)
-    → kept ≡ (keeps_shape scope kind kind && list_all (λ a. keeps_shape scope kind a.kind) scope.1)
-    → not kept ≡ is_late scope kind
-late_if_changed scope kind kept is =
-    ap (λ (b : Bool). not b) is ∙ late_by scope kind (chooses scope.0 kind) refl
-
 by_late : (is : Bool) (error : AttributeError) → (if is then Some error else None) ≡ None → is ≡ false
 by_late true error none = absurd (cc)
 by_late false error none = refl

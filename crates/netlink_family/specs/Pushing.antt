@@ -35,6 +35,15 @@ abbrev pub chooses : List Row → ℕ → Bool
 chooses [] kind = false
 chooses (row ∷ rows) kind = row.0 == 0 && is_chosen_by kind row.3 || chooses rows kind
 
+-- the kinds that choose the shape of some kind in policy 0
+abbrev pub with_chooser : Shape → List ℕ → List ℕ
+with_chooser (Chosen by policy) kinds = by ∷ kinds
+with_chooser shape kinds = kinds
+
+abbrev pub choosers : List Row → List ℕ
+choosers [] = []
+choosers (row ∷ rows) = if row.0 == 0 then with_chooser row.3 (choosers rows) else choosers rows
+
 -- one more attribute of a kind does not change the shape of a kind
 abbrev pub keeps_shape : Scope → ℕ → ℕ → Bool
 keeps_shape scope kind other =

@@ -1,14 +1,15 @@
 -- The error of appending an attribute, by cases.
-use Rattle.std.specs.Prelude.{ℕ, ◌≡◌, true, List, [], ◌∷◌, drop, length, is_none, Option, None, refl}
+use Rattle.std.specs.Prelude.{ℕ, ◌≡◌, ◌==◌, ◌&&◌, ◌||◌, if◌then◌else◌, Bool, true, false, List, [], ◌∷◌, drop, length, is_none, Option, None, refl}
 use Rattle.std.specs.Option.{option_map}
 use Rattle.std.proofs.Common.{ap, sym, ◌∙◌}
 use Rattle.std.proofs.lemmas.Bool.{eq-eqb}
 use Rattle.netlink_packet_core.specs.Numbers.{bytes_be, bytes_le, unsigned}
+use Rattle.netlink_packet_core.specs.Views.{masked}
 use Rattle.netlink_family.specs.Errors.{value_error}
 use Rattle.netlink_family.specs.ErrorLaws.{value_shaped}
 use Rattle.netlink_family.specs.NestLaws.{flat_step}
-use Rattle.netlink_family.specs.Pushing.{added_error, push_error, room_error}
-use Rattle.netlink_family.specs.Shapes.{Row, Scope, fits_kind, has_shape, is_shaped, nest_levels, nest_of, or_first, resolved, shape_in, within}
+use Rattle.netlink_family.specs.Pushing.{added_error, choosers, chooses, is_chosen_by, push_error, room_error, with_chooser}
+use Rattle.netlink_family.specs.Shapes.{Row, Scope, fits_kind, has_shape, has_type, is_shaped, nest_levels, nest_of, or_first, resolved, shape_in, within}
 use Rattle.netlink_family.specs.Values.{is_satisfied, value_bytes, value_shape}
 use Rattle.netlink_family.specs.declared.attribute_error.AttributeError.{AttributeError}
 use Rattle.netlink_family.specs.declared.error.FamilyError.TheVariants.{InvalidAttribute}
@@ -64,3 +65,39 @@ pub no_error_fits : (scope : Scope) (kind : ℕ) (value : List ℕ) → value_er
     → fits_kind scope kind value ≡ true
 no_error_fits scope kind value none =
     sym (value_shaped nest_levels scope 0 0 kind value) ∙ ap (λ (o : Option AttributeError). is_none o) none
+
+-- ---- the kinds that choose a shape
+
+either_chooses : (top : Bool) (s : Shape) (kinds : List ℕ) (later : Bool) (kind : ℕ)
+    → later ≡ has_type kinds (masked kind)
+    → (top && is_chosen_by kind s || later) ≡ has_type (if top then with_chooser s kinds else kinds) (masked kind)
+either_chooses false s kinds later kind is = is
+either_chooses true (shape.Chosen by p) kinds later kind is = ap (λ (b : Bool). by == masked kind || b) is
+either_chooses true shape.Flag kinds later kind is = is
+either_chooses true shape.U8 kinds later kind is = is
+either_chooses true shape.U16 kinds later kind is = is
+either_chooses true shape.U32 kinds later kind is = is
+either_chooses true shape.U64 kinds later kind is = is
+either_chooses true shape.I32 kinds later kind is = is
+either_chooses true shape.I64 kinds later kind is = is
+either_chooses true shape.Be16 kinds later kind is = is
+either_chooses true shape.Be32 kinds later kind is = is
+either_chooses true shape.Be64 kinds later kind is = is
+either_chooses true (shape.ExactLen size) kinds later kind is = is
+either_chooses true shape.Ip kinds later kind is = is
+either_chooses true shape.NulStr kinds later kind is = is
+either_chooses true shape.Str kinds later kind is = is
+either_chooses true (shape.MinLen size) kinds later kind is = is
+either_chooses true (shape.Nested p) kinds later kind is = is
+either_chooses true (shape.HeaderNested size p) kinds later kind is = is
+either_chooses true shape.Bytes kinds later kind is = is
+
+-- a table that gives the kinds that choose need not look through its rows
+pub chooses_by : (rows : List Row) (kind : ℕ) → chooses rows kind ≡ has_type (choosers rows) (masked kind)
+chooses_by [] kind = refl
+chooses_by (row ∷ rows) kind =
+    either_chooses (row.0 == 0) row.3 (choosers rows) (chooses rows kind) kind (chooses_by rows kind)
+
+pub none_choose : (rows : List Row) (kind : ℕ) → choosers rows ≡ [] → false ≡ chooses rows kind
+none_choose rows kind none =
+    sym (chooses_by rows kind ∙ ap (λ (kinds : List ℕ). has_type kinds (masked kind)) none)

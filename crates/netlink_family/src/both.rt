@@ -63,6 +63,13 @@ impl<F: Table, G: Table> Table for Both<F, G> {
         G::fields(message_type)
     }
 
+    fn chooses_shape(message_type: u16, kind: u16) -> bool {
+        if F::has(message_type) {
+            return F::chooses_shape(message_type, kind);
+        }
+        G::chooses_shape(message_type, kind)
+    }
+
     ghost sorted = { λ t. both_sorted (has_type F.types t) (F.rows t) (G.rows t) (F.sorted t) (G.sorted t) };
 }
 
@@ -110,6 +117,10 @@ impl<J: Join> Table for Joined<J> {
 
     fn fields(message_type: u16) -> &'static [Field] {
         J::All::fields(message_type)
+    }
+
+    fn chooses_shape(message_type: u16, kind: u16) -> bool {
+        J::All::chooses_shape(message_type, kind)
     }
 
     ghost sorted = { J.All.sorted };

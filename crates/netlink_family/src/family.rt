@@ -1,10 +1,12 @@
 //! What a family declares.
 
 ghost use Rattle.std.specs.Prelude.{◌≡◌, ℕ, Bool, List, true};
+ghost use Rattle.netlink_family.specs.Pushing.{chooses};
 ghost use Rattle.netlink_family.specs.Shapes.{Field, Row, are_own, fields_in, has_type, rows_in, shape_in, are_sorted};
 ghost use Rattle.netlink_family.specs.Short.{is_short};
 
 use crate::header_view::Field;
+use crate::late::chooses;
 use crate::shape::{Row, Shape, row_shape};
 use std::fmt::Debug;
 
@@ -51,6 +53,14 @@ pub trait Table {
     /// Returns the fields of the fixed header, for the text of a message.
     fn fields(message_type: u16) -> &'static [Field]
         ensures fields { fields_in result.now ≡ fields message_type };
+
+    /// Returns whether a kind chooses the shape of some kind of a message's own attributes. The
+    /// default body looks through the rows; a table may return the answer without them.
+    fn chooses_shape(message_type: u16, kind: u16) -> bool
+        ensures chooses { result ≡ chooses (rows message_type) kind }
+    {
+        chooses(Self::rows(message_type), kind)
+    }
 
     /// The rows are in ascending order of policy, then kind.
     ghost sorted: { (t : ℕ) → are_sorted (rows t) ≡ true };

@@ -7,39 +7,40 @@ ghost use Rattle.netlink_family.specs.Pushing.{added_error, chooses, is_chosen_b
 ghost use Rattle.netlink_family.specs.Shapes.{fits_kind, rows_in, within, are_sorted};
 
 use crate::attribute_error::{AttributeError, Reason, value_error};
+use crate::family::{Table, rows_of};
 use crate::find::first_value;
 use crate::shape::{NEST_LEVELS, Row, Shape, TOP, row_shape};
 use netlink_packet_core::{NLA_TYPE_MASK, NlasIterator};
 
-/// The size of five attributes with values of 4 bytes.
-const FEW: usize = 40;
-
 /// Returns the error of appending an attribute to a block, with the offset counted from the start of
 /// the attribute: that of its value, or else that it would change a shape.
-pub(crate) fn added_error(
-    rows: &[Row],
+pub(crate) fn added_error<F: Table>(
+    message_type: u16,
     block: &[u8],
     kind: u16,
     value: &[u8],
 ) -> Option<AttributeError>
-    requires sorted { are_sorted (rows_in rows.now) ≡ true }
-    ensures error { result ≡ added_error (within (rows_in rows.now) block.now) kind value.now }
-    ensures fits { IfNone result (fits_kind (within (rows_in rows.now) block.now) kind value.now ≡ true) }
-    ensures late { IfNone result (late_error (within (rows_in rows.now) block.now) kind ≡ None) }
+    ensures error { result ≡ added_error (within (F.rows message_type) block.now) kind value.now }
+    ensures fits { IfNone result (fits_kind (within (F.rows message_type) block.now) kind value.now ≡ true) }
+    ensures late { IfNone result (late_error (within (F.rows message_type) block.now) kind ≡ None) }
 {
+    let rows = rows_of::<F>(message_type);
     match value_error(NEST_LEVELS, rows, TOP, block, 0, kind, value) {
         Some(error) => Some(error),
-        None => late_error(rows, block, kind),
+        None => late_error::<F>(message_type, block, kind),
     }
 }
 
 /// Returns the error of appending an attribute of a kind, if it would change its own shape or that
 /// of an attribute before it.
-pub(crate) fn late_error(rows: &[Row], block: &[u8], kind: u16) -> Option<AttributeError>
-    requires sorted { are_sorted (rows_in rows.now) ≡ true }
-    ensures { result ≡ late_error (within (rows_in rows.now) block.now) kind }
+pub(crate) fn late_error<F: Table>(
+    message_type: u16,
+    block: &[u8],
+    kind: u16,
+) -> Option<AttributeError>
+    ensures { result ≡ late_error (within (F.rows message_type) block.now) kind }
 {
-    if is_late(rows, block, kind) {
+    if is_late::<F>(message_type, block, kind) {
         Some(AttributeError {
             offset: 0,
             policy: TOP,
@@ -50,16 +51,12 @@ pub(crate) fn late_error(rows: &[Row], block: &[u8], kind: u16) -> Option<Attrib
     }
 }
 
-/// Returns whether there is this error. A kind that chooses no shape keeps all shapes, so for a few
-/// attributes it is cheaper to look at their shapes alone, and not at the rows.
-fn is_late(rows: &[Row], block: &[u8], kind: u16) -> bool
-    requires sorted { are_sorted (rows_in rows.now) ≡ true }
-    ensures { result ≡ is_late (within (rows_in rows.now) block.now) kind }
+/// Returns whether there is this error.
+#[inline(always)]
+fn is_late<F: Table>(message_type: u16, block: &[u8], kind: u16) -> bool
+    ensures { result ≡ is_late (within (F.rows message_type) block.now) kind }
 {
-    if block.len() < FEW && block.len() < rows.len() {
-        return !keeps_shapes(rows, block, kind);
-    }
-    chooses(rows, kind) && !keeps_shapes(rows, block, kind)
+    F::chooses_shape(message_type, kind) && !keeps_shapes(rows_of::<F>(message_type), block, kind)
 }
 
 /// Returns whether one more attribute of a kind keeps its own shape and those of the attributes of a
@@ -76,7 +73,7 @@ fn keeps_shapes(rows: &[Row], block: &[u8], kind: u16) -> bool
 /// Returns whether a kind chooses the shape of some kind of a message's own attributes. Their rows
 /// are the first ones.
 #[tactic(auto, using(crate::proofs::PolicyRows::none_chooses))]
-fn chooses(rows: &[Row], kind: u16) -> bool
+pub(crate) fn chooses(rows: &[Row], kind: u16) -> bool
     requires sorted { are_sorted (rows_in rows.now) ≡ true }
     ensures { result ≡ chooses (rows_in rows.now) kind }
 {

@@ -11,7 +11,7 @@ ghost use Rattle.netlink_family.specs.Values.{is_satisfied, value_bytes, value_s
 ghost use Rattle.netlink_family.specs.declared.attribute_error.AttributeError.{AttributeError};
 
 use crate::error::FamilyError;
-use crate::family::{Table, rows_of};
+use crate::family::Table;
 use crate::late::{added_error, late_error};
 use crate::owned::{OwnedMessage, header_fits};
 use crate::value::Value;
@@ -45,8 +45,7 @@ impl<F: Table> OwnedMessage<F> {
         ensures unchanged_short { IfErr result (λ _. self.new.short ≡ self.old.short) }
         ensures message_type { self.new.message_type ≡ self.old.message_type }
     {
-        let rows = rows_of::<F>(self.message_type);
-        match added_error(rows, self.block(), kind, value) {
+        match added_error::<F>(self.message_type, self.block(), kind, value) {
             Some(error) => Err(FamilyError::InvalidAttribute(error)),
             None => self.append_attribute(alloc, kind, value),
         }
@@ -73,7 +72,7 @@ impl<F: Table> OwnedMessage<F> {
         ensures message_type { self.new.message_type ≡ self.old.message_type }
     {
         value_fits(self, kind, value);
-        if let Some(error) = late_error(rows_of::<F>(self.message_type), self.block(), kind) {
+        if let Some(error) = late_error::<F>(self.message_type, self.block(), kind) {
             return Err(FamilyError::InvalidAttribute(error));
         }
         match value {

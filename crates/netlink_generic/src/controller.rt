@@ -305,6 +305,11 @@ impl Table for ControllerFamily {
         FIELDS
     }
 
+    #[tactic(auto, using(netlink_family::specs::PushingLaws::none_choose))]
+    fn chooses_shape(_message_type: u16, _kind: u16) -> bool {
+        false
+    }
+
     ghost sorted = { λ _. refl };
 }
 

@@ -177,6 +177,11 @@ impl Table for NeighbourTables {
         FIELDS
     }
 
+    #[tactic(auto, using(netlink_family::specs::PushingLaws::none_choose))]
+    fn chooses_shape(_message_type: u16, _kind: u16) -> bool {
+        false
+    }
+
     ghost sorted = { λ _. refl };
 }
 

@@ -151,6 +151,11 @@ impl Table for Rules {
         FIELDS
     }
 
+    #[tactic(auto, using(netlink_family::specs::PushingLaws::none_choose))]
+    fn chooses_shape(_message_type: u16, _kind: u16) -> bool {
+        false
+    }
+
     ghost sorted = { λ _. refl };
 }
 
