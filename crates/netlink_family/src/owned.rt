@@ -51,7 +51,7 @@ impl<F: Table> OwnedMessage<F> {
         ensures short { IfOk result (λ m. m.short ≡ 0) }
         ensures memory { IfErr result (λ e. e ≡ FamilyError.OutOfMemory) }
     {
-        let bytes = vec![in alloc; 0; F::header_len(message_type)]?;
+        let bytes = zeros(alloc, F::header_len(message_type))?;
         Ok(OwnedMessage {
             message_type,
             bytes,
@@ -208,6 +208,30 @@ impl<F: Table> OwnedMessage<F> {
             family: PhantomData,
         })
     }
+}
+
+/// The bytes for which a new message has room, so that one of few attributes is allocated once.
+const LEAST_ROOM: usize = 64;
+
+/// Returns a header of zeros, with room for a few attributes. One of no bytes is not allocated.
+fn zeros(alloc: Global, size: usize) -> Result<Vec<u8>, AllocError>
+    ensures { IfOk result (λ header. header.items ≡ replicate size 0) }
+{
+    let mut header = Vec::with_capacity(alloc, room_for(size))?;
+    header.resize(size, 0)?;
+    Ok(header)
+}
+
+/// Returns the bytes to allocate for a message with a header of this size.
+#[inline(always)]
+fn room_for(size: usize) -> usize
+    ensures none { size ≡ 0 → result ≡ 0 }
+    ensures enough { size ≤ result }
+{
+    if size == 0 || size > LEAST_ROOM {
+        return size;
+    }
+    LEAST_ROOM
 }
 
 /// Returns the bytes of a payload, with zeros up to a size that is at least its own.
