@@ -1,4 +1,5 @@
 pub mod Checking
+pub mod NestChecking
 pub mod FirstErrors
 pub mod Appending
 pub mod Headers

@@ -235,7 +235,7 @@ by_whole true is a first later rest malformed one more =
     ∙ ap (λ (x : Bool). is a && x) more ∙ sym (all_first is a rest)
 by_whole false is a first later rest malformed one more = refl
 
-first_shaped : (values : ValueError) (is : Attribute → Bool) (policy end most : ℕ) (bytes : List ℕ)
+pub first_shaped : (values : ValueError) (is : Attribute → Bool) (policy end most : ℕ) (bytes : List ℕ)
     → ((at : ℕ) (a : Attribute) → is_none (values at a.kind a.value) ≡ is a)
     → is_none (first_error values policy end most bytes) ≡ all_shaped is (attributes_within most bytes)
 unfolding first_error attributes_within

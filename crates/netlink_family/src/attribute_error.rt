@@ -276,7 +276,7 @@ pub(crate) fn error_in(
 /// hold only one attribute or two, all rows, because finding those of the policy takes longer than
 /// one lookup.
 #[inline(always)]
-fn rows_for<'a>(rows: &'a [Row], policy: u16, block: &[u8]) -> &'a [Row]
+pub(crate) fn rows_for<'a>(rows: &'a [Row], policy: u16, block: &[u8]) -> &'a [Row]
     requires sorted { are_sorted (rows_in rows.now) ≡ true }
     ensures { IsPart policy (rows_in rows.now) (rows_in result.now) }
 {

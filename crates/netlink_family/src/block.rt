@@ -12,9 +12,10 @@ ghost use Rattle.netlink_family.specs.ErrorTexts.{wants_memory};
 ghost use Rattle.netlink_family.specs.Errors.{block_error};
 ghost use Rattle.netlink_family.specs.Shapes.{CachesOther, are_shaped, fits_kind, is_block_shaped, nest_levels, reading_by, rows_in, shape_among, within, are_sorted};
 
-use crate::attribute_error::{AttributeError, error_in, value_error};
-use crate::choice::cached_shape_among;
+use crate::attribute_error::{AttributeError, error_in};
+use crate::choice::{cached_shape_among, shape_among};
 use crate::error::FamilyError;
+use crate::nest::is_shaped;
 use crate::shape::{NEST_LEVELS, Row, Shape, TOP, has_shape, policy_of};
 use netlink_packet_core::{NlasIterator, append_nla, nla_align};
 use std::alloc::{AllocError, Global};
@@ -106,15 +107,15 @@ pub(crate) fn fits_shape(rows: &[Row], block: &[u8], shape: Shape, kind: u16, va
     }
 }
 
-/// The same for a nest. It is a separate function so that other values do not initialize the space
-/// for an error.
+/// The same for a nest. It is a separate function so that the loop over a block stays small.
 #[inline(never)]
 fn fits_nest(rows: &[Row], block: &[u8], kind: u16, value: &[u8]) -> bool
     requires sorted { are_sorted (rows_in rows.now) ≡ true }
     requires fits { length value.now ≤ value_max }
     ensures { result ≡ fits_kind (within (rows_in rows.now) block.now) kind value.now }
 {
-    value_error(NEST_LEVELS, rows, TOP, block, 0, kind, value).is_none()
+    let shape = shape_among(rows, TOP, block, kind);
+    is_shaped(NEST_LEVELS, rows, shape, value)
 }
 
 /// Returns whether the attributes of a walk in a block have the shapes of their kinds, and the walk

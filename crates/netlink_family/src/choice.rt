@@ -48,6 +48,25 @@ pub(crate) fn own_shape_among(
     resolved(rows, block, row_shape(own, policy, kind))
 }
 
+/// The same, with the shape of the kinds without a row kept in `other`.
+#[inline(always)]
+pub(crate) fn cached_own_shape(
+    rows: &[Row],
+    own: &[Row],
+    policy: u16,
+    block: &[u8],
+    kind: u16,
+    other: &mut Option<Shape>,
+) -> Shape
+    requires sorted { are_sorted (rows_in rows.now) ≡ true }
+    requires own { IsPart policy (rows_in rows.now) (rows_in own.now) }
+    requires other { CachesOther (rows_in own.now) policy other.old }
+    ensures shape { result ≡ shape_among (within (rows_in rows.now) block.now) policy kind }
+    ensures other { CachesOther (rows_in own.now) policy other.new }
+{
+    resolved(rows, block, cached_shape(own, policy, kind, other))
+}
+
 /// Like `shape_among`, with the shape of the kinds without a row kept in `other`.
 #[inline(always)]
 pub(crate) fn cached_shape_among(

@@ -20,6 +20,7 @@ mod index_getters;
 mod late;
 pub mod laws;
 mod message_index;
+mod nest;
 mod owned;
 mod push;
 mod shape;
