@@ -162,7 +162,8 @@ impl fmt::Display for AttributeError {
 }
 
 /// Returns the error of the value of the attribute at offset `at` in the block `around`, if it has
-/// one.
+/// one. A value that is no nest and has its shape, as most do, takes no call.
+#[inline(always)]
 pub(crate) fn value_error(
     levels: u8,
     rows: &[Row],
@@ -177,11 +178,34 @@ pub(crate) fn value_error(
     ensures { result ≡ value_error levels (within (rows_in rows.now) around.now) policy at kind value.now }
 {
     let shape = shape_among(rows, policy, around, kind);
+    if !is_fine(shape, value) {
+        return other_error(levels, rows, policy, shape, at, kind, value);
+    }
+    None
+}
+
+/// Like `value_error`, for a caller that has looked up the shape. It is a separate function so that
+/// the callers of `value_error` stay small.
+#[inline(never)]
+fn other_error(
+    levels: u8,
+    rows: &[Row],
+    policy: u16,
+    shape: Shape,
+    at: usize,
+    kind: u16,
+    value: &[u8],
+) -> Option<AttributeError>
+    requires sorted { are_sorted (rows_in rows.now) ≡ true }
+    requires inside { at + 4 + length value.now < 2 ^ 64 }
+    ensures { (around : List ℕ) → shape ≡ shape_among (within (rows_in rows.now) around) policy kind
+        → result ≡ value_error levels (within (rows_in rows.now) around) policy at kind value.now }
+{
     shape_error(levels, rows, policy, shape, at, kind, value)
 }
 
-/// Like `value_error`, for a caller that has looked up the shape. First accepts a value that is no
-/// nest and has its shape, as most do, so that an error is prepared only for the others.
+/// The same, inlined. First accepts a value that is no nest and has its shape, as most do, so that an
+/// error is prepared only for the others.
 #[inline(always)]
 #[cycle(errors)]
 fn shape_error(

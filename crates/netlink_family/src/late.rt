@@ -14,6 +14,7 @@ use netlink_packet_core::{NLA_TYPE_MASK, NlasIterator};
 
 /// Returns the error of appending an attribute to a block, with the offset counted from the start of
 /// the attribute: that of its value, or else that it would change a shape.
+#[inline(always)]
 pub(crate) fn added_error<F: Table>(
     message_type: u16,
     block: &[u8],

@@ -19,7 +19,7 @@ use netlink_packet_core::{
     NLA_BLOCK_MAX, NLA_HEADER_SIZE, NLA_VALUE_MAX, append_nla, emit_i32, emit_i64, emit_u16,
     emit_u16_be, emit_u32, emit_u32_be, emit_u64, emit_u64_be, nla_align,
 };
-use std::alloc::Global;
+use std::alloc::{AllocError, Global};
 
 impl<F: Table> OwnedMessage<F> {
     /// Appends an attribute whose kind is known only at run time, or a nest. A short message becomes
@@ -27,6 +27,7 @@ impl<F: Table> OwnedMessage<F> {
     /// if the value does not have the shape of its kind, or if the attribute would choose its own shape
     /// or that of an attribute before it (`LateChoice`); `TooLong` if the value or the message would be
     /// too long; `OutOfMemory` if the allocation fails. After an error the message is unchanged.
+    #[inline(always)]
     #[tactic(auto, using(crate::specs::PushingLaws::push_by_value, crate::specs::PushingLaws::no_error_fits))]
     pub fn try_push(&mut self, alloc: Global, kind: u16, value: &[u8]) -> Result<(), FamilyError>
         ensures ok { OnOk result
@@ -56,6 +57,7 @@ impl<F: Table> OwnedMessage<F> {
     /// `try_push`. Returns `InvalidAttribute` with `LateChoice` if the attribute would choose the shape
     /// of one before it, `TooLong` if the value or the message would be too long, and `OutOfMemory` if
     /// an allocation fails; the message is then unchanged.
+    #[inline(always)]
     pub fn push(&mut self, alloc: Global, kind: u16, value: Value<'_>) -> Result<(), FamilyError>
         requires shape { shape_in (F.rows self.old.message_type) 0 kind ≡ value_shape value }
         requires satisfied { is_satisfied value ≡ true }
@@ -106,6 +108,7 @@ impl<F: Table> OwnedMessage<F> {
 
     /// Appends an attribute whose value has the shape of its kind, and that does not change other
     /// shapes.
+    #[inline(always)]
     fn append_attribute(
         &mut self,
         alloc: Global,
@@ -130,12 +133,34 @@ impl<F: Table> OwnedMessage<F> {
         if !self.has_room(value) {
             return Err(FamilyError::TooLong);
         }
+        match self.append_fitting(alloc, kind, value) {
+            Ok(()) => Ok(()),
+            Err(_) => Err(FamilyError::OutOfMemory),
+        }
+    }
+
+    /// The same for an attribute that fits in the message. It is a separate function so that each call
+    /// of `push` stays small, and its error is small, so that no space for a large one is written.
+    #[inline(never)]
+    fn append_fitting(&mut self, alloc: Global, kind: u16, value: &[u8]) -> Result<(), AllocError>
+        requires shape { fits_kind (within (F.rows self.old.message_type)
+            (drop (F.header_len self.old.message_type) self.old.bytes.items)) kind value.now ≡ true }
+        requires late { late_error (within (F.rows self.old.message_type)
+            (drop (F.header_len self.old.message_type) self.old.bytes.items)) kind ≡ None }
+        requires room { has_room (F.header_len self.old.message_type) self.old.bytes.items value.now ≡ true }
+        ensures ok { OnOk result
+            (self.new.bytes.items ≡ self.old.bytes.items ++ padded (attribute_with kind value.now)) }
+        ensures unchanged { IfErr result (λ _. self.new.bytes.items ≡ self.old.bytes.items) }
+        ensures whole { OnOk result (self.new.short ≡ 0) }
+        ensures unchanged_short { IfErr result (λ _. self.new.short ≡ self.old.short) }
+        ensures message_type { self.new.message_type ≡ self.old.message_type }
+    {
         match append_nla(alloc, &mut self.bytes, kind, value) {
             Ok(()) => {
                 self.short = 0;
                 Ok(())
             }
-            Err(_) => Err(FamilyError::OutOfMemory),
+            Err(_) => Err(AllocError),
         }
     }
 

@@ -1,12 +1,12 @@
-use Rattle.std.proofs.Common.{◌≡◌, true, ap, rules, ◌∙◌}
+use Rattle.std.proofs.Common.{◌≡◌, true, ap, ◌∙◌}
 use Rattle.netlink_family.specs.Message.{is_canonical_payload}
 use Rattle.netlink_family.specs.Pushing.{has_room}
 use Rattle.netlink_family.proofs.CanonicalPayloads.{either, push_canonical}
-use Rattle.netlink_family.proofs.owned.OwnedMessage.append_attribute.Goals as goal
+use Rattle.netlink_family.proofs.owned.OwnedMessage.append_fitting.Goals as goal
 
 pub invariant_of-self-clause-canonical : goal.invariant_of-self-clause-canonical
 invariant_of-self-clause-canonical g c =
-    let has : has_room (g.F.Table.header_len c.args.self.now.message_type) c.args.self.now.bytes.items c.args.value.now ≡ true = search rules in
+    let has : has_room (g.F.Table.header_len c.args.self.now.message_type) c.args.self.now.bytes.items c.args.value.now ≡ true = c.requires.room in
     either c.append_nla.result _ _
     (is_canonical_payload (g.F.Table.header_len c.args.self.now.message_type) (g.F.Table.rows c.args.self.now.message_type) c.append_nla.new.block.items ≡ true)
     c.append_nla.ensures.ok c.append_nla.ensures.err
