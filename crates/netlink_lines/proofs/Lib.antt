@@ -4,6 +4,7 @@ pub mod Hops
 pub mod Index
 pub mod Joined
 pub mod Layouts
+pub mod Listed
 pub mod Once
 pub mod OncePackets
 pub mod Packets

@@ -5,6 +5,7 @@ use Rattle.std.specs.Net.Text.{ipv4_text}
 use Rattle.netlink_packet_core.specs.Text.{hex_pair}
 use Rattle.std.proofs.lemmas.Fmt.{decimal_nonempty}
 use Rattle.netlink_lines.specs.AddressFlags.{seconds_text}
+use Rattle.netlink_lines.specs.LinkAddress.{ip_size, link_address}
 use Rattle.netlink_lines.specs.LinkParts.{group_text, mode_text}
 use Rattle.netlink_lines.specs.Names.{scope_text, state_text}
 use Rattle.netlink_lines.specs.Parts.{keyed, prefix_end, prefix_of, prefix_text, with_part}
@@ -124,10 +125,8 @@ four_target text bytes size whole four =
 -- ---- links without a name
 
 pub index_more : (text key : List ℕ) (n : ℕ)
-    → with_part text (keyed key (codes "if" ++ decimal n)) ≡ ((separated (codes " ") text key ++ codes " ") ++ codes "if") ++ decimal n
-index_more text key n =
-    keyed_more text key (codes "if" ++ decimal n) (omega arith)
-    ∙ sym (append_assoc (separated (codes " ") text key ++ codes " ") (codes "if") (decimal n))
+    → with_part text (keyed key (codes "if" ++ decimal n)) ≡ (separated (codes " ") text key ++ codes " ") ++ (codes "if" ++ decimal n)
+index_more text key n = keyed_more text key (codes "if" ++ decimal n) (omega arith)
 
 pub four_part : (text bytes : List ℕ) → length bytes ≡ 4
     → with_part text (ip_words bytes) ≡ separated (codes " ") text [] ++ ipv4_text bytes
@@ -167,10 +166,24 @@ pub bytes_more : (text key bytes : List ℕ) → 0 < length bytes
     → with_part text (keyed key (bytes_text bytes)) ≡ (separated (codes " ") text key ++ codes " ") ++ bytes_text bytes
 bytes_more text key bytes some = keyed_more text key (bytes_text bytes) (bytes_some bytes some)
 
+pub bytes_part : (text bytes : List ℕ) → 0 < length bytes
+    → with_part text (bytes_text bytes) ≡ separated (codes " ") text [] ++ bytes_text bytes
+bytes_part text bytes some = part_some text (bytes_text bytes) (bytes_some bytes some)
+
 pub no_bytes : (text key bytes : List ℕ) → length bytes ≡ 0 → with_part text (keyed key (bytes_text bytes)) ≡ text
 unfolding keyed with_part
 no_bytes text key [] none = refl
 no_bytes text key (b ∷ bytes) none = absurd (omega (arith, none))
+
+-- an address of a device that is not there
+chosen_same : (holds : Bool) (xs : List ℕ) → (if holds then xs else xs) ≡ xs
+chosen_same true xs = refl
+chosen_same false xs = refl
+
+pub no_own : (text : List ℕ) (layer : ℕ) (bytes : List ℕ) → length bytes ≡ 0 → with_part text (link_address layer bytes) ≡ text
+unfolding with_part link_address
+no_own text layer [] none = ap (with_part text) (chosen_same (0 == ip_size layer) [])
+no_own text layer (b ∷ bytes) none = absurd (omega (arith, none))
 
 -- ---- names of numbers
 

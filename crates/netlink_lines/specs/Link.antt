@@ -57,6 +57,15 @@ below_words known id (Some index) =
 abbrev pub link_kind : List ℕ → Option (List ℕ)
 link_kind payload = option_map until_nul (found_within (link_bytes payload IFLA_LINKINFO) IFLA_INFO_KIND)
 
+-- the verb, the index, the name and the lower link
+abbrev pub link_names : List Known → ℕ → List ℕ → List ℕ
+link_names known t payload =
+    link_verb_text t
+    ++ (signed_decimal (link_index payload)
+    ++ (codes ": "
+    ++ (link_name (link_index payload) (link_string payload IFLA_IFNAME)
+    ++ below_words known (link_signed payload IFLA_LINK_NETNSID) (link_number payload IFLA_LINK))))
+
 unfoldable pub link_front : List Known → ℕ → List ℕ → List ℕ
 link_front known t payload =
     link_verb_text t

@@ -9,7 +9,7 @@ use crate::digits::push_decimal;
 use crate::name::Name;
 use crate::name_table::{Names, name_of};
 use crate::parts::{push_key, push_keyed, push_named};
-use crate::text::name_text;
+use crate::text::{name_text, push_name};
 use std::alloc::{AllocError, Global};
 
 /// A link whose name is known, for example from a message before.
@@ -46,6 +46,34 @@ pub(crate) fn device_name(
     }
 }
 
+/// Appends the name of a link as `device_text` returns it.
+#[tactic(auto, unfolding(crate::specs::Device::device_text))]
+pub(crate) fn push_device_name(
+    text: &mut String,
+    known: &Names<'_>,
+    index: u32,
+) -> Result<(), AllocError>
+    ensures { OnOk result
+        (string_bytes text.new ≡ string_bytes text.old ++ device_text known.now index) }
+{
+    if index == 0 {
+        return text.push('*');
+    }
+    match name_of(known, index) {
+        Some(name) => push_name(text, name),
+        None => push_index(text, index),
+    }
+}
+
+/// Appends `if` and the index of a link.
+fn push_index(text: &mut String, index: u32) -> Result<(), AllocError>
+    ensures { OnOk result
+        (string_bytes text.new ≡ string_bytes text.old ++ (codes "if" ++ decimal index)) }
+{
+    text.push_str("if")?;
+    push_decimal(text, index)
+}
+
 /// Appends a key and the name of a link, if there is one.
 #[tactic(auto, unfolding(crate::specs::Device::device_text, crate::specs::Parts::keyed, crate::specs::Parts::with_part))]
 pub(crate) fn push_device(
@@ -78,8 +106,7 @@ fn push_unnamed(text: &mut String, key: &str, index: u32) -> Result<(), AllocErr
         ≡ with_part (string_bytes text.old) (keyed key.now (codes "if" ++ decimal index))) }
 {
     push_key(text, key)?;
-    text.push_str("if")?;
-    push_decimal(text, index)
+    push_index(text, index)
 }
 
 /// Returns the name of the first known link with this index.

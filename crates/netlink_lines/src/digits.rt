@@ -1,6 +1,7 @@
 //! Numbers in decimal, written to the end of a text.
 
 ghost use Rattle.std.specs.Prelude.{◌≡◌, ◌<◌, ◌/◌, ◌%◌, ◌+◌, ◌++◌, ◌∷◌, [], OnOk, decimal, string_bytes};
+ghost use Rattle.std.specs.Fmt.{signed_decimal};
 
 use std::alloc::AllocError;
 
@@ -16,6 +17,16 @@ pub(crate) fn push_decimal(text: &mut String, number: u32) -> Result<(), AllocEr
     push_thousands(text, number / 1_000_000)?;
     push_three(text, number / 1000 % 1000)?;
     push_three(text, number % 1000)
+}
+
+/// Appends a signed number in decimal.
+pub(crate) fn push_signed(text: &mut String, number: i32) -> Result<(), AllocError>
+    ensures { OnOk result (string_bytes text.new ≡ string_bytes text.old ++ signed_decimal number) }
+{
+    if number < 0 {
+        text.push('-')?;
+    }
+    push_decimal(text, number.unsigned_abs())
 }
 
 /// Appends a number below a million.

@@ -1,9 +1,9 @@
 //! The flags of a link by their names.
 
-ghost use Rattle.std.specs.Prelude.{◌≡◌, IfOk, OnOk, string_bytes};
+ghost use Rattle.std.specs.Prelude.{◌≡◌, ◌≤◌, ◌++◌, IfOk, OnOk, codes, drop, length, string_bytes, take};
 ghost use Rattle.netlink_lines.specs.Flags.{first_flag, flag_name, flags_text, named_flags, with_flag, with_unnamed};
+ghost use Rattle.netlink_lines.specs.Text.{separated};
 
-use crate::text::push_separated;
 use std::alloc::{AllocError, Global};
 
 const IFF_UP: u32 = 0x1;
@@ -21,14 +21,23 @@ const ORDER: [u32; 18] = [
 
 /// The names of the flags that are set, with commas between them. `NO-CARRIER` stands first where
 /// the link is up and not running, and the bits without a name last, as one hexadecimal number. Returns `AllocError` if an allocation fails.
-#[tactic(auto, unfolding(crate::specs::Flags::flags_text))]
 pub fn flags_text(alloc: Global, flags: u32) -> Result<String, AllocError>
     ensures { IfOk result (λ text. string_bytes text ≡ flags_text flags) }
 {
-    let mut text = String::from_str(alloc, first_flag(flags))?;
-    push_flags(&mut text, flags)?;
-    push_unnamed(alloc, &mut text, flags & UNNAMED)?;
+    let mut text = String::new(alloc);
+    push_flags(alloc, &mut text, flags)?;
     Ok(text)
+}
+
+/// Appends the names of the flags that are set, as `flags_text` returns them.
+#[tactic(auto, using(crate::proofs::Listed::cut_front, crate::proofs::Listed::cut_rest, crate::proofs::Listed::still_room), unfolding(crate::specs::Flags::flags_text))]
+pub(crate) fn push_flags(alloc: Global, text: &mut String, flags: u32) -> Result<(), AllocError>
+    ensures { OnOk result (string_bytes text.new ≡ string_bytes text.old ++ flags_text flags) }
+{
+    let start = text.len();
+    text.push_str(first_flag(flags))?;
+    push_named(text, start, flags)?;
+    push_unnamed(alloc, text, start, flags & UNNAMED)
 }
 
 /// `NO-CARRIER` where a link is up and not running.
@@ -42,26 +51,43 @@ fn first_flag(flags: u32) -> &'static str
     }
 }
 
-/// Adds the names of the flags that are set.
-#[tactic(auto, unfolding(crate::specs::Flags::named_flags))]
-fn push_flags(text: &mut String, flags: u32) -> Result<(), AllocError>
-    ensures { OnOk result (string_bytes text.new ≡ named_flags flags (string_bytes text.old)) }
+/// Adds the names of the flags that are set to a list that starts at an offset of the text.
+#[tactic(auto, using(crate::proofs::Listed::still_room), unfolding(crate::specs::Flags::named_flags))]
+fn push_named(text: &mut String, start: usize, flags: u32) -> Result<(), AllocError>
+    requires room { start ≤ length (string_bytes text.old) }
+    ensures { OnOk result (string_bytes text.new
+        ≡ take start (string_bytes text.old) ++ named_flags flags (drop start (string_bytes text.old))) }
 {
     for bit in ORDER {
-        push_flag(text, flags, bit)?;
+        push_flag(text, start, flags, bit)?;
     }
     Ok(())
 }
 
 /// Adds the name of a flag where it is set.
-fn push_flag(text: &mut String, flags: u32, bit: u32) -> Result<(), AllocError>
-    ensures { OnOk result
-        (string_bytes text.new ≡ with_flag flags (string_bytes text.old) bit) }
+#[tactic(auto, using(crate::proofs::Listed::none_more))]
+fn push_flag(text: &mut String, start: usize, flags: u32, bit: u32) -> Result<(), AllocError>
+    requires room { start ≤ length (string_bytes text.old) }
+    ensures { OnOk result (string_bytes text.new
+        ≡ take start (string_bytes text.old) ++ with_flag flags (drop start (string_bytes text.old)) bit) }
 {
     if flags & bit == 0 {
         return Ok(());
     }
-    push_separated(text, ",", flag_name(bit))
+    push_listed(text, start, flag_name(bit))
+}
+
+/// Adds a word, after a comma unless the text ends at the offset at which the list starts.
+#[tactic(auto, using(crate::proofs::Listed::first_more, crate::proofs::Listed::next_more))]
+fn push_listed(text: &mut String, start: usize, word: &str) -> Result<(), AllocError>
+    requires room { start ≤ length (string_bytes text.old) }
+    ensures { OnOk result (string_bytes text.new ≡ take start (string_bytes text.old)
+        ++ separated (codes ",") (drop start (string_bytes text.old)) word.now) }
+{
+    if text.len() > start {
+        text.push(',')?;
+    }
+    text.push_str(word)
 }
 
 /// The name of a flag (`IFF_*` of linux/if.h); nothing for other numbers.
@@ -93,11 +119,14 @@ fn flag_name(bit: u32) -> &'static str
 }
 
 /// Adds the bits without a name.
-fn push_unnamed(alloc: Global, text: &mut String, rest: u32) -> Result<(), AllocError>
-    ensures { OnOk result (string_bytes text.new ≡ with_unnamed rest (string_bytes text.old)) }
+#[tactic(auto, using(crate::proofs::Listed::none_more))]
+fn push_unnamed(alloc: Global, text: &mut String, start: usize, rest: u32) -> Result<(), AllocError>
+    requires room { start ≤ length (string_bytes text.old) }
+    ensures { OnOk result (string_bytes text.new
+        ≡ take start (string_bytes text.old) ++ with_unnamed rest (drop start (string_bytes text.old))) }
 {
     if rest == 0 {
         return Ok(());
     }
-    push_separated(text, ",", format!(in alloc; "{rest:x}")?.as_str())
+    push_listed(text, start, format!(in alloc; "{rest:x}")?.as_str())
 }

@@ -1,19 +1,20 @@
 //! The line of a link.
 
-ghost use Rattle.std.specs.Prelude.{◌≡◌, IfOk, string_bytes};
+ghost use Rattle.std.specs.Prelude.{◌≡◌, ◌++◌, IfOk, OnOk, string_bytes};
 ghost use Rattle.std.specs.Option.{option_copied};
 ghost use Rattle.netlink_route.specs.declared.links.TheConstants.{IFLA_IFNAME, IFLA_LINK, IFLA_LINK_NETNSID};
-ghost use Rattle.netlink_lines.specs.Link.{below_name, below_words, link_front, link_kind, link_line, link_name, link_number, link_signed, link_string};
+ghost use Rattle.netlink_lines.specs.Link.{below_name, below_words, link_front, link_kind, link_line, link_name, link_names, link_number, link_signed, link_string};
 ghost use Rattle.netlink_lines.specs.Names.{link_verb_text};
 
-use crate::device::{Known, device_name, device_text};
-use crate::flags::flags_text;
+use crate::device::{Known, push_device_name};
+use crate::digits::push_signed;
+use crate::flags::push_flags;
 use crate::link_address::push_hardware;
 use crate::link_names::{push_alternatives, push_spaces};
 use crate::link_parts::push_settings;
 use crate::name_table::Names;
 use crate::parts::{push_string, push_words};
-use crate::text::name_text;
+use crate::text::push_name;
 use netlink_family::{MessageIndex, MessageView};
 use netlink_route::Links;
 use netlink_route::links::{
@@ -84,14 +85,29 @@ fn front_text(
     ensures { IfOk result (λ text. string_bytes text
         ≡ link_front known.now link.now.message.message_type link.now.message.payload.now) }
 {
-    let verb = verb_text(link.message.message_type);
-    let index = link.header().i32(IFI_INDEX);
-    let name = link_name(alloc, index, link)?;
-    let below = below_words(alloc, known, link)?;
-    let flags = flags_text(alloc, link.header().u32(IFI_FLAGS))?;
     let mut text = String::with_capacity(alloc, USUAL)?;
-    write!(text, "{verb}{index}: {name}{below}: <{flags}>")?;
+    push_names(&mut text, known, link)?;
+    text.push_str(": <")?;
+    push_flags(alloc, &mut text, link.header().u32(IFI_FLAGS))?;
+    text.push('>')?;
     Ok(text)
+}
+
+/// Appends the verb, the index, the name and the lower link.
+fn push_names(
+    text: &mut String,
+    known: &Names<'_>,
+    link: &MessageIndex<'_, Links>,
+) -> Result<(), AllocError>
+    ensures { OnOk result (string_bytes text.new ≡ string_bytes text.old
+        ++ link_names known.now link.now.message.message_type link.now.message.payload.now) }
+{
+    let index = link.header().i32(IFI_INDEX);
+    text.push_str(verb_text(link.message.message_type))?;
+    push_signed(text, index)?;
+    text.push_str(": ")?;
+    push_own_name(text, index, link)?;
+    push_below(text, known, link)
 }
 
 /// Returns the verb of a message type.
@@ -106,53 +122,57 @@ fn verb_text(message_type: u16) -> &'static str
     }
 }
 
-/// Returns the name of a link, or `if` and its index if it has none.
-fn link_name(
-    alloc: Global,
+/// Appends the name of a link, or `if` and its index if it has none.
+fn push_own_name(
+    text: &mut String,
     index: i32,
     link: &MessageIndex<'_, Links>,
-) -> Result<String, AllocError>
-    ensures { IfOk result (λ text. string_bytes text
-        ≡ link_name index (link_string link.now.message.payload.now IFLA_IFNAME)) }
+) -> Result<(), AllocError>
+    ensures { OnOk result (string_bytes text.new ≡ string_bytes text.old
+        ++ link_name index (link_string link.now.message.payload.now IFLA_IFNAME)) }
 {
     match link.view().str_bytes(IFLA_IFNAME) {
-        Some(name) => name_text(alloc, name),
-        None => format!(in alloc; "if{index}"),
+        Some(name) => push_name(text, name),
+        None => {
+            text.push_str("if")?;
+            push_signed(text, index)
+        }
     }
 }
 
-/// Returns the lower link.
-fn below_words(
-    alloc: Global,
+/// Appends the lower link.
+fn push_below(
+    text: &mut String,
     known: &Names<'_>,
     link: &MessageIndex<'_, Links>,
-) -> Result<String, AllocError>
-    ensures { IfOk result (λ text. string_bytes text ≡ below_words known.now
+) -> Result<(), AllocError>
+    ensures { OnOk result (string_bytes text.new ≡ string_bytes text.old ++ below_words known.now
         (link_signed link.now.message.payload.now IFLA_LINK_NETNSID) (link_number link.now.message.payload.now IFLA_LINK)) }
 {
     match link.view().u32(IFLA_LINK) {
-        Some(0) => String::from_str(alloc, "@NONE"),
+        Some(0) => text.push_str("@NONE"),
         Some(index) => {
-            let name = below_name(alloc, known, link.view().i32(IFLA_LINK_NETNSID), index)?;
-            format!(in alloc; "@{name}")
+            text.push('@')?;
+            push_below_name(text, known, link.view().i32(IFLA_LINK_NETNSID), index)
         }
-        None => Ok(String::new(alloc)),
+        None => Ok(()),
     }
 }
 
-/// Returns the name of a lower link. One in another network namespace, which has an id here, is not
+/// Appends the name of a lower link. One in another network namespace, which has an id here, is not
 /// among the known links.
-fn below_name(
-    alloc: Global,
+fn push_below_name(
+    text: &mut String,
     known: &Names<'_>,
     namespace: Option<i32>,
     index: u32,
-) -> Result<String, AllocError>
-    ensures { IfOk result (λ text. string_bytes text ≡ below_name known.now namespace index) }
+) -> Result<(), AllocError>
+    ensures { OnOk result
+        (string_bytes text.new ≡ string_bytes text.old ++ below_name known.now namespace index) }
 {
     match namespace {
-        Some(_) => device_text(alloc, &[], index),
-        None => device_name(alloc, known, index),
+        Some(_) => push_device_name(text, &Names::of(&[]), index),
+        None => push_device_name(text, known, index),
     }
 }
 

@@ -1,15 +1,16 @@
 //! The type of a device and its addresses.
 
-ghost use Rattle.std.specs.Prelude.{◌≡◌, ◌++◌, IfOk, OnOk, codes, string_bytes};
+ghost use Rattle.std.specs.Prelude.{◌≡◌, ◌++◌, OnOk, codes, string_bytes};
 ghost use Rattle.netlink_lines.specs.LinkAddress.{broadcast_key, hardware_parts, ip_size, link_address, link_own, permanent_part};
 ghost use Rattle.netlink_lines.specs.Hardware.{hardware_text};
-ghost use Rattle.netlink_lines.specs.Parts.{with_part, with_parts};
+ghost use Rattle.netlink_lines.specs.Parts.{keyed, with_part, with_parts};
 ghost use Rattle.netlink_route.specs.declared.links.TheConstants.{IFLA_ADDRESS, IFLA_BROADCAST, IFLA_PERM_ADDRESS};
 
 use crate::address::or_empty;
 use crate::hardware::push_type;
-use crate::parts::{push_keyed, push_part};
-use crate::text::{bytes_text, ip_words};
+use crate::parts;
+use crate::parts::{push_address, push_ip, push_part, push_space};
+use crate::text::push_colons;
 use netlink_family::MessageIndex;
 use netlink_route::Links;
 use netlink_route::links::{IFI_FLAGS, IFI_TYPE, IFLA_ADDRESS, IFLA_BROADCAST, IFLA_PERM_ADDRESS};
@@ -30,13 +31,9 @@ pub(crate) fn push_hardware(
 {
     let layer = link.header().u16(IFI_TYPE);
     push_layer(text, layer)?;
-    push_part(text, link_address(alloc, layer, own_of(link))?.as_str())?;
-    let broadcast = link_address(alloc, layer, broadcast_of(link))?;
-    push_keyed(
-        text,
-        broadcast_key(link.header().u32(IFI_FLAGS)),
-        broadcast.as_str(),
-    )?;
+    push_own(alloc, text, layer, own_of(link))?;
+    let key = broadcast_key(link.header().u32(IFI_FLAGS));
+    push_keyed_address(alloc, text, layer, key, broadcast_of(link))?;
     push_permanent(alloc, text, layer, own_of(link), permanent_of(link))
 }
 
@@ -82,15 +79,38 @@ fn broadcast_key(flags: u32) -> &'static str
     }
 }
 
-/// Returns an address of a device: that of a tunnel as an IP address, and any other in hexadecimal.
-#[tactic(auto, unfolding(crate::specs::LinkAddress::link_address))]
-fn link_address(alloc: Global, layer: u16, bytes: &[u8]) -> Result<String, AllocError>
-    ensures { IfOk result (λ text. string_bytes text ≡ link_address layer bytes.now) }
+/// Appends the address of a device: that of a tunnel as an IP address, and any other in hexadecimal.
+#[tactic(auto, using(crate::proofs::Pieces::bytes_part), unfolding(crate::specs::LinkAddress::link_address))]
+fn push_own(alloc: Global, text: &mut String, layer: u16, bytes: &[u8]) -> Result<(), AllocError>
+    ensures { OnOk result (string_bytes text.new
+        ≡ with_part (string_bytes text.old) (link_address layer bytes.now)) }
 {
     if bytes.len() == ip_size(layer) {
-        return ip_words(alloc, bytes);
+        return push_ip(alloc, text, bytes);
     }
-    bytes_text(alloc, bytes)
+    if bytes.is_empty() {
+        return Ok(());
+    }
+    push_space(text)?;
+    push_colons(text, bytes)
+}
+
+/// Appends a key and an address of a device in the same form, unless the address is empty.
+#[tactic(auto, unfolding(crate::specs::LinkAddress::link_address))]
+fn push_keyed_address(
+    alloc: Global,
+    text: &mut String,
+    layer: u16,
+    key: &str,
+    bytes: &[u8],
+) -> Result<(), AllocError>
+    ensures { OnOk result (string_bytes text.new
+        ≡ with_part (string_bytes text.old) (keyed key.now (link_address layer bytes.now))) }
+{
+    if bytes.len() == ip_size(layer) {
+        return push_address(alloc, text, key, bytes);
+    }
+    parts::push_hardware(text, key, bytes)
 }
 
 /// Returns the size of the IP addresses of a type of tunnel (`ARPHRD_*` of linux/if_arp.h); 0 for
@@ -124,9 +144,5 @@ fn push_permanent(
     if permanent == own {
         return Ok(());
     }
-    push_keyed(
-        text,
-        "permaddr",
-        link_address(alloc, layer, permanent)?.as_str(),
-    )
+    push_keyed_address(alloc, text, layer, "permaddr", permanent)
 }

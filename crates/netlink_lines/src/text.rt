@@ -24,16 +24,7 @@ pub(crate) fn push_separated(
     text.push_str(word)
 }
 
-/// Returns bytes as two hexadecimal digits each, in lower case, separated by colons.
-pub(crate) fn bytes_text(alloc: Global, bytes: &[u8]) -> Result<String, AllocError>
-    ensures { IfOk result (λ text. string_bytes text ≡ bytes_text bytes.now) }
-{
-    let mut text = String::with_capacity(alloc, bytes.len().saturating_mul(3))?;
-    push_colons(&mut text, bytes)?;
-    Ok(text)
-}
-
-/// Appends bytes as `bytes_text` returns them.
+/// Appends bytes as two hexadecimal digits each, in lower case, separated by colons.
 pub(crate) fn push_colons(text: &mut String, bytes: &[u8]) -> Result<(), AllocError>
     ensures { OnOk result (string_bytes text.new ≡ string_bytes text.old ++ bytes_text bytes.now) }
 {
