@@ -12,7 +12,7 @@ ghost use Rattle.netlink_lines.specs.RouteMetrics.{IsMetrics, control_part, deci
 
 use crate::parts::push_part;
 use crate::text::sentence_text;
-use netlink_family::{BlockView, MessageIndex, Table};
+use netlink_family::{BlockIndex, MessageIndex, Table};
 use netlink_route::Routes;
 use netlink_route::routes::{
     RTA_METRICS, RTAX_CC_ALGO, RTAX_FEATURES, RTAX_HOPLIMIT, RTAX_LOCK, RTAX_RTO_MIN, RTAX_RTT,
@@ -36,15 +36,15 @@ pub(crate) fn push_metrics(
 {
     match route.view().nest(RTA_METRICS) {
         None => Ok(()),
-        Some(metrics) => push_part(text, nest_text(alloc, &metrics)?.as_str()),
+        Some(metrics) => push_part(text, nest_text(alloc, &metrics.indexed())?.as_str()),
     }
 }
 
-/// Returns the metrics of a nest.
+/// Returns the metrics of a nest, found by their places, since each of 16 kinds is asked for.
 #[tactic(auto, unfolding(crate::specs::RouteMetrics::nest_text))]
-fn nest_text(alloc: Global, metrics: &BlockView<'_>) -> Result<String, AllocError>
-    requires { IsMetrics (⟦<Routes as Table>⟧.rows 24) metrics.now }
-    ensures { IfOk result (λ text. string_bytes text ≡ nest_text metrics.now.block.now) }
+fn nest_text(alloc: Global, metrics: &BlockIndex<'_>) -> Result<String, AllocError>
+    requires { IsMetrics (⟦<Routes as Table>⟧.rows 24) metrics.now.view }
+    ensures { IfOk result (λ text. string_bytes text ≡ nest_text metrics.now.view.block.now) }
 {
     let mut text = String::new(alloc);
     for kind in KINDS {
@@ -55,10 +55,10 @@ fn nest_text(alloc: Global, metrics: &BlockView<'_>) -> Result<String, AllocErro
 
 /// Returns a metric, if it is there or locked.
 #[tactic(auto, unfolding(crate::specs::RouteMetrics::metric_of))]
-fn metric_text(alloc: Global, metrics: &BlockView<'_>, kind: u16) -> Result<String, AllocError>
-    requires view { IsMetrics (⟦<Routes as Table>⟧.rows 24) metrics.now }
+fn metric_text(alloc: Global, metrics: &BlockIndex<'_>, kind: u16) -> Result<String, AllocError>
+    requires view { IsMetrics (⟦<Routes as Table>⟧.rows 24) metrics.now.view }
     requires kind { has_type metric_kinds kind ≡ true }
-    ensures { IfOk result (λ text. string_bytes text ≡ metric_of metrics.now.block.now kind) }
+    ensures { IfOk result (λ text. string_bytes text ≡ metric_of metrics.now.view.block.now kind) }
 {
     let locked = has_lock(metrics, kind);
     if kind == RTAX_CC_ALGO {
@@ -68,27 +68,27 @@ fn metric_text(alloc: Global, metrics: &BlockView<'_>, kind: u16) -> Result<Stri
 }
 
 /// Returns whether a kind is locked in a nest.
-fn has_lock(metrics: &BlockView<'_>, kind: u16) -> bool
-    requires { IsMetrics (⟦<Routes as Table>⟧.rows 24) metrics.now }
-    ensures { result ≡ has_lock metrics.now.block.now kind }
+fn has_lock(metrics: &BlockIndex<'_>, kind: u16) -> bool
+    requires { IsMetrics (⟦<Routes as Table>⟧.rows 24) metrics.now.view }
+    ensures { result ≡ has_lock metrics.now.view.block.now kind }
 {
     is_locked(metrics.u32(RTAX_LOCK), kind)
 }
 
 /// Returns the name of the congestion control in a nest.
-fn control_of<'a>(metrics: &BlockView<'a>) -> Option<&'a [u8]>
-    requires { IsMetrics (⟦<Routes as Table>⟧.rows 24) metrics.now }
-    ensures { option_copied result ≡ option_map until_nul (found_in metrics.now.block.now RTAX_CC_ALGO) }
+fn control_of<'a>(metrics: &BlockIndex<'a>) -> Option<&'a [u8]>
+    requires { IsMetrics (⟦<Routes as Table>⟧.rows 24) metrics.now.view }
+    ensures { option_copied result ≡ option_map until_nul (found_in metrics.now.view.block.now RTAX_CC_ALGO) }
 {
     metrics.str_bytes(RTAX_CC_ALGO)
 }
 
 /// Returns the value of any other metric in a nest.
-fn number_of(metrics: &BlockView<'_>, kind: u16) -> Option<u32>
-    requires view { IsMetrics (⟦<Routes as Table>⟧.rows 24) metrics.now }
+fn number_of(metrics: &BlockIndex<'_>, kind: u16) -> Option<u32>
+    requires view { IsMetrics (⟦<Routes as Table>⟧.rows 24) metrics.now.view }
     requires kind { has_type metric_kinds kind ≡ true }
     requires other { kind ≢ RTAX_CC_ALGO }
-    ensures { result ≡ option_map number_le (found_in metrics.now.block.now kind) }
+    ensures { result ≡ option_map number_le (found_in metrics.now.view.block.now kind) }
 {
     metrics.u32(kind)
 }

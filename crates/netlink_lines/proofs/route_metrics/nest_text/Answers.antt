@@ -6,7 +6,7 @@ use Rattle.netlink_lines.proofs.route_metrics.nest_text.Goals as goal
 
 pub loop-kind-preserved : goal.loop-kind-preserved
 loop-kind-preserved c =
-    let nest : List ℕ = c.args.metrics.now.block.now in
+    let nest : List ℕ = c.args.metrics.now.view.block.now in
     let i : ℕ = c.loop-kind.kind-index in
     let part : c.as_str.result.now ≡ metric_of nest (get_or metric_kinds i 0) = search rules in
     c.in_ok-push_part.ensures

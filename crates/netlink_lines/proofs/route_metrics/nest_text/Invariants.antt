@@ -5,4 +5,4 @@ use Rattle.netlink_lines.proofs.route_metrics.nest_text.Given as goal
 
 -- the metrics so far are written
 abbrev pub invariant-loop-kind : goal.invariant-loop-kind
-invariant-loop-kind l = string_bytes l.text ≡ fold (with_metric l.metrics.block.now) [] (take l.kind-index metric_kinds)
+invariant-loop-kind l = string_bytes l.text ≡ fold (with_metric l.metrics.view.block.now) [] (take l.kind-index metric_kinds)
