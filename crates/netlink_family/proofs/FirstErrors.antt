@@ -1,14 +1,14 @@
 -- The invariant of the loop that looks for the first error of a block.
-use Rattle.std.proofs.Common.{◌≡◌, ◌≢◌, ℕ, ◌-◌, ◌≤◌, List, [], length, refl, sym, ap, ◌∙◌, arith, Option, Some, None, Bool, true, false}
-use Rattle.std.specs.Prelude.{is_none, is_some, not}
+use Rattle.std.proofs.Common.{◌≡◌, ◌≢◌, ℕ, ◌-◌, ◌≤◌, List, [], length, refl, sym, ap, ◌∙◌, arith, Option, Some, None, true, false}
+use Rattle.std.specs.Prelude.{is_none, is_some}
 use Rattle.netlink_packet_core.specs.Attribute.{Attribute}
 use Rattle.netlink_packet_core.specs.DecodeError.{DecodeError}
 use Rattle.netlink_packet_core.specs.StartLaws.{starts-length}
 use Rattle.netlink_packet_core.specs.Views.{attribute_of, length_field}
 use Rattle.netlink_packet_core.specs.Walk.{IsFault, Starts}
-use Rattle.netlink_family.specs.ErrorLaws.{left_after_start, error_malformed, error_nothing, error_step, value_shaped}
+use Rattle.netlink_family.specs.ErrorLaws.{left_after_start, error_malformed, error_nothing, error_step}
 use Rattle.netlink_family.specs.Errors.{decode_reason, error_at, error_in, left_after, value_error}
-use Rattle.netlink_family.specs.Shapes.{Scope, is_shaped, or_first, shape_among}
+use Rattle.netlink_family.specs.Shapes.{Scope, or_first}
 use Rattle.netlink_family.specs.declared.attribute_error.AttributeError.{AttributeError}
 
 -- the invariant: the attributes before the rest have no error, and `left` is the length of the rest
@@ -81,18 +81,3 @@ is_nothing (Some x) is = absurd (cc)
 pub first_found : {T : Type 0} (o later : Option T) → is_some o ≡ true → or_first o later ≡ o
 first_found None later is = absurd (cc)
 first_found (Some x) later is = refl
-
-pub none_by_not_some : {T : Type 0} (o : Option T) (b : Bool) → is_some o ≡ not b → b ≡ is_none o
-none_by_not_some None true is = refl
-none_by_not_some None false is = absurd (cc)
-none_by_not_some (Some x) true is = absurd (cc)
-none_by_not_some (Some x) false is = refl
-
--- a value has its shape if and only if no error was found
-pub shaped_by : (levels : ℕ) (scope names : Scope) (policy at kind : ℕ) (value : List ℕ) (found : Option AttributeError)
-    → names ≡ scope → found ≡ value_error levels names policy at kind value
-    → is_none found ≡ is_shaped levels scope.0 (shape_among scope policy kind) value
-shaped_by levels scope names policy at kind value found same finds =
-    ap (λ (o : Option AttributeError). is_none o) finds
-    ∙ ap (λ (r : Scope). is_none (value_error levels r policy at kind value)) same
-    ∙ value_shaped levels scope policy at kind value

@@ -3,7 +3,7 @@ use Rattle.std.proofs.Common.{◌≡◌, ◌≢◌, ◌==◌, ◌∙◌, ℕ, �
 use Rattle.std.proofs.lemmas.List.{drop-drop}
 use Rattle.netlink_packet_core.specs.Views.{attribute_of, masked}
 use Rattle.netlink_family.specs.FindingLaws.{first_later}
-use Rattle.netlink_family.specs.Index.{IsFirstAt, IsPlace}
+use Rattle.netlink_family.specs.Index.{IsFirstAt, IsPlaceOfKind}
 use Rattle.netlink_family.specs.Listing.{first_of, listed}
 use Rattle.netlink_family.specs.ShowLaws.{before_step}
 use Rattle.netlink_family.specs.Whole.{IsWhole}
@@ -41,7 +41,7 @@ bool_differ b p q = cc
 
 -- an entry keeps what the places say
 by_tests : (block : List ℕ) (at end kind own old new : ℕ) → Entered block at end kind own old new
-    → IsPlace block (drop at block) kind old → 0 < new → (none same : Bool) → (old == 0) ≡ none
+    → IsPlaceOfKind block (drop at block) kind old → 0 < new → (none same : Bool) → (old == 0) ≡ none
     → (kind == own) ≡ same → IsFirstAt block kind (4 * (new - 1))
 by_tests block at end kind own old new e place some true true none same =
     let zero : old ≡ 0 = eqb-true old 0 none in
@@ -70,7 +70,7 @@ was_none : (old new : ℕ) → (0 < old → new ≡ old) → new ≡ 0 → old �
 was_none old new kept none = grind arith
 
 pub place_next : (block : List ℕ) (at end kind own old new : ℕ) → Entered block at end kind own old new
-    → IsPlace block (drop at block) kind old → IsPlace block (drop (at + end) block) kind new
+    → IsPlaceOfKind block (drop at block) kind old → IsPlaceOfKind block (drop (at + end) block) kind new
 place_next block at end kind own old new e place = (
   λ none. let zero = was_none old new e.kept none in
       place.0 zero ∙ first_passed block at end kind own e.next e.is (not_own block at end kind own old new e none zero),

@@ -10,10 +10,10 @@ IsFirstAt block kind at =
 
 -- a place is 0 if no attribute before the rest has the kind; else it is 1 more than a quarter of the
 -- offset of the first that has it
-abbrev pub IsPlace : List ℕ → List ℕ → ℕ → ℕ → Type 0
-IsPlace block rest kind place =
+abbrev pub IsPlaceOfKind : List ℕ → List ℕ → ℕ → ℕ → Type 0
+IsPlaceOfKind block rest kind place =
     (place ≡ 0 → first_of kind (listed block) ≡ first_of kind (listed rest)) × (0 < place → IsFirstAt block kind (4 * (place - 1)))
 
 -- the places of all kinds
 abbrev pub ArePlaces : List ℕ → List ℕ → List ℕ → Type 0
-ArePlaces block rest places = (kind : ℕ) → kind < 64 → IsPlace block rest kind (slice_index places kind)
+ArePlaces block rest places = (kind : ℕ) → kind < 64 → IsPlaceOfKind block rest kind (slice_index places kind)

@@ -15,15 +15,15 @@ use crate::getters::are_shaped;
 use crate::shape::Shape;
 use netlink_packet_core::{NlaBuffer, nla_align};
 
-/// The kinds that have a place.
+/// Kinds below this have a place.
 const KINDS: usize = 64;
 
 /// The offsets that a place can stand for are below this.
 const REACH: usize = 4 * 65535;
 
 /// A view of a block of attributes, with the place of the first attribute of each kind below 64, so
-/// that a getter does not walk the block. It is made in one pass by `BlockView::indexed`, and pays
-/// from about four getters on. Nothing allocates.
+/// that a getter does not walk the block. `BlockView::indexed` makes it in one pass, which pays off
+/// from about four getters on. Does not allocate.
 #[derive(Debug, Drop)]
 pub struct BlockIndex<'a> {
     /// The block.

@@ -19,8 +19,8 @@ pub(crate) fn shape_among(rows: &[Row], policy: u16, block: &[u8], kind: u16) ->
     resolved(rows, block, row_shape(rows, policy, kind))
 }
 
-/// Returns the shape of a kind in a policy, in any block, if the row of the kind is found without a
-/// search and its shape is not chosen by a value.
+/// Returns the shape of a kind in a policy if its row is found without a search and no value chooses
+/// it.
 #[inline(always)]
 pub(crate) fn near_shape(rows: &[Row], policy: u16, kind: u16) -> Option<Shape>
     requires sorted { are_sorted (rows_in rows.now) ≡ true }

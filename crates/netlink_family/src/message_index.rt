@@ -9,8 +9,8 @@ use crate::family::Table;
 use crate::header_view::HeaderView;
 use crate::view::MessageView;
 
-/// A view of a message, with the place of the first attribute of each kind below 64. It pays for a
-/// message of which more than a few attributes are wanted. Nothing allocates.
+/// A view of a message, with the place of the first attribute of each kind below 64. It pays off
+/// for a message of which more than a few attributes are wanted. Does not allocate.
 #[derive(Debug, Drop)]
 pub struct MessageIndex<'a, F: Table> {
     /// The message.

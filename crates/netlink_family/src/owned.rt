@@ -210,10 +210,11 @@ impl<F: Table> OwnedMessage<F> {
     }
 }
 
-/// The bytes for which a new message has room, so that one of few attributes is allocated once.
+/// The least room, in bytes, for a message with a header, so that its first few attributes need no
+/// second allocation.
 const LEAST_ROOM: usize = 64;
 
-/// Returns a header of zeros, with room for a few attributes. One of no bytes is not allocated.
+/// Returns a header of zeros, with room for a few attributes. Does not allocate for an empty header.
 fn zeros(alloc: Global, size: usize) -> Result<Vec<u8>, AllocError>
     ensures { IfOk result (λ header. header.items ≡ replicate size 0) }
 {
@@ -226,7 +227,8 @@ fn zeros(alloc: Global, size: usize) -> Result<Vec<u8>, AllocError>
 #[inline(always)]
 fn room_for(size: usize) -> usize
     ensures none { size ≡ 0 → result ≡ 0 }
-    ensures enough { size ≤ result }
+    ensures least { 0 < size → size ≤ 64 → result ≡ 64 }
+    ensures long { 64 < size → result ≡ size }
 {
     if size == 0 || size > LEAST_ROOM {
         return size;

@@ -77,7 +77,7 @@ fn push_flag(text: &mut String, start: usize, flags: u32, bit: u32) -> Result<()
     push_listed(text, start, flag_name(bit))
 }
 
-/// Adds a word, after a comma unless the text ends at the offset at which the list starts.
+/// Adds a word to the list that starts at an offset, after a comma unless the list is empty.
 #[tactic(auto, using(crate::proofs::Listed::first_more, crate::proofs::Listed::next_more))]
 fn push_listed(text: &mut String, start: usize, word: &str) -> Result<(), AllocError>
     requires room { start ≤ length (string_bytes text.old) }

@@ -1,6 +1,6 @@
 //! Writing trees as bytes.
 
-ghost use Rattle.std.specs.Prelude.{◌≡◌, ◌+◌, ◌-◌, ◌≤◌, ◌++◌, ◌||◌, [], true, false, Ok, MatchResult, MatchOption, OnOk, IfOk, IfErr, IsOk, min, nat_lt, length};
+ghost use Rattle.std.specs.Prelude.{◌≡◌, ◌+◌, ◌-◌, ◌≤◌, ◌++◌, ◌||◌, [], true, false, Ok, MatchResult, MatchOption, OnOk, IfOk, IsOk, min, nat_lt, length};
 ghost use Rattle.netlink_packet_core.specs.Attribute.{padded, value_max};
 ghost use Rattle.netlink_packet_core.specs.Nla.{attribute_with};
 ghost use Rattle.netlink_packet_core.specs.DecodeError.{DecodeError};

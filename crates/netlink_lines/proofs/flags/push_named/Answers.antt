@@ -1,4 +1,4 @@
-use Rattle.std.proofs.Common.{ℕ, ◌∙◌, arith, string_bytes}
+use Rattle.std.proofs.Common.{◌∙◌, arith, string_bytes}
 use Rattle.netlink_lines.proofs.Listed.{flag_step}
 use Rattle.netlink_lines.proofs.flags.push_named.Goals as goal
 
