@@ -1,17 +1,19 @@
 -- The result of reading, from its parts.
-use Rattle.std.proofs.Common.{◌≡◌, ◌≢◌, ◌⊎◌, ℕ, zero, suc, ◌-◌, List, [], ◌∷◌, ◌++◌, length, refl, sym, ap, subst, ◌∙◌, inl, inr, arith, Option, Some, None, Result, Ok, Err, Vec, Global, IfOk, MatchResult, append-nil}
+use Rattle.std.proofs.Common.{◌≡◌, ◌≢◌, ◌⊎◌, ℕ, zero, suc, ◌+◌, ◌-◌, ◌*◌, ◌/◌, ◌%◌, ◌<◌, ◌≤◌, List, [], ◌∷◌, ◌++◌, length, drop, refl, sym, ap, subst, ◌∙◌, inl, inr, arith, Option, Some, None, Ok, Err, append-nil}
 use Rattle.netlink_packet_core.specs.Attribute.{Attribute}
 use Rattle.netlink_packet_core.specs.DecodeError.{DecodeError}
 use Rattle.netlink_packet_core.specs.DecodeError.TheVariants.{OutOfMemory}
-use Rattle.netlink_packet_core.specs.Progress.{Passes, passes_walks}
-use Rattle.netlink_packet_core.specs.Views.{is_nested}
+use Rattle.netlink_packet_core.specs.Numbers.{IsBytes}
+use Rattle.netlink_packet_core.specs.Progress.{Passes, passes_bytes, passes_push, passes_walks}
+use Rattle.netlink_packet_core.specs.StartLaws.{starts_held}
+use Rattle.netlink_packet_core.specs.Views.{attribute_of, is_nested, length_field, HoldsAttribute}
 use Rattle.netlink_packet_core.specs.Walk.{Starts, Walk, IsFault}
-use Rattle.netlink_tree.specs.Tree.{Tree, leaf, nest, Forest, no_trees, grow, AreWellFormed, views}
+use Rattle.netlink_tree.specs.Tree.{Tree, leaf, nest, Forest, no_trees, grow, AreWellFormed, view, views}
 use Rattle.netlink_tree.specs.Reading.{Outcome, IsRead, Along, Trees}
 use Rattle.netlink_tree.specs.declared.fault.TreeFault.{TreeFault}
 use Rattle.netlink_tree.specs.declared.fault.TreeFault.TheVariants.{TooDeep, Decode}
 use Rattle.netlink_tree.specs.declared.tree.NlaTree.{NlaTree}
-use Rattle.netlink_tree.proofs.TreeViews.{grown}
+use Rattle.netlink_tree.proofs.TreeViews.{grown, views_push}
 
 -- ---- the result for attributes
 
@@ -74,7 +76,32 @@ trees_end n bytes done rest ts some passes none are =
     (along_done (Trees (n - 1)) done ts are))
 
 -- what a proof about these cases needs
-pub ruleset block_ends = (trees_none, trees_deep, trees_end)
+pub ruleset block_ends = (trees_none, trees_deep)
+
+-- bytes that hold an attribute start with it
+pub starts_some : (bytes : List ℕ) → IsBytes bytes → HoldsAttribute bytes → (rest : List ℕ) × Starts bytes (attribute_of bytes) rest
+starts_some bytes each holds =
+    let end : ℕ = (length_field bytes + 3) / 4 * 4 in
+    (drop end bytes, starts_held bytes end each holds (omega arith) (omega arith) (omega arith))
+
+-- after one more attribute, which ends at this place with its padding; `seen` is what its view shows
+pub block_step : (n : ℕ) (bytes : List ℕ) (done : List Attribute) (rest seen : List ℕ) (old new : List NlaTree) (size end : ℕ)
+    → IsBytes bytes → Passes bytes done rest → AreRead (Trees n) done (views old) → HoldsAttribute rest → seen ≡ rest
+    → size ≡ length_field seen → (size ≤ end) × (end < size + 4) → end % 4 ≡ 0
+    → (t : NlaTree) × (new ≡ old ++ (t ∷ [])) × IsRead (Trees n) (attribute_of seen) (Ok (view t))
+    → Passes bytes (done ++ (attribute_of rest ∷ [])) (drop end rest) × AreRead (Trees n) (done ++ (attribute_of rest ∷ [])) (views new)
+block_step n bytes done rest seen old new size end each passes are holds same is least multiple (t, more, read) =
+    let all : List Attribute = done ++ (attribute_of rest ∷ []) in
+    let field : size ≡ length_field rest = is ∙ ap length_field same in
+    let starts =
+    starts_held rest end (passes_bytes bytes done rest passes each) holds (omega (arith, least)) (omega (arith, least)) multiple in
+    let this : IsRead (Trees n) (attribute_of rest) (Ok (view t)) =
+    subst (λ (b : List ℕ). IsRead (Trees n) (attribute_of b) (Ok (view t))) same read in
+    let grows : views new ≡ grown (views old) (view t) = ap views more ∙ views_push old t in (
+      passes_push bytes done rest (attribute_of rest) (drop end rest) passes starts,
+      subst (λ (ts : Forest). AreRead (Trees n) all ts) (sym grows)
+          (read_push (Trees n) done (views old) (attribute_of rest) (view t) are this),
+    )
 
 -- at the error of the walk
 pub trees_fault : (n : ℕ) (bytes : List ℕ) (done : List Attribute) (rest : List ℕ) (ts : Forest) (e : DecodeError) → n ≢ 0
@@ -111,9 +138,3 @@ unfolding Trees
 trees_formed zero bytes no_trees trees = tt
 trees_formed zero bytes (grow t ts) trees = absurd (elim trees [ inl p ↦ (let e = p.1 in cc) | inr p ↦ (let e = p.1 in cc) ])
 trees_formed (suc n) bytes ts trees = formed_along (Trees n) (trees_formed n) trees.0 trees.1 ts trees.3
-
-pub read_formed : (n : ℕ) (bytes : List ℕ) (result : Result (Vec NlaTree Global) TreeFault)
-    → MatchResult result (λ ts. Trees n bytes (Ok (views ts.items))) (λ e. (e ≡ Decode OutOfMemory) ⊎ Trees n bytes (Err e))
-    → IfOk result (λ ts. AreWellFormed (views ts.items))
-read_formed n bytes (Ok ts) trees = trees_formed n bytes (views ts.items) trees
-read_formed n bytes (Err e) trees = tt

@@ -1,5 +1,5 @@
-use Rattle.netlink_tree.proofs.TreeReading.{read_formed}
+use Rattle.netlink_tree.proofs.TreeReading.{trees_formed}
 use Rattle.netlink_tree.proofs.read.read_tree.Goals as goal
 
-pub returns-clause-formed : goal.returns-clause-formed
-returns-clause-formed c = read_formed _ c.args.bytes.now c.read_block.result c.read_block.ensures.trees
+pub returns-then-read_block-clause-formed : goal.returns-then-read_block-clause-formed
+returns-then-read_block-clause-formed c = trees_formed _ c.args.bytes.now _ (c.read_block.ensures.trees c.if-read_block.true)
