@@ -1,5 +1,5 @@
 -- A header read back from its encoding, and the encoding of a header that was read.
-use Rattle.std.proofs.Common.{◌≡◌, ℕ, ◌+◌, ◌-◌, ◌<◌, ◌≤◌, ◌^◌, List, ◌++◌, length, take, drop, refl, ap, sym, ◌∙◌, append_assoc, arith, length-append, length-drop}
+use Rattle.std.proofs.Common.{◌≡◌, ℕ, ◌+◌, ◌-◌, ◌<◌, ◌≤◌, ◌^◌, List, ◌++◌, length, take, drop, refl, ap, sym, ◌∙◌, append_assoc, arith, length-append, length-drop, slice_range, subst}
 use Rattle.std.proofs.lemmas.List.{take-append-drop, take-append-le, length-take, drop-drop, take_at}
 use Rattle.netlink_bytes.specs.Numbers.{IsBytes, number_le, bytes_le}
 use Rattle.netlink_bytes.specs.NumberLaws.{number_le-bytes_le, IsBytes-drop, split_number, front-fits}
@@ -77,6 +77,12 @@ begins-whole bytes each holds = record {
   size = omega (arith, holds.least, holds.most, length-drop 16 bytes, length-take (field 0 4 bytes - 16) (drop 16 bytes));
   in_range = header_in_range bytes each holds.header;
 }
+
+-- the same for the header that was read, and the part of the bytes up to its length
+pub begins-part : (bytes : List ℕ) (h : NetlinkHeader) → IsBytes bytes → HoldsFrame bytes → h ≡ header_of bytes
+    → Begins bytes h (slice_range bytes 16 h.length)
+begins-part bytes h each holds is =
+    subst (λ (k : NetlinkHeader). Begins bytes k (slice_range bytes 16 k.length)) (sym is) (begins-whole bytes each holds)
 
 -- and with no others
 pub header-begins : (bytes : List ℕ) (h : NetlinkHeader) (payload : List ℕ) → Begins bytes h payload → header_of bytes ≡ h

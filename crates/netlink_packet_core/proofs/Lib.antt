@@ -1,4 +1,5 @@
 pub mod Canonicals
+pub mod Direct
 pub mod Headers
 pub mod Normalized
 pub mod Numbers

@@ -5,9 +5,9 @@ use Rattle.netlink_bytes.specs.declared.error.DecodeError.TheVariants.{DoneShort
 use Rattle.netlink_packet_core.specs.Payload.{payload_bytes}
 use Rattle.netlink_packet_core.specs.Protocol.{Encoding, Decoding}
 use Rattle.netlink_packet_core.specs.Frame.{Frame}
-use Rattle.netlink_packet_core.specs.Canonical.{Fits, IsTooLong, IsCanonicalFrame, canonical_frame}
+use Rattle.netlink_packet_core.specs.Canonical.{Fits, IsTooLong, IsCanonicalFrame, IsNormalizeFault, SaysTooLong, canonical_frame}
 use Rattle.netlink_packet_core.specs.Refusal.{IsBodyFault, IsRefusal}
-use Rattle.netlink_packet_core.proofs.Refusals.{no_frame_fault}
+use Rattle.netlink_packet_core.proofs.Refusals.{frame_refused, no_frame_fault}
 use Rattle.netlink_packet_core.proofs.Written.{Laws, IsCanonicalBody, written_is_canonical}
 use Rattle.netlink_packet_core.proofs.Canonicals.{canonical_parts, canonical_holds, body_back, canonical_is_written}
 use Rattle.netlink_packet_core.proofs.Once.{frame_once, written_same, body_in_range}
@@ -40,7 +40,7 @@ canonical_refused decoding wants bytes e canonical (inr (h, payload, begins, fau
     canonical_body_refused decoding wants h payload e (canonical_parts decoding bytes h payload canonical begins).body fault
 
 -- a message that was read fits if its length does
-fits_read : {I : Type 0} (encoding : Encoding I) (decoding : Decoding I) (bytes : List ℕ) (m : NetlinkMessage I) → Frame decoding bytes m
+pub fits_read : {I : Type 0} (encoding : Encoding I) (decoding : Decoding I) (bytes : List ℕ) (m : NetlinkMessage I) → Frame decoding bytes m
     → 16 + length (payload_bytes encoding m.payload) < 2 ^ 32 → Fits encoding m
 fits_read encoding decoding bytes m (payload, begins, body) size =
     record { size = size; header = begins.in_range; payload = (body_in_range decoding m.payload m.header payload body).0 }
@@ -89,3 +89,31 @@ pub written_again : {I : Type 0} {eq : I → I → Bool} {encoding : Encoding I}
     → Frame decoding answer n → canonical_frame encoding n ≡ answer
 written_again {decoding = decoding} laws bytes answer m n f fits is k =
     canonical_is_written laws answer n (subst (IsCanonicalFrame decoding) (sym is) (read_is_canonical laws bytes m f fits)) k
+
+-- the error for the frame of a message that fits
+pub fault_fits : {I E : Type 0} {eq : I → I → Bool} {encoding : Encoding I} {decoding : Decoding I} → Laws eq encoding decoding
+    → (wants : E → Bool) (bytes : List ℕ) (m : NetlinkMessage I) (e : DecodeError) → Frame decoding bytes m → Fits encoding m
+    → IsNormalizeFault encoding decoding wants bytes e → e ≡ OutOfMemory
+fault_fits {decoding = decoding} laws wants bytes m e f fits (inl refusal) = frame_refused decoding wants bytes m e f refusal
+fault_fits laws wants bytes m e f fits (inr (inl (is, (n, k, long)))) =
+    absurd (omega (arith, fits.size, long_alike laws bytes m n f k long))
+fault_fits laws wants bytes m e f fits (inr (inr (is, of_message))) = is
+
+-- the error for the frame of a message that is too long
+pub fault_long : {I E : Type 0} {eq : I → I → Bool} {encoding : Encoding I} {decoding : Decoding I} → Laws eq encoding decoding
+    → (wants : E → Bool) (bytes : List ℕ) (m : NetlinkMessage I) (e : DecodeError) → Frame decoding bytes m → IsTooLong encoding m
+    → IsNormalizeFault encoding decoding wants bytes e → SaysTooLong decoding wants bytes e
+fault_long {decoding = decoding} laws wants bytes m e f long (inl refusal) =
+    inr (frame_refused decoding wants bytes m e f refusal, refusal)
+fault_long laws wants bytes m e f long (inr (inl (is, of_message))) = inl is
+fault_long laws wants bytes m e f long (inr (inr (is, (n, k, fits)))) =
+    let small = fits_alike laws bytes m n f k fits in absurd (omega (arith, small.size, long))
+
+-- the error for canonical bytes
+pub fault_canonical : {I E : Type 0} {eq : I → I → Bool} {encoding : Encoding I} {decoding : Decoding I} → Laws eq encoding decoding
+    → (wants : E → Bool) (bytes : List ℕ) (e : DecodeError) → IsCanonicalFrame decoding bytes
+    → IsNormalizeFault encoding decoding wants bytes e → e ≡ OutOfMemory
+fault_canonical {decoding = decoding} laws wants bytes e canonical (inl refusal) = canonical_refused decoding wants bytes e canonical refusal
+fault_canonical laws wants bytes e canonical (inr (inl (is, (n, k, long)))) =
+    let small = canonical_fits laws bytes n canonical k in absurd (omega (arith, small.size, long))
+fault_canonical laws wants bytes e canonical (inr (inr (is, of_message))) = is

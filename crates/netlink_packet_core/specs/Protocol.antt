@@ -1,5 +1,5 @@
 -- What a protocol encodes and decodes, and when it is lawful.
-use Rattle.std.specs.Prelude.{◌≡◌, ◌≢◌, ◌+◌, ◌<◌, ◌^◌, ℕ, Bool, List, Option, Some, length}
+use Rattle.std.specs.Prelude.{◌≡◌, ◌≢◌, ◌+◌, ◌<◌, ◌≤◌, ◌^◌, ℕ, Bool, List, Option, Some, IsTrue, drop, length}
 use Rattle.netlink_packet_core.specs.declared.header.NetlinkHeader.{NetlinkHeader}
 
 -- the encoding of a value: its message type and its bytes
@@ -25,3 +25,14 @@ pub record IsLawful {I : Type 0} (decoding : Decoding I) (pair : ℕ × List ℕ
   pub width : pair.0 < 2 ^ 16
   pub again : (h : NetlinkHeader) → h.message_type ≡ pair.0 → h.length ≡ 16 + length pair.1
       → decoding.reading h pair.1 ≡ Some pair
+
+-- bytes are the frame of what a header and a payload decode to, but for the 16 bytes of its header,
+-- which may have any value; the message type is the header's
+pub record IsNormalFrame {I : Type 0} (decoding : Decoding I) (h : NetlinkHeader)
+    (payload frame : List ℕ) : Type 0 where
+  pub value : I
+  pub in_range : IsTrue (decoding.in_range value)
+  pub reads : decoding.reading h payload ≡ Some (decoding.stands_for value)
+  pub message_type : (decoding.stands_for value).0 ≡ h.message_type
+  pub room : 16 ≤ length frame
+  pub encoded : drop 16 frame ≡ (decoding.stands_for value).1

@@ -1,24 +1,26 @@
 //! The canonical frame of a message that is decoded from bytes.
 
-ghost use Rattle.std.specs.Prelude.{◌≡◌, ◌⊎◌, ◌↔◌, Some, IfErr, IfOk, IsErrAnd, IsOk, IsTrue, MatchResult, OnErr};
+ghost use Rattle.std.specs.Prelude.{◌≡◌, ◌⊎◌, ◌↔◌, ◌<◌, ◌≤◌, ◌^◌, ◌++◌, Some, IfErr, IfOk, IfSome, IsErrAnd, IsOk, IsTrue, MatchResult, OnErr, drop, length};
 ghost use Rattle.netlink_packet_core.specs.Canonical.{Fits, IsCanonicalFrame, IsNormalizeFault, IsTooLong, SaysTooLong, canonical_frame};
 ghost use Rattle.netlink_packet_core.specs.Frame.{Frame};
-ghost use Rattle.netlink_packet_core.specs.Header.{HoldsFrame, field};
+ghost use Rattle.netlink_packet_core.specs.Header.{HoldsFrame, field, header_bytes, header_of};
 ghost use Rattle.netlink_packet_core.specs.Protocol.{IsOwnType};
 ghost use Rattle.netlink_packet_core.specs.Refusal.{AsksNoMemory};
 ghost use Rattle.netlink_packet_core.specs.declared.message.NetlinkMessage.{NetlinkMessage};
 
-use crate::buffer::read_header;
+use crate::buffer::{checked_header, read_header};
 use crate::constants::{
     CODE_SIZE, NETLINK_HEADER_LEN, NLMSG_DONE, NLMSG_ERROR, NLMSG_NOOP, NLMSG_OVERRUN,
 };
 use crate::header::NetlinkHeader;
-use crate::message::NetlinkMessage;
+use crate::message::read_frame;
+use crate::payload::normal_inner;
 use crate::traits::NetlinkProtocol;
 use netlink_bytes::DecodeError;
 use std::alloc::Global;
 
 /// Decodes the message whose frame is at the start of `bytes`, and returns its one canonical frame.
+/// Makes no message if the protocol writes the frame without it (`normal_frame`).
 ///
 /// Returns the errors of `NetlinkMessage::deserialize`. Returns `TooLong` if the message's length
 /// does not fit in 32 bits, and `OutOfMemory` if the allocation for the frame fails.
@@ -47,8 +49,66 @@ pub fn normalize<I: NetlinkProtocol>(alloc: Global, bytes: &[u8]) -> Result<Vec<
     ensures only_fixed { IfOk result
         (λ v. v.items ≡ bytes.now → IsCanonicalFrame I.decoding bytes.now) }
 {
-    let message = NetlinkMessage::<I>::deserialize(alloc, bytes)?;
+    let header = checked_header(bytes, true)?;
+    if let Some(frame) = direct_frame::<I>(alloc, bytes, header)? {
+        return Ok(frame);
+    }
+    let message = read_frame::<I>(alloc, bytes, header)?;
     message.into_frame(alloc)
+}
+
+/// Returns what `normalize` returns for bytes that hold a complete frame with this header, or `None`
+/// if the protocol does not write the frame without its message.
+fn direct_frame<I: NetlinkProtocol>(
+    alloc: Global,
+    bytes: &[u8],
+    header: NetlinkHeader,
+) -> Result<Option<Vec<u8>>, DecodeError>
+    requires whole { HoldsFrame bytes.now }
+    requires header { header ≡ header_of bytes.now }
+    ensures ok { IfOk result (λ found. IfSome found
+        (λ v. (m : NetlinkMessage I) × Frame I.decoding bytes.now m × Fits I.encoding m
+        × (v.items ≡ canonical_frame I.encoding m))) }
+    ensures err { IfErr result
+        (IsNormalizeFault I.encoding I.decoding I.wants_memory bytes.now) }
+{
+    if !is_own_type(header.message_type) {
+        return Ok(None);
+    }
+    let payload = &bytes[NETLINK_HEADER_LEN..header.length as usize];
+    match normal_inner::<I>(alloc, &header, payload)? {
+        Some(frame) => Ok(Some(with_header(frame, header)?)),
+        None => Ok(None),
+    }
+}
+
+/// Returns whether a message type is one of the protocol's own.
+fn is_own_type(message_type: u16) -> bool
+    ensures { IsTrue result ↔ IsOwnType message_type }
+{
+    !matches!(
+        message_type,
+        NLMSG_NOOP | NLMSG_ERROR | NLMSG_DONE | NLMSG_OVERRUN
+    )
+}
+
+/// Writes a header over the first 16 bytes of a frame, with the frame's size as its length. Returns
+/// `TooLong` if the size does not fit in 32 bits.
+fn with_header(mut frame: Vec<u8>, mut header: NetlinkHeader) -> Result<Vec<u8>, DecodeError>
+    requires room { 16 ≤ length frame.items }
+    ensures ok { IfOk result (λ v. (length frame.items < 2 ^ 32)
+        × (v.items ≡ header_bytes (record header { length = length frame.items })
+        ++ drop 16 frame.items)) }
+    ensures err { IfErr result (λ e. (e ≡ DecodeError.TooLong)
+        × (2 ^ 32 ≤ length frame.items)) }
+{
+    if frame.len() > u32::MAX as usize {
+        return Err(DecodeError::TooLong);
+    }
+    header.length = frame.len() as u32;
+    let (head, _) = frame.split_at_mut(NETLINK_HEADER_LEN);
+    header.write(head);
+    Ok(frame)
 }
 
 /// Returns whether the bytes are a canonical frame, which `normalize` returns unchanged. Writes no

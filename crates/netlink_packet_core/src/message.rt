@@ -84,7 +84,7 @@ impl<I: NetlinkDeserializable> NetlinkMessage<I> {
 
 /// Decodes the message in bytes that hold a complete frame with this header. Returns the errors of
 /// its payload.
-fn read_frame<I: NetlinkDeserializable>(
+pub(crate) fn read_frame<I: NetlinkDeserializable>(
     alloc: Global,
     bytes: &[u8],
     header: NetlinkHeader,

@@ -1,9 +1,11 @@
 //! The payload of a message.
 
-ghost use Rattle.std.specs.Prelude.{◌≡◌, ◌+◌, ◌≤◌, ◌<◌, ◌^◌, ◌↔◌, ◌++◌, List, ℕ, Some, IfOk, IfErr, IsTrue, OnOk, length, string_bytes, vec_len};
+ghost use Rattle.std.specs.Prelude.{◌≡◌, ◌+◌, ◌≤◌, ◌<◌, ◌^◌, ◌↔◌, ◌++◌, List, ℕ, None, Some, false, IfOk, IfErr, IfSome, IsTrue, OnOk, length, string_bytes, vec_len};
 ghost use Rattle.netlink_packet_core.specs.Frame.{Body};
 ghost use Rattle.netlink_packet_core.specs.Payload.{PayloadInRange, payload_bytes, payload_type};
+ghost use Rattle.netlink_packet_core.specs.Protocol.{IsNormalFrame};
 ghost use Rattle.netlink_packet_core.specs.Refusal.{IsBodyFault, IsInnerFault, refusal_text};
+ghost use Rattle.netlink_packet_core.specs.declared.header.NetlinkHeader.{NetlinkHeader};
 
 use crate::bytes::{append_code, put_code};
 use crate::constants::{CODE_SIZE, NLMSG_DONE, NLMSG_ERROR, NLMSG_NOOP, NLMSG_OVERRUN};
@@ -149,15 +151,42 @@ fn read_inner<I: NetlinkDeserializable>(
 {
     match I::deserialize(alloc, header, payload) {
         Ok(value) => Ok(value),
-        Err(error) => {
-            if I::is_out_of_memory(&error) {
-                return Err(DecodeError::OutOfMemory);
-            }
-            match refusal(alloc, header.message_type, &error) {
-                Ok(text) => Err(DecodeError::Message(text)),
-                Err(_) => Err(DecodeError::OutOfMemory),
-            }
-        }
+        Err(error) => Err(inner_error::<I>(alloc, header.message_type, error)),
+    }
+}
+
+/// Returns what the protocol's `normal_frame` returns, with the errors of `read_inner`.
+pub(crate) fn normal_inner<I: NetlinkDeserializable>(
+    alloc: Global,
+    header: &NetlinkHeader,
+    payload: &[u8],
+) -> Result<Option<Vec<u8>>, DecodeError>
+    ensures ok { IfOk result (λ found. IfSome found
+        (λ frame. IsNormalFrame I.decoding header.now payload.now frame.items)) }
+    ensures err { IfErr result (IsInnerFault I.decoding I.wants_memory header.now payload.now) }
+{
+    match I::normal_frame(alloc, header, payload) {
+        Ok(found) => Ok(found),
+        Err(error) => Err(inner_error::<I>(alloc, header.message_type, error)),
+    }
+}
+
+/// Returns the error for a payload for which the protocol returned this error.
+fn inner_error<I: NetlinkDeserializable>(
+    alloc: Global,
+    message_type: u16,
+    error: I::Error,
+) -> DecodeError
+    ensures { (h : NetlinkHeader) (payload : List ℕ) → h.message_type ≡ message_type
+        → (I.wants_memory error ≡ false → I.decoding.reading h payload ≡ None)
+        → IsInnerFault I.decoding I.wants_memory h payload result }
+{
+    if I::is_out_of_memory(&error) {
+        return DecodeError::OutOfMemory;
+    }
+    match refusal(alloc, message_type, &error) {
+        Ok(text) => DecodeError::Message(text),
+        Err(_) => DecodeError::OutOfMemory,
     }
 }
 

@@ -1,8 +1,8 @@
 //! What a sub-protocol supplies.
 
-ghost use Rattle.std.specs.Prelude.{◌≡◌, ◌↔◌, ◌+◌, ◌<◌, ◌≤◌, ◌^◌, ◌++◌, ℕ, Bool, true, false, List, Some, None, length, IfOk, IfErr, IsOk, IsTrue, OnErr, OnOk, vec_len, vec_capacity};
+ghost use Rattle.std.specs.Prelude.{◌≡◌, ◌↔◌, ◌+◌, ◌<◌, ◌≤◌, ◌^◌, ◌++◌, ℕ, Bool, true, false, List, Some, None, length, IfOk, IfErr, IfSome, IsOk, IsTrue, OnErr, OnOk, vec_len, vec_capacity};
 ghost use Rattle.netlink_packet_core.specs.declared.header.NetlinkHeader.{NetlinkHeader};
-ghost use Rattle.netlink_packet_core.specs.Protocol.{Encoding, Decoding, IsLawful};
+ghost use Rattle.netlink_packet_core.specs.Protocol.{Encoding, Decoding, IsLawful, IsNormalFrame};
 
 use crate::header::NetlinkHeader;
 use std::alloc::{AllocError, Global};
@@ -93,6 +93,26 @@ pub trait NetlinkDeserializable: Sized {
     /// Returns whether an error means that an allocation failed.
     fn is_out_of_memory(error: &Self::Error) -> bool
         ensures memory { result ≡ wants_memory error.now };
+
+    /// Returns the encoding of what `deserialize` returns, after 16 bytes for a header, which
+    /// `normalize` writes over them. Returns `None` if `normalize` is to call `deserialize` instead,
+    /// as it must if the message type is not the header's. Returns an error only as `deserialize`
+    /// does.
+    ///
+    /// This default body returns `None`. A protocol that can write the encoding without making the
+    /// value should do so, in a vector of its exact size.
+    fn normal_frame(
+        alloc: Global,
+        header: &NetlinkHeader,
+        payload: &[u8],
+    ) -> Result<Option<Vec<u8>>, Self::Error>
+        ensures writes { IfOk result (λ found. IfSome found
+            (λ frame. IsNormalFrame decoding header.now payload.now frame.items)) }
+        ensures refuses { IfErr result
+            (λ e. wants_memory e ≡ false → decoding.reading header.now payload.now ≡ None) }
+    {
+        Ok(None)
+    }
 }
 
 /// A sub-protocol that satisfies the laws, so that each of its messages has one canonical frame.
