@@ -10,5 +10,6 @@ pub mod Normalizing
 pub mod RowSearch
 pub mod PolicyRows
 pub mod Payloads
+pub mod Frames
 pub mod WholeWalks
 pub mod Indexing

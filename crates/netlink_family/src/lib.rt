@@ -21,6 +21,7 @@ mod late;
 pub mod laws;
 mod message_index;
 mod nest;
+mod normal;
 mod owned;
 mod push;
 mod shape;

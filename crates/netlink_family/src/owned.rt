@@ -11,13 +11,13 @@ ghost use Rattle.netlink_packet_core.specs.Numbers.{bytes_le, unsigned};
 ghost use Rattle.netlink_packet_core.specs.Storage.{put_at};
 ghost use Rattle.netlink_family.specs.declared.shape.Shape.TheVariants.{I32, U16, U32, U8};
 
-use crate::block::append_block;
 use crate::error::{FamilyError, header_short};
-use crate::family::{Family, Table, is_short, rows_of};
+use crate::family::{Family, Table, is_short};
 use crate::header_view::{Field, HeaderView};
+use crate::normal::{append_payload, header_room};
 use netlink_packet_core::{
-    NLA_BLOCK_MAX, NetlinkDeserializable, NetlinkHeader, NetlinkProtocol, NetlinkSerializable,
-    put_i32, put_u16, put_u32,
+    NetlinkDeserializable, NetlinkHeader, NetlinkProtocol, NetlinkSerializable, put_i32, put_u16,
+    put_u32,
 };
 use std::alloc::{AllocError, Global};
 use std::marker::PhantomData;
@@ -193,14 +193,8 @@ impl<F: Table> OwnedMessage<F> {
             }
             return Err(header_short(size, payload));
         }
-        let (front, block) = payload.split_at(size);
         let mut bytes = Vec::with_capacity(alloc, payload.len())?;
-        bytes.extend_from_slice(front)?;
-        let rows = rows_of::<F>(message_type);
-        append_block(alloc, rows, &mut bytes, payload.len(), block)?;
-        if bytes.len() - size > NLA_BLOCK_MAX {
-            return Err(FamilyError::TooLong);
-        }
+        append_payload::<F>(alloc, message_type, size, &mut bytes, payload)?;
         Ok(OwnedMessage {
             message_type,
             bytes,
@@ -327,6 +321,25 @@ impl<F: Family> NetlinkDeserializable for OwnedMessage<F> {
 
     fn is_out_of_memory(error: &FamilyError) -> bool {
         matches!(error, FamilyError::OutOfMemory)
+    }
+
+    /// Writes the frame without the message, unless the payload is short.
+    fn normal_frame(
+        alloc: Global,
+        header: &NetlinkHeader,
+        payload: &[u8],
+    ) -> Result<Option<Vec<u8>>, FamilyError> {
+        let message_type = header.message_type;
+        if !F::has(message_type) {
+            return Ok(None);
+        }
+        let size = F::header_len(message_type);
+        if payload.len() < size {
+            return Ok(None);
+        }
+        let mut frame = header_room(alloc, payload)?;
+        append_payload::<F>(alloc, message_type, size, &mut frame, payload)?;
+        Ok(Some(frame))
     }
 }
 

@@ -59,6 +59,27 @@ fn reads_and_writes(rt: &impl Abort, alloc: Global, datagram: &[u8]) -> Result<(
     Ok(())
 }
 
+/// A frame is written without its message, in a vector of its exact size, unless the payload is
+/// short.
+#[test]
+fn frames_are_written_without_messages(rt: HostRuntime) -> Result<(), Fail> {
+    let alloc = rt.alloc();
+    let mut header = NetlinkHeader {
+        message_type: 28,
+        ..NetlinkHeader::default()
+    };
+    match Route::normal_frame(alloc, &header, &NEIGHBOUR[16..])? {
+        Some(frame) => {
+            assert_eq!(rt; frame[16..], NEIGHBOUR[16..]);
+            assert_eq!(rt; frame.capacity(), 36);
+        }
+        None => assert!(rt; false),
+    }
+    header.message_type = RTM_GETNEIGH;
+    assert!(rt; Route::normal_frame(alloc, &header, &[2])?.is_none());
+    Ok(())
+}
+
 #[test]
 fn other_payloads_are_rejected(rt: HostRuntime) -> Result<(), Fail> {
     let alloc = rt.alloc();
