@@ -1,8 +1,8 @@
 //! Errors in attributes, each with its offset.
 
-ghost use Rattle.std.specs.Prelude.{ℕ, ◌≡◌, ◌+◌, ◌≤◌, ◌<◌, ◌^◌, ◌&&◌, List, Some, is_none, length, true};
+ghost use Rattle.std.specs.Prelude.{ℕ, ◌≡◌, ◌+◌, ◌≤◌, ◌<◌, ◌^◌, ◌&&◌, List, Some, false, is_none, length, true};
 ghost use Rattle.netlink_family.specs.ErrorTexts.{attribute_error_text, reason_text};
-ghost use Rattle.netlink_family.specs.Errors.{reason_of, decode_reason, left_after, nest_error, value_error};
+ghost use Rattle.netlink_family.specs.Errors.{reason_of, decode_reason, error_at, left_after, nest_error, value_error};
 ghost use Rattle.netlink_family.specs.Policies.{IsPart};
 ghost use Rattle.netlink_family.specs.Shapes.{has_shape, nest_of, rows_in, shape_among, within, are_sorted};
 
@@ -162,7 +162,8 @@ impl fmt::Display for AttributeError {
 }
 
 /// Returns the error of the value of the attribute at offset `at` in the block `around`, if it has
-/// one. A value that is no nest and has its shape, as most do, takes no call.
+/// one. A value that is no nest and has its shape, as most do, is accepted without a call of
+/// `other_error`.
 #[inline(always)]
 pub(crate) fn value_error(
     levels: u8,
@@ -184,8 +185,8 @@ pub(crate) fn value_error(
     None
 }
 
-/// Like `value_error`, for a caller that has looked up the shape. It is a separate function so that
-/// the callers of `value_error` stay small.
+/// Like `value_error`, for a value that is a nest or lacks its shape. It is a separate function so
+/// that the callers of `value_error` stay small.
 #[inline(never)]
 fn other_error(
     levels: u8,
@@ -198,14 +199,15 @@ fn other_error(
 ) -> Option<AttributeError>
     requires sorted { are_sorted (rows_in rows.now) ≡ true }
     requires inside { at + 4 + length value.now < 2 ^ 64 }
+    requires other { (is_none (nest_of shape) && has_shape shape value.now) ≡ false }
     ensures { (around : List ℕ) → shape ≡ shape_among (within (rows_in rows.now) around) policy kind
         → result ≡ value_error levels (within (rows_in rows.now) around) policy at kind value.now }
 {
-    shape_error(levels, rows, policy, shape, at, kind, value)
+    rest_error(levels, rows, policy, shape, at, kind, value)
 }
 
-/// The same, inlined. First accepts a value that is no nest and has its shape, as most do, so that an
-/// error is prepared only for the others.
+/// Like `value_error`, for a caller that has looked up the shape. First accepts a value that is no
+/// nest and has its shape, as most do, so that an error is prepared only for the others.
 #[inline(always)]
 #[cycle(errors)]
 fn shape_error(
@@ -225,16 +227,34 @@ fn shape_error(
     if is_fine(shape, value) {
         return None;
     }
-    if !has_shape(shape, value) {
-        return Some(AttributeError {
-            offset: at,
-            policy,
-            reason: reason_of(shape, kind, value),
-        });
-    }
+    rest_error(levels, rows, policy, shape, at, kind, value)
+}
+
+/// Like `shape_error`, for a value that is a nest or lacks its shape. Tests the shape of a nest only,
+/// because that of any other value is known to be wrong.
+#[inline(always)]
+#[cycle(errors)]
+fn rest_error(
+    levels: u8,
+    rows: &[Row],
+    policy: u16,
+    shape: Shape,
+    at: usize,
+    kind: u16,
+    value: &[u8],
+) -> Option<AttributeError>
+    requires sorted { are_sorted (rows_in rows.now) ≡ true }
+    requires inside { at + 4 + length value.now < 2 ^ 64 }
+    requires other { (is_none (nest_of shape) && has_shape shape value.now) ≡ false }
+    ensures { (around : List ℕ) → shape ≡ shape_among (within (rows_in rows.now) around) policy kind
+        → result ≡ value_error levels (within (rows_in rows.now) around) policy at kind value.now }
+{
     match policy_of(shape) {
-        None => None,
+        None => Some(wrong_shape(policy, shape, at, kind, value)),
         Some(inner) => {
+            if !has_shape(shape, value) {
+                return Some(wrong_shape(policy, shape, at, kind, value));
+            }
             if levels == 0 {
                 return Some(AttributeError {
                     offset: at,
@@ -245,6 +265,18 @@ fn shape_error(
             let block = nest_block(shape, value);
             error_in(levels - 1, rows, inner, at + 4 + value.len(), block)
         }
+    }
+}
+
+/// Returns the error of a value that lacks its shape.
+#[inline(always)]
+fn wrong_shape(policy: u16, shape: Shape, at: usize, kind: u16, value: &[u8]) -> AttributeError
+    ensures { result ≡ error_at policy at (reason_of shape kind value.now) }
+{
+    AttributeError {
+        offset: at,
+        policy,
+        reason: reason_of(shape, kind, value),
     }
 }
 

@@ -41,12 +41,15 @@ pub(crate) fn append_payload<F: Table>(
     Ok(())
 }
 
-/// Returns 16 zeros in place of the header of a frame, with room for the payload and for padding
-/// that it may lack.
-pub(crate) fn header_room(alloc: Global, payload: &[u8]) -> Result<Vec<u8>, AllocError>
+/// Returns 16 zeros in place of the header of a frame, in a vector that has room for exactly the
+/// payload in canonical form, which may lack only its last padding. `size` is the size of its fixed
+/// header.
+pub(crate) fn header_room(alloc: Global, size: usize, payload: &[u8]) -> Result<Vec<u8>, AllocError>
+    requires long { size ≤ length payload.now }
     ensures { IfOk result (λ frame. frame.items ≡ replicate 16 0) }
 {
-    let mut frame = Vec::with_capacity(alloc, NETLINK_HEADER_LEN + nla_align(payload.len()))?;
+    let block = nla_align(payload.len() - size);
+    let mut frame = Vec::with_capacity(alloc, NETLINK_HEADER_LEN + size + block)?;
     frame.extend_from_slice(&[0; NETLINK_HEADER_LEN])?;
     Ok(frame)
 }

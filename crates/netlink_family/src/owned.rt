@@ -1,6 +1,6 @@
 //! A message that owns its bytes.
 
-ghost use Rattle.std.specs.Prelude.{◌≡◌, Err, ◌+◌, ◌≤◌, ◌<◌, replicate, take, ◌++◌, ◌∷◌, [], false, true, length, ℕ, None, Some, IfErr, IfOk, IsTrue, not, refl};
+ghost use Rattle.std.specs.Prelude.{◌≡◌, Err, ◌+◌, ◌≤◌, ◌<◌, replicate, take, ◌++◌, ◌∷◌, [], false, true, length, ℕ, None, Some, IfErr, IfOk, IfSome, IsTrue, not, refl};
 ghost use Rattle.netlink_family.specs.ErrorTexts.{wants_memory};
 ghost use Rattle.netlink_family.specs.PayloadReading.{short_reading};
 ghost use Rattle.netlink_family.specs.Errors.{family_error, short_error};
@@ -8,6 +8,7 @@ ghost use Rattle.netlink_family.specs.Message.{message_decoding, message_reading
 ghost use Rattle.netlink_family.specs.Shapes.{has_type, keeps_by, reading_by};
 ghost use Rattle.netlink_family.specs.Short.{filled, is_cut, is_short, sent};
 ghost use Rattle.netlink_packet_core.specs.Numbers.{bytes_le, unsigned};
+ghost use Rattle.netlink_packet_core.specs.Protocol.{IsNormalFrame};
 ghost use Rattle.netlink_packet_core.specs.Storage.{put_at};
 ghost use Rattle.netlink_family.specs.declared.shape.Shape.TheVariants.{I32, U16, U32, U8};
 
@@ -328,7 +329,16 @@ impl<F: Family> NetlinkDeserializable for OwnedMessage<F> {
         alloc: Global,
         header: &NetlinkHeader,
         payload: &[u8],
-    ) -> Result<Option<Vec<u8>>, FamilyError> {
+    ) -> Result<Option<Vec<u8>>, FamilyError>
+        ensures writes { IfOk result (λ found. IfSome found
+            (λ frame. IsNormalFrame ⟦<OwnedMessage<F> as NetlinkDeserializable>⟧.decoding header.now payload.now frame.items)) }
+        ensures refuses { IfErr result (λ e. wants_memory e ≡ false
+            → message_reading (has_type F.types) F.short F.header_len (λ t. reading_by (F.rows t)) header.now payload.now
+            ≡ None) }
+        // each error other than `OutOfMemory` is the payload's one error
+        ensures error { IfErr result (λ e. wants_memory e ≡ false
+            → family_error F.types F.short F.header_len F.rows header.now.message_type payload.now ≡ Some e) }
+    {
         let message_type = header.message_type;
         if !F::has(message_type) {
             return Ok(None);
@@ -337,7 +347,7 @@ impl<F: Family> NetlinkDeserializable for OwnedMessage<F> {
         if payload.len() < size {
             return Ok(None);
         }
-        let mut frame = header_room(alloc, payload)?;
+        let mut frame = header_room(alloc, size, payload)?;
         append_payload::<F>(alloc, message_type, size, &mut frame, payload)?;
         Ok(Some(frame))
     }

@@ -59,8 +59,8 @@ fn reads_and_writes(rt: &impl Abort, alloc: Global, datagram: &[u8]) -> Result<(
     Ok(())
 }
 
-/// A frame is written without its message, in a vector of its exact size, unless the payload is
-/// short.
+/// A frame is written without its message, in a vector of its exact size, also if its last padding
+/// is missing, unless the payload is short or its type is unknown.
 #[test]
 fn frames_are_written_without_messages(rt: HostRuntime) -> Result<(), Fail> {
     let alloc = rt.alloc();
@@ -68,16 +68,29 @@ fn frames_are_written_without_messages(rt: HostRuntime) -> Result<(), Fail> {
         message_type: 28,
         ..NetlinkHeader::default()
     };
-    match Route::normal_frame(alloc, &header, &NEIGHBOUR[16..])? {
-        Some(frame) => {
-            assert_eq!(rt; frame[16..], NEIGHBOUR[16..]);
-            assert_eq!(rt; frame.capacity(), 36);
-        }
-        None => assert!(rt; false),
-    }
+    assert!(rt; writes_frame(alloc, &header, &NEIGHBOUR[16..], &NEIGHBOUR[16..])?);
+    header.message_type = 64;
+    let last = [2, 0, 0, 0, 6, 0, 1, 0, b'a', 0]; // AF_INET, NDTA_NAME
+    let padded = [2, 0, 0, 0, 6, 0, 1, 0, b'a', 0, 0, 0];
+    assert!(rt; writes_frame(alloc, &header, &last, &padded)?);
     header.message_type = RTM_GETNEIGH;
     assert!(rt; Route::normal_frame(alloc, &header, &[2])?.is_none());
+    header.message_type = 99;
+    assert!(rt; Route::normal_frame(alloc, &header, &NEIGHBOUR[16..])?.is_none());
     Ok(())
+}
+
+/// Returns whether a payload's frame is written as 16 bytes and `encoding`, with no more room.
+fn writes_frame(
+    alloc: Global,
+    header: &NetlinkHeader,
+    payload: &[u8],
+    encoding: &[u8],
+) -> Result<bool, FamilyError> {
+    Ok(match Route::normal_frame(alloc, header, payload)? {
+        Some(frame) => frame[16..] == encoding[..] && frame.capacity() == frame.len(),
+        None => false,
+    })
 }
 
 #[test]

@@ -3,9 +3,10 @@
 //! `tests/memory` runs each test once per allocation, with that allocation failing: the test must
 //! pass, or return the out-of-memory error by `?`.
 
+use crate::tests::calls::normal;
 use crate::tests::samples::{ADDRESS, LO, NEIGHBOUR, decoded, invalid};
 use netlink_family::{FamilyError, MessageView, Reason, Value};
-use netlink_packet_core::NetlinkHeader;
+use netlink_packet_core::{DecodeError, NetlinkHeader};
 use netlink_route::links::{IFLA_MTU, RTM_GETLINK, RTM_NEWLINK};
 use netlink_route::{LinkMessage, Links};
 use std::alloc::{AllocError, Global};
@@ -40,6 +41,43 @@ fn a_message_is_rejected(rt: HostRuntime) -> Result<(), Fail> {
     }
     assert!(rt; error == invalid(60, Reason::Short { received: 1 }));
     Ok(())
+}
+
+/// A frame is written without its message, in a vector of its exact size.
+#[test]
+fn a_frame_is_normalized(rt: HostRuntime) -> Result<(), Fail> {
+    let frame = normal(rt.alloc(), &LO)?;
+    assert!(rt; frame.len() == 80);
+    assert!(rt; frame.capacity() == 80);
+    assert!(rt; frame[..23] == LO[..23] && frame[23] == 0);
+    Ok(())
+}
+
+/// One byte follows the attributes of a link, as above.
+#[test]
+fn a_frame_is_rejected(rt: HostRuntime) -> Result<(), Fail> {
+    let mut frame = LO;
+    frame[0] = 77;
+    match normal(rt.alloc(), &frame).err() {
+        None => assert!(rt; false),
+        Some(error) => {
+            if !is_short(&error) {
+                return Err(Fail::from(error));
+            }
+        }
+    }
+    Ok(())
+}
+
+/// Returns whether an error says that no attribute begins at byte 60 of a link.
+fn is_short(error: &DecodeError) -> bool {
+    match error {
+        DecodeError::Message(text) => {
+            text.as_str()
+                == "Failed to parse message with type 16: at byte 60, in policy 0: 1 bytes are too few for an attribute"
+        }
+        _ => false,
+    }
 }
 
 /// Returns a copy of a view.

@@ -1,4 +1,4 @@
-use Rattle.std.proofs.Common.{arith, rules, sym, ap, ◌∙◌, ◌≡◌, ◌<◌, ◌-◌, ◌+◌, length, List, ℕ, Some, refl, true, false}
+use Rattle.std.proofs.Common.{arith, rules, sym, ap, ◌∙◌, ◌≡◌, ◌<◌, ◌-◌, ◌+◌, ◌&&◌, length, List, ℕ, Option, Some, refl, true, false}
 use Rattle.std.specs.Prelude.{is_none, is_some}
 use Rattle.std.proofs.lemmas.Bool.{and_parts}
 use Rattle.netlink_packet_core.specs.Steps.{unread}
@@ -10,28 +10,30 @@ use Rattle.netlink_family.specs.declared.attribute_error.Reason.{Reason}
 use Rattle.netlink_family.proofs.FirstErrors.{at_attribute, malformed_here, fine_ends, fine_later, first_found, is_nothing, none_found}
 use Rattle.netlink_family.proofs.attribute_error.+errors.Goals as goal
 
-pub shape_error-returns-then-not-has_shape : goal.shape_error-returns-then-not-has_shape
-shape_error-returns-then-not-has_shape t c = λ around same.
-    let has : has_shape c.args.shape c.args.value.now ≡ false = search rules in
-    let why = c.reason_of.ensures in
-    ap (λ (w : Reason). Some (error_at c.args.policy c.args.at w)) why
+pub rest_error-returns-in-None : goal.rest_error-returns-in-None
+rest_error-returns-in-None t c = λ around same.
+    let none = sym c.policy_of.ensures ∙ c.in-None.is in
+    let has : has_shape c.args.shape c.args.value.now ≡ false =
+    sym (ap (λ (n : Option ℕ). is_none n && has_shape c.args.shape c.args.value.now) none) ∙ c.requires.other in
+    ap Some c.wrong_shape.ensures
     ∙ sym (value_other c.args.levels (within (rows_in c.args.rows.now) around) c.args.policy c.args.at c.args.kind c.args.value.now c.args.shape
     same has)
 
-pub shape_error-returns-in-None : goal.shape_error-returns-in-None
-shape_error-returns-in-None t c = λ around same.
-    let has : has_shape c.args.shape c.args.value.now ≡ true = search rules in
-    sym (value_flat c.args.levels (within (rows_in c.args.rows.now) around) c.args.policy c.args.at c.args.kind c.args.value.now c.args.shape
-    same (sym c.policy_of.ensures ∙ c.in-None.is) has)
+pub rest_error-returns-then-not-has_shape : goal.rest_error-returns-then-not-has_shape
+rest_error-returns-then-not-has_shape t c = λ around same.
+    let has : has_shape c.args.shape c.args.value.now ≡ false = search rules in
+    ap Some c.wrong_shape-then-not-has_shape.ensures
+    ∙ sym (value_other c.args.levels (within (rows_in c.args.rows.now) around) c.args.policy c.args.at c.args.kind c.args.value.now c.args.shape
+    same has)
 
-pub shape_error-returns-then-levels-eq0 : goal.shape_error-returns-then-levels-eq0
-shape_error-returns-then-levels-eq0 t c = λ around same.
+pub rest_error-returns-then-levels-eq0 : goal.rest_error-returns-then-levels-eq0
+rest_error-returns-then-levels-eq0 t c = λ around same.
     let has : has_shape c.args.shape c.args.value.now ≡ true = search rules in
     sym (value_deep c.args.levels (within (rows_in c.args.rows.now) around) c.args.policy c.args.at c.args.kind c.args.value.now c.args.shape c.in-Some.inner
     same (sym c.policy_of.ensures ∙ c.in-Some.is) has (omega arith))
 
-pub shape_error-returns-else-levels-eq0 : goal.shape_error-returns-else-levels-eq0
-shape_error-returns-else-levels-eq0 t c = λ around same.
+pub rest_error-returns-else-levels-eq0 : goal.rest_error-returns-else-levels-eq0
+rest_error-returns-else-levels-eq0 t c = λ around same.
     let has : has_shape c.args.shape c.args.value.now ≡ true = search rules in
     let some : 0 < c.args.levels = omega arith in
     c.error_in.ensures

@@ -4,11 +4,14 @@ use Rattle.netlink_family.specs.Shapes.{rows_in, within}
 use Rattle.netlink_family.proofs.FirstErrors.{AreFine}
 use Rattle.netlink_family.proofs.attribute_error.+errors.Given as goal
 
+abbrev pub decreases-rest_error : goal.decreases-rest_error
+decreases-rest_error l = 3 * l.levels
+
 abbrev pub decreases-shape_error : goal.decreases-shape_error
-decreases-shape_error l = 2 * l.levels
+decreases-shape_error l = 3 * l.levels + 1
 
 abbrev pub decreases-error_in : goal.decreases-error_in
-decreases-error_in l = 2 * l.levels + 1
+decreases-error_in l = 3 * l.levels + 2
 
 abbrev pub invariant-error_in-loop-item : goal.invariant-error_in-loop-item
 invariant-error_in-loop-item l =
