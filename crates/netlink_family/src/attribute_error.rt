@@ -7,7 +7,7 @@ ghost use Rattle.netlink_family.specs.Policies.{IsPart};
 ghost use Rattle.netlink_family.specs.Shapes.{has_shape, nest_of, rows_in, shape_among, within, are_sorted};
 
 use crate::choice::{own_shape_among, shape_among};
-use crate::shape::{Row, Shape, has_shape, nest_block, policy_of, policy_rows};
+use crate::shape::{Row, Shape, TOP, has_shape, nest_block, policy_of, policy_rows};
 use netlink_packet_core::{DecodeError, NlasIterator, nla_align};
 use std::fmt;
 
@@ -289,7 +289,7 @@ fn is_fine(shape: Shape, value: &[u8]) -> bool
 }
 
 /// Returns the first error in the attributes of a block that ends at offset `end`, if there is one.
-/// Looks the kinds up among the rows of their policy, which are few.
+/// Looks the kinds up among the rows that `rows_for` returns.
 #[cycle(errors)]
 pub(crate) fn error_in(
     levels: u8,
@@ -328,15 +328,16 @@ pub(crate) fn error_in(
     None
 }
 
-/// Returns the rows in which to look up the kinds of a block: those of its policy. If the block can
-/// hold only one attribute or two, all rows, because finding those of the policy takes longer than
-/// one lookup.
+/// Returns the rows in which to look up the kinds of a block: those of its policy. Returns all rows
+/// if the policy is `TOP`: its rows come first, so most kinds are found without a search. Also returns
+/// all rows if the block is too short for two attributes with values of 4 bytes, because finding the
+/// rows of the policy takes longer than one lookup.
 #[inline(always)]
 pub(crate) fn rows_for<'a>(rows: &'a [Row], policy: u16, block: &[u8]) -> &'a [Row]
     requires sorted { are_sorted (rows_in rows.now) ≡ true }
     ensures { IsPart policy (rows_in rows.now) (rows_in result.now) }
 {
-    if block.len() < SEVERAL {
+    if policy == TOP || block.len() < SEVERAL {
         return rows;
     }
     policy_rows(rows, policy)
