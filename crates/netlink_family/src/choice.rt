@@ -6,7 +6,7 @@ ghost use Rattle.netlink_family.specs.Policies.{IsPart};
 ghost use Rattle.netlink_family.specs.Shapes.{CachesOther, choice_at, choice_by, resolved, rows_in, shape_among, within, are_sorted};
 
 use crate::find::first_value;
-use crate::shape::{Row, Shape, cached_shape, near_row, row_shape, rows_from};
+use crate::shape::{Row, Shape, TOP, cached_shape, near_row, row_shape, rows_from, searched_shape};
 use crate::value::bytes_until_nul;
 use netlink_packet_core::NLA_TYPE_MASK;
 
@@ -19,17 +19,29 @@ pub(crate) fn shape_among(rows: &[Row], policy: u16, block: &[u8], kind: u16) ->
     resolved(rows, block, row_shape(rows, policy, kind))
 }
 
-/// Returns the shape of a kind in a policy if its row is found without a search and no value chooses
-/// it.
+/// Returns the shape of a kind if its row is found without a search and no value chooses it. Only
+/// looks for kinds outside nests, since the rows of `TOP` come first.
 #[inline(always)]
 pub(crate) fn near_shape(rows: &[Row], policy: u16, kind: u16) -> Option<Shape>
     requires sorted { are_sorted (rows_in rows.now) ≡ true }
     ensures { IfSome result (λ shape. (block : List ℕ) → shape ≡ shape_among (within (rows_in rows.now) block) policy kind) }
 {
+    if policy != TOP {
+        return None;
+    }
     match near_row(rows, policy, kind & NLA_TYPE_MASK)?.3 {
         Shape::Chosen { .. } => None,
         shape => Some(shape),
     }
+}
+
+/// Like `shape_among`, for a kind for which `near_shape` returned `None`.
+#[inline(always)]
+pub(crate) fn far_shape_among(rows: &[Row], policy: u16, block: &[u8], kind: u16) -> Shape
+    requires sorted { are_sorted (rows_in rows.now) ≡ true }
+    ensures { result ≡ shape_among (within (rows_in rows.now) block.now) policy kind }
+{
+    resolved(rows, block, searched_shape(rows, policy, kind))
 }
 
 /// Like `shape_among`, for a kind that is looked up among `own`, the rows of the policy.

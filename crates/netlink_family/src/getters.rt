@@ -10,7 +10,7 @@ ghost use Rattle.netlink_family.specs.Values.{NestHasRows, IsValueOf, value_shap
 
 use crate::attributes::Attributes;
 use crate::block_view::BlockView;
-use crate::choice::{near_shape, shape_among};
+use crate::choice::{far_shape_among, near_shape};
 use crate::find::first_whole;
 use crate::header_view::HeaderView;
 use crate::shape::{Shape, nest_block, policy_of};
@@ -287,7 +287,7 @@ impl<'a> BlockView<'a> {
 fn far_shape(view: &BlockView<'_>, kind: u16) -> Shape
     ensures { result ≡ shape_at view.now kind }
 {
-    shape_among(view.rows, view.policy, view.block, kind)
+    far_shape_among(view.rows, view.policy, view.block, kind)
 }
 
 /// A law: the attributes have the shapes of their kinds. Does nothing at run time.

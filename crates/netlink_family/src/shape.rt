@@ -1,6 +1,6 @@
 //! The shapes of values, and the lookup of rows.
 
-ghost use Rattle.std.specs.Prelude.{◌≡◌, ◌≤◌, ◌==◌, ◌&&◌, IfSome, None, Some, true, if◌then◌else◌};
+ghost use Rattle.std.specs.Prelude.{◌≡◌, ◌≤◌, ◌<◌, ◌+◌, ◌*◌, ◌==◌, ◌&&◌, IfSome, None, Some, true, if◌then◌else◌};
 ghost use Rattle.std.specs.Option.{option_map};
 ghost use Rattle.netlink_packet_core.specs.Views.{masked};
 ghost use Rattle.netlink_family.specs.Policies.{IsPart};
@@ -111,6 +111,18 @@ pub(crate) fn cached_shape(rows: &[Row], policy: u16, kind: u16, other: &mut Opt
     }
 }
 
+/// Like `row_shape`, for a kind whose row is not near: searches at once.
+#[inline(always)]
+pub(crate) fn searched_shape(rows: &[Row], policy: u16, kind: u16) -> Shape
+    requires sorted { are_sorted (rows_in rows.now) ≡ true }
+    ensures { result ≡ shape_in (rows_in rows.now) policy kind }
+{
+    match search_row(rows, policy, kind & NLA_TYPE_MASK) {
+        Some(row) => row.3,
+        None => other_shape(rows, policy),
+    }
+}
+
 /// Returns the shape of the kinds of a policy that have no row of their own.
 fn other_shape(rows: &[Row], policy: u16) -> Shape
     requires sorted { are_sorted (rows_in rows.now) ≡ true }
@@ -198,18 +210,15 @@ fn search_row(rows: &[Row], policy: u16, kind: u16) -> Option<&Row>
     if all_precede(rows, policy, kind) {
         return None;
     }
-    let mut rest = rows;
-    while !rest.is_empty() {
-        let (front, tail) = rest.split_at(rest.len() / 2);
-        match tail {
-            [row, back @ ..] => {
-                if is_same(row.0, row.1, policy, kind) {
-                    return Some(row);
-                }
-                rest = half(front, back, is_before(row.0, row.1, policy, kind));
-            }
-            [] => return None,
+    let mut low = 0;
+    let mut high = rows.len();
+    while low < high {
+        let middle = low + (high - low) / 2;
+        let row = &rows[middle];
+        if is_equal(row.0, row.1, policy, kind) {
+            return Some(row);
         }
+        (low, high) = half(low, middle, high, is_before(row.0, row.1, policy, kind));
     }
     None
 }
@@ -273,12 +282,17 @@ fn rows_until(rows: &[Row], policy: u16) -> &[Row]
     &rows[..high]
 }
 
-/// Returns the rows after a row, or those before it.
+/// Returns the bounds of the rows after `middle`, or of those before it.
 #[inline(always)]
-fn half<'a>(front: &'a [Row], back: &'a [Row], after: bool) -> &'a [Row]
-    ensures { result.now ≡ (if after then back.now else front.now) }
+fn half(low: usize, middle: usize, high: usize, after: bool) -> (usize, usize)
+    requires inside { middle < high }
+    ensures { result ≡ (if after then (middle + 1, high) else (low, middle)) }
 {
-    if after { back } else { front }
+    if after {
+        (middle + 1, high)
+    } else {
+        (low, middle)
+    }
 }
 
 /// Returns whether a policy and a kind are equal to another pair.
@@ -289,12 +303,29 @@ fn is_same(policy: u16, kind: u16, other: u16, than: u16) -> bool
     policy == other && kind == than
 }
 
+/// Returns whether a policy and a kind are equal to another pair, by the comparison that `is_before`
+/// makes too.
+#[inline(always)]
+fn is_equal(policy: u16, kind: u16, other: u16, than: u16) -> bool
+    ensures { result ≡ (policy == other && kind == than) }
+{
+    key_of(policy, kind) == key_of(other, than)
+}
+
 /// Returns whether a policy and a kind precede another pair.
 #[inline(always)]
 fn is_before(policy: u16, kind: u16, other: u16, than: u16) -> bool
     ensures { result ≡ key_before policy kind other than }
 {
-    policy < other || (policy == other && kind < than)
+    key_of(policy, kind) < key_of(other, than)
+}
+
+/// Returns a policy and a kind as one integer, so that one comparison orders them.
+#[inline(always)]
+fn key_of(policy: u16, kind: u16) -> u32
+    ensures { result ≡ policy * 65536 + kind }
+{
+    policy as u32 * 65536 + kind as u32
 }
 
 /// Returns the policy of a nest, or `None` for any other shape.

@@ -1,20 +1,19 @@
-use Rattle.std.proofs.Common.{List, slice_index_or, arith}
-use Rattle.netlink_family.proofs.RowSearch.{StoredRow, all_but_first, blank, first_and_rest, found, goes_on}
+use Rattle.std.proofs.Common.{arith, ◌+◌, ◌-◌, ◌/◌, ℕ}
+use Rattle.netlink_family.proofs.RowSearch.{between_step, found_at, none_left}
 use Rattle.netlink_family.proofs.shape.search_row.Goals as goal
 
-pub returns-then-is_same : goal.returns-then-is_same
-returns-then-is_same c =
-    let tail : List (StoredRow) = c.split_at.result.1.now in
-    let row : StoredRow = slice_index_or tail 0 blank in
-    found c.args.policy c.args.kind c.args.rows.now c.loop-rest.rest.now _ c.split_at.result.0.now tail (all_but_first tail) row
-    c.loop-rest.invariant c.split_at.ensures.front c.split_at.ensures.back
-    (first_and_rest tail blank (omega arith)) c.is_same.result c.is_same.ensures c.if-is_same.true
+pub returns-then-is_equal : goal.returns-then-is_equal
+returns-then-is_equal c =
+    found_at c.args.policy c.args.kind c.args.rows.now _ c.requires.sorted (omega arith) c.is_equal.result c.is_equal.ensures
+    c.if-is_equal.true
 
-pub loop-rest-preserved : goal.loop-rest-preserved
-loop-rest-preserved c =
-    let tail : List (StoredRow) = c.split_at.result.1.now in
-    let row : StoredRow = slice_index_or tail 0 blank in
-    goes_on c.args.policy c.args.kind c.args.rows.now c.loop-rest.rest.now _ c.split_at.result.0.now tail (all_but_first tail) row
-    c.loop-rest.invariant c.split_at.ensures.front c.split_at.ensures.back
-    (first_and_rest tail blank (omega arith)) c.half-rest.result.now c.is_same.result c.is_before.result c.is_same.ensures
-    c.if-is_same.false c.is_before.ensures c.half-rest.ensures
+pub loop-low-preserved : goal.loop-low-preserved
+loop-low-preserved c =
+    let middle : ℕ = c.loop-low.low + (c.loop-low.high - c.loop-low.low) / 2 in
+    between_step c.args.policy c.args.kind c.args.rows.now c.loop-low.low middle c.loop-low.high c.loop-low.invariant
+    c.requires.sorted (omega arith) (omega arith) c.is_equal.result c.is_before.result c.half.result c.is_equal.ensures
+    c.if-is_equal.false c.is_before.ensures c.half.ensures
+
+pub returns : goal.returns
+returns c =
+    none_left c.args.policy c.args.kind c.args.rows.now c.loop-low.low c.loop-low.high c.loop-low.invariant (omega arith)

@@ -1,9 +1,9 @@
-use Rattle.std.proofs.Common.{length}
-use Rattle.netlink_family.proofs.RowSearch.{AreLeft}
+use Rattle.std.proofs.Common.{◌-◌}
+use Rattle.netlink_family.proofs.RowSearch.{IsBetween}
 use Rattle.netlink_family.proofs.shape.search_row.Given as goal
 
-abbrev pub invariant-loop-rest : goal.invariant-loop-rest
-invariant-loop-rest l = AreLeft l.policy l.kind l.rows l.rest
+abbrev pub invariant-loop-low : goal.invariant-loop-low
+invariant-loop-low l = IsBetween l.policy l.kind l.rows l.low l.high
 
-abbrev pub decreases-loop-rest : goal.decreases-loop-rest
-decreases-loop-rest l = length l.rest
+abbrev pub decreases-loop-low : goal.decreases-loop-low
+decreases-loop-low l = l.high - l.low
