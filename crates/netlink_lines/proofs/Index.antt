@@ -9,7 +9,7 @@ use Rattle.netlink_lines.specs.Known.{is_other, without}
 use Rattle.netlink_lines.specs.NameTable.{IsIndex, IsOnce}
 use Rattle.netlink_lines.specs.declared.device.Known.{Known}
 
-pub is_eq_nat_cmp : (a b : ℕ) → is_eq (nat_cmp a b) ≡ (a == b)
+is_eq_nat_cmp : (a b : ℕ) → is_eq (nat_cmp a b) ≡ (a == b)
 is_eq_nat_cmp a b = grind (arith, eqb-true, eqb-false, eq-eqb, ne_eqb)
 
 pub empty_index : (map : BTreeMap ℕ (List ℕ)) (known : List Known) → IsEmpty map → known ≡ [] → IsIndex map known
@@ -17,13 +17,13 @@ unfolding name_of
 empty_index map [] none empty = record { agrees = λ index. grind (arith, none); once = tt }
 empty_index map (link ∷ known) none empty = grind (arith, empty)
 
-pub name_of_put : (known : List Known) (link : Known) (q : ℕ)
+name_of_put : (known : List Known) (link : Known) (q : ℕ)
     → name_of (without link.index known ++ link ∷ []) q ≡ (if link.index == q then Some link.name else name_of known q)
 unfolding name_of
 name_of_put [] link q = search rules
 name_of_put (first ∷ known) link q = grind (arith, name_of_put known link q)
 
-pub name_of_without : (known : List Known) (index q : ℕ)
+name_of_without : (known : List Known) (index q : ℕ)
     → name_of (without index known) q ≡ (if index == q then None else name_of known q)
 unfolding name_of
 name_of_without [] index q = grind arith
@@ -69,7 +69,7 @@ index_without map new known index is updates = record {
 }
 
 -- the oldest name is removed
-pub index_drop : (map new : BTreeMap ℕ (List ℕ)) (first : Known) (known : List Known)
+index_drop : (map new : BTreeMap ℕ (List ℕ)) (first : Known) (known : List Known)
     → IsIndex map (first ∷ known) → Updates nat_cmp map new first.index None → IsIndex new known
 unfolding name_of
 index_drop map new first known is updates = record {

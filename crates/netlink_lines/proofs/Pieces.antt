@@ -32,7 +32,7 @@ key_more (c ∷ text) (b ∷ key) word =
     ∙ append_assoc (c ∷ text) (codes " " ++ (b ∷ key)) (codes " " ++ word))
 
 -- a key and a word that is not empty
-pub keyed_some : (key word : List ℕ) → 0 < length word → keyed key word ≡ key ++ (codes " " ++ word)
+keyed_some : (key word : List ℕ) → 0 < length word → keyed key word ≡ key ++ (codes " " ++ word)
 unfolding keyed
 keyed_some key [] some = absurd (omega (arith, some))
 keyed_some key (b ∷ word) some = refl
@@ -57,7 +57,7 @@ printable_long least text [] = omega arith
 printable_long least text (b ∷ bytes) =
     omega (arith, printable_long least (text ++ byte_text least b) bytes, length-append text (byte_text least b), byte_some least b)
 
-pub printable_some : (least : ℕ) (bytes : List ℕ) → 0 < length bytes → 0 < length (printable_text least bytes)
+printable_some : (least : ℕ) (bytes : List ℕ) → 0 < length bytes → 0 < length (printable_text least bytes)
 unfolding printable_text
 printable_some least bytes some = omega (arith, some, printable_long least [] bytes)
 
@@ -72,10 +72,10 @@ sentence_more text key words some = keyed_more text key (sentence_text words) (p
 
 -- ---- addresses of four bytes
 
-pub four_words : (bytes : List ℕ) → length bytes ≡ 4 → ip_words bytes ≡ ipv4_text bytes
+four_words : (bytes : List ℕ) → length bytes ≡ 4 → ip_words bytes ≡ ipv4_text bytes
 four_words bytes four = grind (arith, four)
 
-pub dotted_some : (bytes : List ℕ) → 0 < length (ipv4_text bytes)
+dotted_some : (bytes : List ℕ) → 0 < length (ipv4_text bytes)
 dotted_some bytes = grind (arith, length-append)
 
 pub four_more : (text key bytes : List ℕ) → length bytes ≡ 4
@@ -122,15 +122,15 @@ four_target text bytes size whole four =
     ∙ part_some text (ip ++ rest) (omega (arith, length-append ip rest, dotted_some bytes))
     ∙ sym (append_assoc (separated (codes " ") text []) ip rest)
 
+pub four_part : (text bytes : List ℕ) → length bytes ≡ 4
+    → with_part text (ip_words bytes) ≡ separated (codes " ") text [] ++ ipv4_text bytes
+four_part text bytes four = ap (with_part text) (four_words bytes four) ∙ part_some text (ipv4_text bytes) (dotted_some bytes)
+
 -- ---- links without a name
 
 pub index_more : (text key : List ℕ) (n : ℕ)
     → with_part text (keyed key (codes "if" ++ decimal n)) ≡ (separated (codes " ") text key ++ codes " ") ++ (codes "if" ++ decimal n)
 index_more text key n = keyed_more text key (codes "if" ++ decimal n) (omega arith)
-
-pub four_part : (text bytes : List ℕ) → length bytes ≡ 4
-    → with_part text (ip_words bytes) ≡ separated (codes " ") text [] ++ ipv4_text bytes
-four_part text bytes four = ap (with_part text) (four_words bytes four) ∙ part_some text (ipv4_text bytes) (dotted_some bytes)
 
 -- ---- bytes with colons
 

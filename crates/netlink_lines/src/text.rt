@@ -65,12 +65,15 @@ pub fn sentence_text(alloc: Global, sentence: &[u8]) -> Result<String, AllocErro
 }
 
 /// Returns bytes as they are if they are printable ASCII, from `least` on, and no backslash, and
-/// each other byte as `\x` and its two hexadecimal digits.
+/// each other byte as `\x` and its two hexadecimal digits. The text starts with room for all bytes if
+/// there are 8 or more, and else without room: a `String` grows from none to 8 bytes at once, so less
+/// room could cost an allocation.
 #[tactic(auto, unfolding(crate::specs::Text::printable_text))]
 fn printable_text(alloc: Global, least: u8, bytes: &[u8]) -> Result<String, AllocError>
     ensures { IfOk result (λ text. string_bytes text ≡ printable_text least bytes.now) }
 {
-    let mut text = String::with_capacity(alloc, bytes.len())?;
+    let room = if bytes.len() < 8 { 0 } else { bytes.len() };
+    let mut text = String::with_capacity(alloc, room)?;
     push_bytes(&mut text, least, bytes)?;
     Ok(text)
 }
