@@ -324,7 +324,8 @@ impl<F: Family> NetlinkDeserializable for OwnedMessage<F> {
         matches!(error, FamilyError::OutOfMemory)
     }
 
-    /// Writes the frame without the message, unless the payload is short.
+    /// Writes the frame without the message, unless the payload is shorter than the header or the type
+    /// is unknown.
     fn normal_frame(
         alloc: Global,
         header: &NetlinkHeader,

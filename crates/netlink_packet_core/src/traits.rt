@@ -95,9 +95,9 @@ pub trait NetlinkDeserializable: Sized {
         ensures memory { result ≡ wants_memory error.now };
 
     /// Returns the encoding of what `deserialize` returns, after 16 bytes for a header, which
-    /// `normalize` writes over them. Returns `None` if `normalize` is to call `deserialize` instead,
-    /// as it must if the message type is not the header's. Returns an error only as `deserialize`
-    /// does.
+    /// `normalize` writes over them. Returns `None` if `normalize` is to call `deserialize` instead. It
+    /// must return `None` if the value that `deserialize` returns has another message type than the
+    /// header. Returns an error only as `deserialize` does.
     ///
     /// This default body returns `None`. A protocol that can write the encoding without making the
     /// value should do so, in a vector of its exact size.

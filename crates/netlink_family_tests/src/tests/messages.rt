@@ -60,7 +60,7 @@ fn reads_and_writes(rt: &impl Abort, alloc: Global, datagram: &[u8]) -> Result<(
 }
 
 /// A frame is written without its message, in a vector of its exact size, also if its last padding
-/// is missing, unless the payload is short or its type is unknown.
+/// is missing, unless the payload is shorter than the header or its type is unknown.
 #[test]
 fn frames_are_written_without_messages(rt: HostRuntime) -> Result<(), Fail> {
     let alloc = rt.alloc();
@@ -73,6 +73,7 @@ fn frames_are_written_without_messages(rt: HostRuntime) -> Result<(), Fail> {
     let last = [2, 0, 0, 0, 6, 0, 1, 0, b'a', 0]; // AF_INET, NDTA_NAME
     let padded = [2, 0, 0, 0, 6, 0, 1, 0, b'a', 0, 0, 0];
     assert!(rt; writes_frame(alloc, &header, &last, &padded)?);
+    assert!(rt; writes_frame(alloc, &header, &last[..4], &last[..4])?);
     header.message_type = RTM_GETNEIGH;
     assert!(rt; Route::normal_frame(alloc, &header, &[2])?.is_none());
     header.message_type = 99;
