@@ -2,7 +2,6 @@
 
 import os
 import re
-import shutil
 import socket
 import subprocess
 import sys
@@ -11,43 +10,19 @@ HERE = os.path.dirname(os.path.abspath(__file__))
 OUT = os.path.join(HERE, "out")
 sys.path.append(os.path.join(os.path.dirname(HERE), "tests"))
 
-from libraries import TOP, kit  # noqa: E402 (it is in that folder)
-
-# The standard headers that heap.c, the tests and the examples include. The toolchain's clang has none.
-HEADERS = "inttypes signal stdbool stddef stdint stdio stdlib string sys/mman sys/socket unistd".split()
+from libraries import TOP  # noqa: E402 (it is in that folder)
+from toolchain import compiler  # noqa: E402
 
 
-def compiler():
-    """Returns the C compiler of the machine: $CC, cc or clang. Returns None if there is none."""
-    return os.environ.get("CC") or shutil.which("cc") or shutil.which("clang")
-
-
-def headers(folder):
-    """Makes a folder with these headers, each of which only includes plain.h, and returns its path."""
-    made = os.path.join(folder, "plain")
-    os.makedirs(os.path.join(made, "sys"), exist_ok=True)
-    for name in HEADERS:
-        with open(os.path.join(made, f"{name}.h"), "w") as file:
-            file.write(f'#include "{HERE}/plain.h"\n')
-    return made
-
-
-def compile_object(flags, source, made, folder):
-    """Compiles a source file into an object file, by the toolchain's clang if the machine has no C compiler."""
-    words = [compiler()]
-    if words == [None]:
-        clang = os.path.join(kit(), "toolchain", "bin", "clang")
-        words = [clang, "-nostdinc", "-isystem", headers(folder)]
-    words += [*flags, "-fPIC", "-c", source, "-o", made]
+def compile_object(flags, source, made):
+    """Compiles a source file into an object file."""
+    words = [compiler(), *flags, "-fPIC", "-c", source, "-o", made]
     return subprocess.run(words, stdin=subprocess.DEVNULL, capture_output=True, text=True)
 
 
 def link_program(flags, files, program):
-    """Links object files and archives into a program, with the same compiler as compile_object."""
+    """Links object files and archives into a program."""
     words = [compiler(), *flags, *files, "-o", program]
-    if words[0] is None:
-        words = [os.path.join(kit(), "bin", "rattle-link"), "--target", "x86_64-unknown-linux-gnu"]
-        words += ["--toolchain", os.path.join(kit(), "toolchain"), "-o", program, *files]
     return subprocess.run(words, stdin=subprocess.DEVNULL, capture_output=True, text=True)
 
 

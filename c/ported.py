@@ -14,12 +14,11 @@ PLUS = ["c++", "-x", "c++", "-std=c++17", "-O1", "-g", "-Wall", "-Wextra", "-Wpe
 
 
 def has_headers(folder):
-    """Returns whether the compiler of the machine has the kernel's headers."""
+    """Returns whether the C compiler has the kernel's headers."""
     source = os.path.join(folder, "has_headers.c")
     with open(source, "w") as file:
         file.write("#include <linux/genetlink.h>\n#include <linux/rtnetlink.h>\n")
-    words = [compiler(), "-fsyntax-only", source]
-    return bool(compiler()) and subprocess.run(words, capture_output=True).returncode == 0
+    return subprocess.run([compiler(), "-fsyntax-only", source], capture_output=True).returncode == 0
 
 
 def plus_program(flags, source, folder):
@@ -81,7 +80,7 @@ def run_ported(compiled, ways, libmnl, folder):
     """Runs all. `compiled` compiles a source file as C11, and counts it; `libmnl` is the program that prints the same by
     libmnl, or None."""
     if not has_headers(folder):
-        skip("kernel-headers", "the machine has no C compiler, or that has no headers of Linux")
+        skip("kernel-headers", "the C compiler has no headers of Linux")
         return
     if not has_route_socket(socket_of=16):
         skip("generic-socket", "the machine opens no socket of generic netlink")

@@ -1,24 +1,21 @@
 """Runs a step of the gate: shows what it prints, reads its tally, measures it, and stops it at its time limit."""
 
+import contextlib
 import os
 import re
-import secrets
 import signal
 import subprocess
 import sys
 import time
 from threading import Lock, Thread, Timer
 
-# Each process of a step has this variable in its environment, with a value that only this step has.
-MARK = "CHECK_STEP"
-
 TALLY = re.compile(r"(?:.* )?(\d+) passed, (\d+) failed")
 SKIPPED = re.compile(r"skipped: ([\w-]+) \((.+)\)")
 
-PRINTING = Lock()
+# How long a step has to end, in seconds, before it is killed.
+GRACE = 10
 
-# Held while a process is started, because it has the open files of the gate until it runs its own program.
-STARTING = Lock()
+PRINTING = Lock()
 
 
 def show(line):
@@ -27,73 +24,16 @@ def show(line):
         print(line, flush=True)
 
 
-def processes():
-    """Returns the parent, the process group and the session of each process that has not ended."""
-    found = {}
-    for name in filter(str.isdigit, os.listdir("/proc")):
-        try:
-            with open(f"/proc/{name}/stat", "rb") as file:
-                state, *numbers = file.read().rpartition(b")")[2].split()[:4]
-        except OSError:
-            continue  # it has just ended
-        if state not in b"ZX":
-            found[int(name)] = tuple(map(int, numbers))
-    return found
-
-
-def holds(process, mark, pipe):
-    """Returns whether the process has this variable in its environment, or this pipe among its open files."""
-    folder = f"/proc/{process}"
-    try:
-        with open(f"{folder}/environ", "rb") as file:
-            if mark.encode() in file.read().split(b"\0"):
-                return True
-        return any(os.readlink(f"{folder}/fd/{it}") == pipe for it in os.listdir(f"{folder}/fd"))
-    except OSError:
-        return False  # it has just ended, or it runs as another user
-
-
-def members(leader, mark, pipe):
-    """Returns the processes of a step: its group and session, those with its mark or output, and all descendants."""
-    found = processes()
-    found.pop(os.getpid())
-    own = {it for it, (_, *groups) in found.items() if it == leader or leader in groups or holds(it, mark, pipe)}
-    while more := {it for it, (parent, *_) in found.items() if parent in own} - own:
-        own |= more
-    return own
-
-
-def send(process, number):
-    try:
-        os.kill(process, number)
-    except (ProcessLookupError, PermissionError):
-        pass  # it has just ended, or it runs as another user
-
-
-def kill_members(*step):
-    """Kills the processes of a step. Returns how many there were. They are stopped first, so that none can start
-    another one or lose its parent before all are found."""
-    stopped = set()
-    with STARTING:
-        while more := members(*step) - stopped:
-            for it in more:
-                send(it, signal.SIGSTOP)
-            stopped |= more
-        for it in stopped:
-            send(it, signal.SIGKILL)
-    return len(stopped)
-
-
 class Step:
-    """A step: a command, its time limit, and the result of the run."""
+    """A step: a command, its time limit, and the result of the run. Its processes are a session and a process group of
+    their own."""
 
     def __init__(self, name, words, minutes, on_line=lambda line: None):
         self.name, self.words, self.minutes, self.on_line = name, words, minutes, on_line
         self.passed, self.failed, self.has_tally = 0, 0, False
         self.skips, self.failures, self.last = [], [], ""
         self.wall, self.processor = 0.0, 0.0
-        self.leader, self.pipe, self.why_stopped, self.stopping = None, None, None, Lock()
-        self.mark = f"{MARK}={secrets.token_hex(16)}"
+        self.leader, self.has_ended, self.why_stopped, self.stopping = None, False, None, Lock()
 
     def fail(self, why):
         """Counts one failure of the step itself, and prints why."""
@@ -119,43 +59,64 @@ class Step:
         self.on_line(line)
 
     def stop(self, why):
-        """Stops the step and all processes that it started, unless it has ended."""
+        """Stops the processes of the step, unless it has ended: by SIGTERM, and some seconds later by SIGKILL. A step
+        that has not begun will not begin."""
         with self.stopping:
-            if self.leader is not None and self.why_stopped is None:
-                self.why_stopped = why
-                kill_members(self.leader, self.mark, self.pipe)
+            if self.has_ended or self.why_stopped:
+                return
+            self.why_stopped = why
+            self.signal(signal.SIGTERM)
+        killer = Timer(GRACE, self.kill)
+        killer.daemon = True
+        killer.start()
 
-    def run(self, folder, stdin=subprocess.DEVNULL):
+    def kill(self):
+        with self.stopping:
+            self.signal(signal.SIGKILL)
+
+    def signal(self, number):
+        """Sends a signal to the process group of the step. Its number is not reused until the leader is reaped."""
+        if self.leader is not None:
+            with contextlib.suppress(ProcessLookupError, PermissionError):
+                os.killpg(self.leader, number)
+
+    def begin(self, folder):
+        """Starts the command in that folder, and returns its process, or None if it does not start."""
+        how = {"stdin": subprocess.DEVNULL, "stdout": subprocess.PIPE, "encoding": "utf-8", "errors": "replace"}
+        with self.stopping:
+            if self.why_stopped:
+                self.fail(f"{self.name} {self.why_stopped}")
+                return None
+            try:
+                process = subprocess.Popen(self.words, cwd=folder, start_new_session=True, **how)
+            except OSError as why:
+                self.fail(f"{self.name} did not start: {why}")
+                return None
+            self.leader = process.pid
+            return process
+
+    def run(self, folder):
         """Runs the command in that folder until it ends or reaches its time limit."""
-        begun, how = time.monotonic(), {"stdout": subprocess.PIPE, "encoding": "utf-8", "errors": "replace"}
-        how["env"] = {**os.environ, MARK: self.mark.partition("=")[2]}
-        try:
-            with STARTING:
-                process = subprocess.Popen(self.words, cwd=folder, stdin=stdin, start_new_session=True, **how)
-        except OSError as why:
-            self.fail(f"{self.name} did not start: {why}")
-            return self
-        self.pipe = f"pipe:[{os.fstat(process.stdout.fileno()).st_ino}]"
-        self.leader = process.pid
+        begun, process = time.monotonic(), self.begin(folder)
+        if process is None:
+            return
         reader = Thread(target=self.read, args=[process.stdout], daemon=True)
         timer = Timer(60 * self.minutes, self.stop, [f"took longer than {self.minutes:g} minutes"])
         timer.daemon = True
         reader.start()
         timer.start()
-        # The leader is reaped last, so that no other process gets its number while its group is searched.
         os.waitid(os.P_PID, process.pid, os.WEXITED | os.WNOWAIT)
         timer.cancel()
         timer.join()
-        left = kill_members(process.pid, self.mark, self.pipe)
-        reader.join(10)
+        self.kill()
+        reader.join(GRACE)
         with self.stopping:
-            self.leader, (_, status, usage) = None, os.wait4(process.pid, 0)
+            self.leader, self.has_ended, (_, status, usage) = None, True, os.wait4(process.pid, 0)
         process.returncode = os.waitstatus_to_exitcode(status)
         self.wall, self.processor = time.monotonic() - begun, usage.ru_utime + usage.ru_stime
-        self.judge(process.returncode, left, reader.is_alive())
-        return self
+        self.judge(process.returncode, reader.is_alive())
 
-    def judge(self, status, left, is_held):
+    def judge(self, status, is_held):
         """Reads the tally, and fails the step if it was stopped or if its end does not agree with the tally."""
         found = TALLY.fullmatch(self.last)
         if self.why_stopped:
@@ -168,8 +129,6 @@ class Step:
             self.failures += [f"FAILED: {self.name}: {self.failed} failed"] * bool(self.failed)
         if not self.failed and (status or not found):
             self.fail(f"{self.name} ended with status {status}: {self.last}")
-        if left and not self.why_stopped:
-            show(f"note: {self.name} left {left} processes when it ended; they were stopped")
 
 
 def table(steps, wall):

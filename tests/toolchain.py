@@ -1,8 +1,9 @@
-"""Checks that the toolchain is one that README.md names, by the line that `rt version` prints.
+"""Finds the Rattle kit, which must be one that README.md names, and the C compiler.
 
-./check, c/build, ./netlink_frame and ./netlink_show first call `need_kit`.
+./check, c/build, bench/calls, ./netlink_frame and ./netlink_show first call `need_kit`.
 """
 
+import functools
 import os
 import re
 import shutil
@@ -21,22 +22,14 @@ def kits_named():
         return sorted(set(re.findall(r"rattle-kit-\w+ logic \w+", file.read())))
 
 
+@functools.cache
 def kit_found():
     """Returns the line that `rt version` prints, or None if `rt` is not on the path or does not start."""
-    rt = shutil.which("rt")
-    if rt is None:
-        return None
+    how = {"stdin": subprocess.DEVNULL, "stdout": subprocess.PIPE, "stderr": subprocess.DEVNULL}
     try:
-        # `rt version` prints this file of its kit, but takes longer than everything else that a script does first.
-        with open(os.path.join(os.path.dirname(os.path.dirname(os.path.realpath(rt))), "KIT-ID"), "rb") as file:
-            line = file.read()
+        return subprocess.run(["rt", "version"], **how).stdout.decode(errors="replace").rstrip("\n")
     except OSError:
-        how = {"stdin": subprocess.DEVNULL, "stdout": subprocess.PIPE, "stderr": subprocess.DEVNULL}
-        try:
-            line = subprocess.run([rt, "version"], **how).stdout
-        except OSError:
-            return None
-    return line.decode(errors="replace").rstrip("\n")
+        return None
 
 
 def need_kit(script):
@@ -49,3 +42,8 @@ def need_kit(script):
     remedy = f"install a Rattle kit whose `rt version` prints {lines}" if named else "README.md must name a kit"
     print(f"{script}: {error}: {remedy}", file=sys.stderr)
     sys.exit(NO_RESULT)
+
+
+def compiler():
+    """Returns the C compiler of the machine: $CC, cc or clang. Returns None if there is none."""
+    return os.environ.get("CC") or shutil.which("cc") or shutil.which("clang")

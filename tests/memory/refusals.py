@@ -18,6 +18,7 @@ sys.path.insert(0, os.path.join(os.path.dirname(os.path.abspath(__file__)), ".."
 
 from built import TOP, built, in_parallel, run, tally
 from pcap_rows import header, packet
+from toolchain import compiler
 
 # Other functions that allocate. The programs must not use them, because refuse.c does not count them.
 OTHER_ALLOCATORS = "aligned_alloc posix_memalign memalign valloc reallocarray mmap mmap64 brk".split()
@@ -74,19 +75,12 @@ DATAGRAMS = {
 }
 
 
-def compiler():
-    """Returns the toolchain's clang, which is next to the page that `rt doc` names, or else another C compiler."""
-    page = subprocess.run(["rt", "doc"], stdout=subprocess.PIPE, text=True).stdout.strip()
-    own = os.path.join(os.path.dirname(page), "toolchain", "bin", "clang")
-    return [own, "-fuse-ld=lld"] if os.path.isfile(own) else ["cc"]
-
-
 def compiled(folder):
     """Compiles refuse.c in the folder, and returns the path of the library."""
     library = os.path.join(folder, "refuse.so")
     source = os.path.join(TOP, "tests", "memory", "refuse.c")
     words = ["-shared", "-fPIC", "-O1", "-Wall", "-Wextra", "-Werror", "-nostdlib", "-o", library, source]
-    subprocess.run([*compiler(), *words], check=True)
+    subprocess.run([compiler(), *words], check=True)
     return library
 
 
@@ -243,6 +237,9 @@ def of_tests(library):
 
 
 def main():
+    if not compiler():
+        print("skipped: compiler (the machine has no C compiler)")
+        tally("memory", [], 0)
     with tempfile.TemporaryDirectory() as folder:
         library = compiled(folder)
         commands = of_frame(library) + of_show(library)
