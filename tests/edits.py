@@ -95,7 +95,7 @@ class Clone:
 
 
 class Checked:
-    """A check of a crate in this folder, whose texts these are: its status and what it printed."""
+    """A check of a crate in this folder, whose texts these are: its status, what it printed, and its processor time."""
 
     def __init__(self, folder, texts, options):
         self.texts, self.timed, begun = texts, [], time.monotonic()
@@ -103,7 +103,10 @@ class Checked:
         with subprocess.Popen(["rt", "check", *options], **how, text=True, errors="replace") as run:
             for line in run.stdout:
                 self.timed.append((time.monotonic() - begun, line))
+            _, status, usage = os.wait4(run.pid, 0)
+            run.returncode = os.waitstatus_to_exitcode(status)
         self.status, self.output = run.returncode, "".join(line for _, line in self.timed)
+        self.seconds = usage.ru_utime + usage.ru_stime
 
     def is_proved(self):
         return self.status == 0 and bool(WHOLE.search(self.output) or ONLY.search(self.output))
@@ -186,6 +189,7 @@ class Crate:
         self.folder, self.texts = folder_of(name, clone.top), texts_of(folder_of(name))
         self.edits = edits_of(name, os.path.join(folder_of(name), "must-fail"))
         self.script_tests, self.proved, self.functions = [], [], {}
+        self.checks, self.seconds = 0, 0.0
 
     def checked(self, name, texts, *options):
         """Checks the crate with these texts, and restores its own."""
@@ -194,6 +198,7 @@ class Crate:
             checked = Checked(self.folder, texts, options)
         finally:
             self.clone.write(self.name, self.texts)
+        self.checks, self.seconds = self.checks + 1, self.seconds + checked.seconds
         if self.log:
             with open(os.path.join(self.log, f"{self.name}.{name}.txt"), "w", encoding="utf-8") as file:
                 file.writelines(f"{seconds:6.1f} {line}" for seconds, line in checked.timed)
@@ -211,6 +216,11 @@ class Crate:
         if not checked.is_proved():
             print(f"{self.name} is not proved: {checked.why()}", flush=True)
         return checked.is_proved()
+
+    def show_costs(self, what):
+        """Prints what was done since the last call, and the processor time of its checks."""
+        print(f"{self.name}: {what}, {self.seconds:.0f} processor seconds", flush=True)
+        self.checks, self.seconds = 0, 0.0
 
     def targets(self, edit):
         """Returns the paths of each function whose contract must reject the edit. Several paths match one function if
@@ -322,11 +332,14 @@ class Lane:
         for crate in self.crates:
             if {*below(crate.name, self.names)} <= {it.name for it in proved} and crate.is_proved():
                 proved.append(crate)
+                crate.show_costs("it is proved")
             else:
                 self.add(False, f"FAILED: {crate.name} is not proved, so none of its edits was tried")
         for crate in reversed(proved):
             for edit, is_right, message in crate.tried():
                 self.add(is_right, f"{edit.crate}/{edit.name}: {message}")
+            if crate.checks:
+                crate.show_costs(f"its edits took {crate.checks} checks")
 
 
 def needed(crates, names):
