@@ -13,13 +13,14 @@ on another one shows nothing: its edit is tried again in another check, and in t
 
     tests/edits.py [--clone FOLDER] [--log FOLDER] [CRATE..]
 
-Works in two copies of the crates, each with a part of the edits. An edit counts only if the crate is proved without it,
-so first proves there the crates and those below them, the lowest first. Then tries the edits from the top down: those of
-a crate after those of the crates above it, so that no check has to prove the libraries below again. Restores the sources
-after each check. In one copy, one check runs at a time, because `rt` lets no two run over the same library. --clone
-keeps the copies in this folder, and a later run proves only what changed. --log keeps what each check prints, each line
-prefixed with the seconds since its start, so the lines `checked NAME` show what each function costs. If no crate is
-named, also tries the edits of tests/edits/, each of which states what this script must print for it.
+Works in a copy of the crates or, with four processors or more, in two, each with a part of the edits. An edit counts only
+if the crate is proved without it, so first proves there the crates and those below them, the lowest first. Then tries the
+edits from the top down: those of a crate after those of the crates above it, so that no check has to prove the libraries
+below again. Restores the sources after each check. In one copy, one check runs at a time, because `rt` lets no two run
+over the same library. --clone keeps the copies in this folder, and a later run proves only what changed. --log keeps what
+each check prints, each line prefixed with the seconds since its start, so the lines `checked NAME` show what each function
+costs. If no crate is named, also tries the edits of tests/edits/, each of which states what this script must print for
+it.
 """
 
 import argparse
@@ -37,9 +38,8 @@ from libraries import TOP, below, dependencies, folder_of
 
 # The largest number of edits that one check tries.
 BATCH = 24
-# The number of lanes, and what a crate costs there: about how many lines are proved in a second, and the seconds of an
-# edit.
-LANES, LINES_PER_SECOND, EDIT_SECONDS = 2, 30, 15
+# What a crate costs: about how many lines are proved in a second, and the seconds of an edit.
+LINES_PER_SECOND, EDIT_SECONDS = 30, 15
 PARTS = ("src", "specs", "proofs")
 
 # The verdict of a check of the whole crate, and that of a check of some functions: how many were requested.
@@ -377,12 +377,13 @@ def main(words):
         os.makedirs(how.log, exist_ok=True)
     crates = how.crates or [it for it in names if edits_of(it, os.path.join(folder_of(it), "must-fail"))]
     with tempfile.TemporaryDirectory(prefix="edits-") as folder:
-        tops = [os.path.join(how.clone or folder, str(number)) for number in range(LANES)]
-        lanes = [Lane(top, names, share, how.log) for top, share in zip(tops, shares(crates, names, LANES))]
+        parts = shares(crates, names, 2 if len(os.sched_getaffinity(0)) >= 4 else 1)
+        tops = [os.path.join(how.clone or folder, str(number)) for number in range(len(parts))]
+        lanes = [Lane(top, names, part, how.log) for top, part in zip(tops, parts)]
         if not how.crates:
             for edit in edits_of("tests/edits", os.path.join(TOP, "tests", "edits")):
                 next(it for lane in lanes for it in lane.crates if it.name == edit.base).script_tests.append(edit)
-        with ThreadPoolExecutor(LANES) as threads:
+        with ThreadPoolExecutor(len(lanes)) as threads:
             for it in [threads.submit(lane.run) for lane in lanes]:
                 it.result()
     passed, failed = sum(it.passed for it in lanes), sum(it.failed for it in lanes)
