@@ -38,6 +38,8 @@ from libraries import TOP, below, dependencies, folder_of
 
 # The largest number of edits that one check tries.
 BATCH = 24
+# The number of jobs of a check. More would compete with `rt ci` for the processors.
+JOBS = "2"
 # What a crate costs: about how many lines are proved in a second, and the seconds of an edit.
 LINES_PER_SECOND, EDIT_SECONDS = 30, 15
 PARTS = ("src", "specs", "proofs")
@@ -100,7 +102,7 @@ class Checked:
     def __init__(self, folder, texts, options):
         self.texts, self.timed, begun = texts, [], time.monotonic()
         how = {"cwd": folder, "stdin": subprocess.DEVNULL, "stdout": subprocess.PIPE, "stderr": subprocess.STDOUT}
-        with subprocess.Popen(["rt", "check", *options], **how, text=True, errors="replace") as run:
+        with subprocess.Popen(["rt", "check", "--jobs", JOBS, *options], **how, text=True, errors="replace") as run:
             for line in run.stdout:
                 self.timed.append((time.monotonic() - begun, line))
             _, status, usage = os.wait4(run.pid, 0)
