@@ -198,7 +198,7 @@ fn add_route(block: BlockView<'_>, digest: &mut Digest) {
         add_number(metrics.u32(2), digest);
     }
     if let Some(hops) = block.nest(RTA_MULTIPATH) {
-        digest.number(hops.block.len() as u64);
+        digest.bytes(hops.block);
     }
 }
 
@@ -230,7 +230,7 @@ fn add_link(block: BlockView<'_>, digest: &mut Digest) {
         add_bytes(info.str_bytes(IFLA_INFO_KIND), digest);
     }
     if let Some(families) = block.nest(IFLA_AF_SPEC) {
-        digest.number(families.block.len() as u64);
+        digest.bytes(families.block);
     }
 }
 
@@ -255,24 +255,23 @@ fn add_bytes(bytes: Option<&[u8]>, digest: &mut Digest) {
     }
 }
 
-/// Adds the number or the size of a value.
+/// Adds the number or the bytes of a value.
 fn add_value(value: Value<'_>, digest: &mut Digest) {
-    let number = match value {
-        Value::Flag => 1,
-        Value::U8(number) => number as u64,
-        Value::U16(number) | Value::Be16(number) => number as u64,
-        Value::U32(number) | Value::Be32(number) => number as u64,
-        Value::U64(number) | Value::Be64(number) => number,
-        Value::I32(number) => number.cast_unsigned() as u64,
-        Value::I64(number) => number.cast_unsigned(),
+    match value {
+        Value::Flag => digest.number(1),
+        Value::U8(number) => digest.number(number as u64),
+        Value::U16(number) | Value::Be16(number) => digest.number(number as u64),
+        Value::U32(number) | Value::Be32(number) => digest.number(number as u64),
+        Value::U64(number) | Value::Be64(number) => digest.number(number),
+        Value::I32(number) => digest.number(number.cast_unsigned() as u64),
+        Value::I64(number) => digest.number(number.cast_unsigned()),
         Value::ExactLen(bytes)
         | Value::Ip(bytes)
         | Value::NulStr(bytes)
         | Value::Str(bytes)
         | Value::MinLen(_, bytes)
-        | Value::Bytes(bytes) => bytes.len() as u64,
-        Value::Nested(nest) => nest.block.len() as u64,
-        Value::HeaderNested(_, nest) => nest.block.len() as u64,
-    };
-    digest.number(number);
+        | Value::Bytes(bytes) => digest.bytes(bytes),
+        Value::Nested(nest) => digest.bytes(nest.block),
+        Value::HeaderNested(_, nest) => digest.bytes(nest.block),
+    }
 }
