@@ -7,8 +7,9 @@ ghost use Rattle.netlink_bytes.specs.Text.{hex_digit, hex_digits, hex_pair, hex_
 use std::alloc::AllocError;
 use std::simd::prelude::*;
 
-/// From this number of bytes on, `push_many` takes less time than `push_pairs`.
-const MANY: usize = 10;
+/// From this number of bytes on, `push_many` takes less time than `push_pairs`, because it makes the
+/// digits of 16 bytes at once.
+const MANY: usize = LANES;
 
 /// The number of bytes whose digits are appended at a time.
 const STEP: usize = 64;
@@ -95,12 +96,23 @@ fn write_pairs(digits: &mut [u8; 128], bytes: &[u8])
         at += LANES;
     }
     for index in at..bytes.len() {
-        let pair = hex_pair(bytes[index]).as_bytes();
-        let high = pair[0];
-        let low = pair[1];
-        digits[index * 2] = high;
-        digits[index * 2 + 1] = low;
+        write_pair(digits, bytes, index);
     }
+}
+
+/// Writes the two digits of the byte at an index, after those of the bytes before it.
+#[inline(always)]
+fn write_pair(digits: &mut [u8; 128], bytes: &[u8], index: usize)
+    requires few { length bytes.now ≤ 64 }
+    requires inside { index < length bytes.now }
+    ensures { take (index * 2) digits.old ≡ hex_digits (take index bytes.now)
+        → take ((index + 1) * 2) digits.new ≡ hex_digits (take (index + 1) bytes.now) }
+{
+    let pair = hex_pair(bytes[index]).as_bytes();
+    let high = pair[0];
+    let low = pair[1];
+    digits[index * 2] = high;
+    digits[index * 2 + 1] = low;
 }
 
 /// Writes 16 bytes at an offset.

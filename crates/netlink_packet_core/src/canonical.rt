@@ -58,7 +58,10 @@ pub fn normalize<I: NetlinkProtocol>(alloc: Global, bytes: &[u8]) -> Result<Vec<
 }
 
 /// Returns what `normalize` returns for bytes that hold a complete frame with this header, or `None`
-/// if the protocol does not write the frame without its message.
+/// if the protocol does not write the frame without its message. It is inlined, so that such a protocol
+/// pays nothing for it. `normal_inner` is not: else the compiler keeps the code for its errors, which such
+/// a protocol does not have, until it is too late to inline that of `read_inner`.
+#[inline(always)]
 fn direct_frame<I: NetlinkProtocol>(
     alloc: Global,
     bytes: &[u8],
@@ -83,6 +86,7 @@ fn direct_frame<I: NetlinkProtocol>(
 }
 
 /// Returns whether a message type is one of the protocol's own.
+#[inline(always)]
 fn is_own_type(message_type: u16) -> bool
     ensures { IsTrue result ↔ IsOwnType message_type }
 {

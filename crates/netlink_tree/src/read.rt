@@ -1,6 +1,6 @@
 //! Reading bytes as trees.
 
-ghost use Rattle.std.specs.Prelude.{◌≡◌, ◌⊎◌, ◌++◌, [], ◌∷◌, true, false, Ok, Err, MatchResult, IfOk, IsOk, IsTrue};
+ghost use Rattle.std.specs.Prelude.{◌≡◌, ◌⊎◌, ◌++◌, ◌*◌, ◌≤◌, [], ◌∷◌, true, false, Ok, Err, MatchResult, IfOk, IsOk, IsTrue, length};
 ghost use Rattle.netlink_packet_core.specs.DecodeError.{DecodeError};
 ghost use Rattle.netlink_packet_core.specs.Views.{attribute_of, shown, HoldsAttribute};
 ghost use Rattle.netlink_tree.specs.Tree.{view, views, AreWellFormed};
@@ -89,15 +89,17 @@ fn read_block(
 }
 
 /// Returns the number of attributes that a walk of the bytes yields, so that room for all of them
-/// is allocated at once. No result depends on it.
-fn count_of(bytes: &[u8]) -> usize {
+/// is allocated at once.
+fn count_of(bytes: &[u8]) -> usize
+    ensures { result * 4 ≤ length bytes.now }
+{
     let mut count = 0usize;
     let mut rest = bytes;
     while let Ok(nla) = NlaBuffer::new_checked(rest) {
-        count = count.wrapping_add(1);
+        count += 1;
         let end = nla_align(nla.length() as usize);
         if end >= rest.len() {
-            break;
+            return count;
         }
         rest = &rest[end..];
     }

@@ -3,7 +3,7 @@
 use crate::tests::calls::{
     are_same, has_fault, is_written, is_written_as, leaf, nest, nested, read, tree_fault_prints_as,
 };
-use netlink_packet_core::DecodeError;
+use netlink_packet_core::{DecodeError, NlasIterator};
 use netlink_tree::laws::{
     faults_equal, frames_equal, frames_given, frames_hold, frames_stop, frames_total,
     frames_unique, trees_equal, trees_read_back, trees_total, trees_unique, trees_write_back,
@@ -27,6 +27,47 @@ fn a_nest_holds_its_leaf(rt: HostRuntime) -> Result<(), Fail> {
     assert!(rt; trees == same);
     let text = write_tree(alloc, &trees)?;
     assert!(rt; text.as_slice() == [12, 0, 1, 0x80, 5, 0, 2, 0, 0xaa, 0, 0, 0].as_slice());
+    Ok(())
+}
+
+/// Returns how many attributes an iterator yields, up to an error.
+fn attributes_in(block: &[u8]) -> usize {
+    let mut count = 0usize;
+    for item in NlasIterator::new(block) {
+        if item.is_ok() {
+            count = count.saturating_add(1);
+        }
+    }
+    count
+}
+
+/// Returns whether the list of the trees has room for exactly the attributes of the block. If the block
+/// is damaged, there is no list.
+fn has_room_for_all(alloc: Global, block: &[u8]) -> bool {
+    match read_tree(alloc, block) {
+        Ok(trees) => trees.capacity() == attributes_in(block),
+        Err(_) => true,
+    }
+}
+
+#[test]
+fn a_list_has_room_for_its_attributes(rt: HostRuntime) -> Result<(), Fail> {
+    // A leaf of 4 bytes, one of a byte, a nest of a leaf, and a leaf without its padding.
+    let block = [
+        8, 0, 1, 0, 1, 2, 3, 4, 5, 0, 2, 0, 9, 0, 0, 0, 12, 0, 3, 0x80, 8, 0, 4, 0, 5, 6, 7, 8, 6,
+        0, 5, 0, 1, 2,
+    ];
+    assert!(rt; attributes_in(&block) == 4);
+    for end in 0..=block.len() {
+        assert!(rt; has_room_for_all(rt.alloc(), &block[..end]), "{end} bytes");
+    }
+    for at in 0..block.len() {
+        for damage in [0, 3, 4, 5, 9, 255] {
+            let mut damaged = block;
+            damaged[at] = damage;
+            assert!(rt; has_room_for_all(rt.alloc(), &damaged), "{damage} at {at}");
+        }
+    }
     Ok(())
 }
 

@@ -1,8 +1,7 @@
-use Rattle.std.proofs.Common.{rules, ◌<◌, ◌≤◌, ◌+◌, ◌*◌, ◌∙◌, arith, length, refl, w8}
+use Rattle.std.proofs.Common.{rules, ◌≤◌, ◌+◌, ◌*◌, arith, length, refl, w8}
 use Rattle.std.proofs.lemmas.Simd.{below_from_Fits, chunk-fits}
 use Rattle.std.specs.Simd.Lanes.{chunk}
 use Rattle.netlink_bytes.specs.Text.{hex_digits}
-use Rattle.netlink_bytes.proofs.Digits.{two_written}
 use Rattle.netlink_bytes.proofs.Lanes.{block_written}
 use Rattle.netlink_bytes.proofs.hexadecimal.write_pairs.Goals as goal
 
@@ -30,9 +29,4 @@ pub loop-index-init : goal.loop-index-init
 loop-index-init c = c.loop-at.invariant.0
 
 pub loop-index-preserved : goal.loop-index-preserved
-loop-index-preserved c =
-    let i = c.loop-index.index in
-    let less : i < length c.args.bytes.now = search rules in
-    let room : i * 2 + 1 < length c.loop-index.digits = search rules in
-    two_written c.loop-index.digits c.args.bytes.now c.as_bytes-pair.result.now i _ _ c.loop-index.invariant less room
-    (c.as_bytes-pair.ensures.value ∙ c.hex_pair.ensures.digits) refl refl
+loop-index-preserved c = c.write_pair.ensures c.loop-index.invariant
