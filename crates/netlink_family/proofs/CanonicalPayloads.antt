@@ -1,5 +1,5 @@
 -- Canonical payloads stay canonical when they are changed.
-use Rattle.std.proofs.Common.{◌≡◌, ◌≤◌, ◌<◌, ◌+◌, ◌-◌, ◌^◌, ℕ, true, List, [], ◌∷◌, ◌++◌, length, take, drop, refl, sym, ap, ◌∙◌, arith, append-nil, append_assoc, length-append, length-drop, None}
+use Rattle.std.proofs.Common.{◌≡◌, ◌≤◌, ◌<◌, ◌+◌, ◌-◌, ◌^◌, ℕ, true, List, [], ◌∷◌, ◌++◌, length, take, drop, refl, sym, ap, ◌∙◌, arith, append-nil, append_assoc, length-append, length-drop, None, replicate}
 use Rattle.std.specs.Prelude.{All, Result, Ok, Err, OnOk, IfErr, slice_set}
 use Rattle.std.specs.Cmp.Lexicographic.{bytes_decides}
 use Rattle.std.specs.List.{list_all}
@@ -7,7 +7,7 @@ use Rattle.std.proofs.Math.Seq.{drop-append-add}
 use Rattle.netlink_packet_core.specs.Numbers.{bytes_le}
 use Rattle.netlink_packet_core.specs.NumberLaws.{length-bytes_le}
 use Rattle.std.proofs.lemmas.Bool.{and_from, and_parts, le-leb, leb-true}
-use Rattle.std.proofs.lemmas.List.{drop_all, drop_at, drop-drop, take_all, length-take-le, take-append-drop, take-set, drop-set}
+use Rattle.std.proofs.lemmas.List.{drop_all, drop_at, drop-drop, length-replicate, take_all, length-take-le, take-append-drop, take-set, drop-set}
 use Rattle.std.proofs.lemmas.List.Elements.{All-append, All-nil, All-cons, All-head, All-tail}
 use Rattle.netlink_packet_core.specs.Attribute.{Attribute, FitsAttribute, padded, padding, value_max}
 use Rattle.netlink_packet_core.specs.AttributeSizes.{length-padded}
@@ -48,6 +48,9 @@ pub header_canonical : (size : ℕ) (rows : List Row) (head : List ℕ) → leng
 header_canonical size rows head sized =
     canonical_by size rows head
     (record { head = head; all = []; whole = ap (λ (x : List ℕ). (0, x)) (sym (append-nil head)); sized = sized; normalized = none_normalized rows })
+
+pub zeros_canonical : (size : ℕ) (rows : List Row) (head : List ℕ) → head ≡ replicate size 0 → is_canonical_payload size rows head ≡ true
+zeros_canonical size rows head zeros = header_canonical size rows head (ap length zeros ∙ length-replicate size 0)
 
 -- replacing the header keeps a payload canonical
 other_header : (size : ℕ) (rows : List Row) (bytes new : List ℕ) → is_canonical_payload size rows bytes ≡ true

@@ -1,6 +1,6 @@
 //! A block of attributes with the place of the first attribute of each kind, for many lookups.
 
-ghost use Rattle.std.specs.Prelude.{◌≡◌, ◌≢◌, ◌<◌, ℕ, IfNone, IfSome, None, Some, drop, length, slice_index, true};
+ghost use Rattle.std.specs.Prelude.{◌≡◌, ◌≢◌, ◌<◌, ◌≤◌, ◌*◌, ℕ, [], IfNone, IfSome, None, Some, drop, length, slice_index, true};
 ghost use Rattle.netlink_packet_core.specs.Views.{HoldsAttribute, attribute_of};
 ghost use Rattle.netlink_family.specs.Finding.{found_at, shape_at};
 ghost use Rattle.netlink_family.specs.Index.{ArePlaces};
@@ -10,7 +10,7 @@ ghost use Rattle.netlink_family.specs.Whole.{IsWhole};
 ghost use Rattle.std.proofs.Props.{props};
 
 use crate::block_view::BlockView;
-use crate::find::{attribute_at, first_value};
+use crate::find::{attribute_at, first_value, first_whole};
 use crate::getters::are_shaped;
 use crate::shape::Shape;
 use netlink_packet_core::{NlaBuffer, nla_align};
@@ -22,8 +22,8 @@ const KINDS: usize = 64;
 const REACH: usize = 4 * 65535;
 
 /// A view of a block of attributes, with the place of the first attribute of each kind below 64, so
-/// that a getter does not walk the block. `BlockView::indexed` makes it in one pass, which pays off
-/// from about four getters on. Does not allocate.
+/// that a getter does not walk the block. `BlockView::indexed` makes it in one pass, which pays off if
+/// several attributes are wanted. Does not allocate.
 #[derive(Debug, Drop)]
 pub struct BlockIndex<'a> {
     /// The block.
@@ -37,9 +37,11 @@ pub struct BlockIndex<'a> {
 }
 
 impl<'a> BlockView<'a> {
-    /// Returns the view with the places of its attributes, for many lookups.
+    /// Returns the view with the places of its attributes, for many lookups. Leaves no rest if the block
+    /// has at most 262,140 bytes.
     pub fn indexed(&self) -> BlockIndex<'a>
-        ensures { result.view ≡ self.now }
+        ensures view { result.view ≡ self.now }
+        ensures rest { length self.now.block.now ≤ 4 * 65535 → result.rest.now ≡ [] }
     {
         are_shaped(self, self.block);
         let (places, end) = placed(self.block);
@@ -81,6 +83,7 @@ impl<'a> BlockIndex<'a> {
 fn placed(block: &[u8]) -> ([u16; 64], usize)
     requires whole { IsWhole block.now }
     ensures places { ArePlaces block.now (drop result.1 block.now) result.0 }
+    ensures end { length block.now ≤ 4 * 65535 → length block.now ≤ result.1 }
 {
     let mut places = [0u16; KINDS];
     let mut at = 0;
@@ -107,7 +110,8 @@ fn enter(places: &mut [u16; 64], kind: u16, place: u16)
 
 /// Returns the bytes of a block from an offset on.
 fn rest_from(block: &[u8], at: usize) -> &[u8]
-    ensures { result.now ≡ drop at block.now }
+    ensures rest { result.now ≡ drop at block.now }
+    ensures none { length block.now ≤ at → result.now ≡ [] }
 {
     if at < block.len() {
         return &block[at..];
@@ -133,7 +137,8 @@ fn first_placed<'a>(index: &BlockIndex<'a>, kind: u16) -> Option<&'a [u8]>
 {
     let row = kind as usize;
     if row >= KINDS {
-        return first_value(index.view.block, kind);
+        are_shaped(&index.view, index.view.block);
+        return first_whole(index.view.block, kind);
     }
     let place = index.places[row] as usize;
     if place == 0 {

@@ -10,6 +10,9 @@ use crate::shape::{Row, Shape, TOP, cached_shape, near_row, row_shape, rows_from
 use crate::value::bytes_until_nul;
 use netlink_packet_core::NLA_TYPE_MASK;
 
+/// How many rows are read faster than the first row of a policy is found by search.
+const FIRST: usize = 8;
+
 /// Returns the shape of a kind in a policy, among the attributes of a block.
 #[inline(always)]
 pub(crate) fn shape_among(rows: &[Row], policy: u16, block: &[u8], kind: u16) -> Shape
@@ -35,16 +38,20 @@ pub(crate) fn near_shape(rows: &[Row], policy: u16, kind: u16) -> Option<Shape>
     }
 }
 
-/// Like `shape_among`, for a kind for which `near_shape` returned `None`.
+/// Like `shape_among`, for a kind for which `near_shape` returned `None`. Outside nests, that may be
+/// because a value chooses the shape, and its row is near. In nests, searches at once.
 #[inline(always)]
 pub(crate) fn far_shape_among(rows: &[Row], policy: u16, block: &[u8], kind: u16) -> Shape
     requires sorted { are_sorted (rows_in rows.now) ≡ true }
     ensures { result ≡ shape_among (within (rows_in rows.now) block.now) policy kind }
 {
+    if policy == TOP {
+        return shape_among(rows, policy, block, kind);
+    }
     resolved(rows, block, searched_shape(rows, policy, kind))
 }
 
-/// Like `shape_among`, for a kind that is looked up among `own`, the rows of the policy.
+/// Like `shape_among`, for a kind that is looked up among `own`, rows among which are all of the policy.
 #[inline(always)]
 pub(crate) fn own_shape_among(
     rows: &[Row],
@@ -108,7 +115,8 @@ fn resolved(rows: &[Row], block: &[u8], shape: Shape) -> Shape
     }
 }
 
-/// Returns the shape that the first attribute of a kind chooses.
+/// Returns the shape that the first attribute of a kind chooses. It is a separate function so that its
+/// callers stay small.
 #[inline(never)]
 fn chosen_shape(rows: &[Row], policy: u16, block: &[u8], by: u16) -> Shape
     requires sorted { are_sorted (rows_in rows.now) ≡ true }
@@ -127,17 +135,30 @@ fn choice_at(rows: &[Row], policy: u16, name: &[u8]) -> Shape
     requires sorted { are_sorted (rows_in rows.now) ≡ true }
     ensures { result ≡ choice_at (rows_in rows.now) policy name.now }
 {
-    let mut rest = rows_from(rows, policy);
+    let mut rest = rows_with(rows, policy);
     while let [row, more @ ..] = rest {
-        if row.0 > policy {
-            return Shape::Bytes;
-        }
         if is_choice(row.0, row.2, policy, name) {
             return row.3;
+        }
+        if row.0 > policy {
+            return Shape::Bytes;
         }
         rest = more;
     }
     Shape::Bytes
+}
+
+/// Returns the rows in which to look for a name of a policy: all rows if the policy begins among the
+/// first ones, since it takes longer to search for its first row than to read these.
+#[inline(always)]
+fn rows_with(rows: &[Row], policy: u16) -> &[Row]
+    requires sorted { are_sorted (rows_in rows.now) ≡ true }
+    ensures { IsPart policy (rows_in rows.now) (rows_in result.now) }
+{
+    if rows.len() > FIRST && rows[FIRST].0 < policy {
+        return rows_from(rows, policy);
+    }
+    rows
 }
 
 /// Returns whether a row is in a policy and has a name.

@@ -55,7 +55,8 @@ pub trait Table {
         ensures fields { fields_in result.now ≡ fields message_type };
 
     /// Returns whether a kind chooses the shape of some kind of a message's own attributes. The
-    /// default body looks through the rows; a table may return the answer without them.
+    /// default body looks through the rows; a table may return the answer without them, which is
+    /// whether the kind without its flag bits is the `by` of a row of `TOP`.
     fn chooses_shape(message_type: u16, kind: u16) -> bool
         ensures chooses { result ≡ chooses (rows message_type) kind }
     {

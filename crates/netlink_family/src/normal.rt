@@ -1,6 +1,6 @@
 //! Writing payloads in canonical form.
 
-ghost use Rattle.std.specs.Prelude.{◌≡◌, ◌++◌, ◌≤◌, ℕ, List, Some, IfErr, IfOk, OnOk, false, length, replicate};
+ghost use Rattle.std.specs.Prelude.{◌≡◌, ◌+◌, ◌++◌, ◌≤◌, ℕ, List, Some, IfErr, IfOk, OnOk, false, length, replicate, vec_capacity};
 ghost use Rattle.netlink_family.specs.ErrorTexts.{wants_memory};
 ghost use Rattle.netlink_family.specs.Errors.{payload_error};
 ghost use Rattle.netlink_family.specs.PayloadReading.{payload_reading};
@@ -46,7 +46,8 @@ pub(crate) fn append_payload<F: Table>(
 /// header.
 pub(crate) fn header_room(alloc: Global, size: usize, payload: &[u8]) -> Result<Vec<u8>, AllocError>
     requires long { size ≤ length payload.now }
-    ensures { IfOk result (λ frame. frame.items ≡ replicate 16 0) }
+    ensures zeros { IfOk result (λ frame. frame.items ≡ replicate 16 0) }
+    ensures room { IfOk result (λ frame. 16 + length payload.now ≤ vec_capacity frame) }
 {
     let block = nla_align(payload.len() - size);
     let mut frame = Vec::with_capacity(alloc, NETLINK_HEADER_LEN + size + block)?;

@@ -1,6 +1,6 @@
 //! A message that owns its bytes.
 
-ghost use Rattle.std.specs.Prelude.{◌≡◌, Err, ◌+◌, ◌≤◌, ◌<◌, replicate, take, ◌++◌, ◌∷◌, [], false, true, length, ℕ, None, Some, IfErr, IfOk, IfSome, IsTrue, not, refl};
+ghost use Rattle.std.specs.Prelude.{◌≡◌, Err, ◌+◌, ◌≤◌, ◌<◌, replicate, take, ◌++◌, ◌∷◌, [], false, true, length, ℕ, None, Some, IfErr, IfOk, IfSome, IsTrue, not, refl, vec_capacity};
 ghost use Rattle.netlink_family.specs.ErrorTexts.{wants_memory};
 ghost use Rattle.netlink_family.specs.PayloadReading.{short_reading};
 ghost use Rattle.netlink_family.specs.Errors.{family_error, short_error};
@@ -45,6 +45,7 @@ pub struct OwnedMessage<F: Table> {
 impl<F: Table> OwnedMessage<F> {
     /// Returns a message of this type with a header of zeros and no attributes. Requires that the
     /// family has the message type. Returns `OutOfMemory` if the allocation fails.
+    #[tactic(auto, using(crate::proofs::CanonicalPayloads::zeros_canonical))]
     pub fn new(alloc: Global, message_type: u16) -> Result<Self, FamilyError>
         requires own { has_type F.types message_type ≡ true }
         ensures message_type { IfOk result (λ m. m.message_type ≡ message_type) }
@@ -211,7 +212,8 @@ const LEAST_ROOM: usize = 64;
 
 /// Returns a header of zeros, with room for a few attributes. Does not allocate for an empty header.
 fn zeros(alloc: Global, size: usize) -> Result<Vec<u8>, AllocError>
-    ensures { IfOk result (λ header. header.items ≡ replicate size 0) }
+    ensures zeros { IfOk result (λ header. header.items ≡ replicate size 0) }
+    ensures room { IfOk result (λ header. 0 < size → 64 ≤ vec_capacity header) }
 {
     let mut header = Vec::with_capacity(alloc, room_for(size))?;
     header.resize(size, 0)?;

@@ -117,7 +117,7 @@ pub(crate) fn searched_shape(rows: &[Row], policy: u16, kind: u16) -> Shape
     requires sorted { are_sorted (rows_in rows.now) ≡ true }
     ensures { result ≡ shape_in (rows_in rows.now) policy kind }
 {
-    match search_row(rows, policy, kind & NLA_TYPE_MASK) {
+    match search(rows, policy, kind & NLA_TYPE_MASK) {
         Some(row) => row.3,
         None => other_shape(rows, policy),
     }
@@ -171,7 +171,8 @@ fn row_at(rows: &[Row], policy: u16, kind: u16) -> Option<&Row>
 /// Returns the row of a policy and a kind if it is where it is found without a search. First tries
 /// index `kind - 1`, where the row is if the first policy has a row for every smaller kind. If some
 /// of these kinds have no row, that index has a greater kind. Then goes back from there by the
-/// difference of the two kinds, and tries the row there.
+/// difference of the two kinds, and tries the row there. Does not try a second row if the first one
+/// belongs to another policy: then the policy is not the first one.
 #[inline(always)]
 pub(crate) fn near_row(rows: &[Row], policy: u16, kind: u16) -> Option<&Row>
     requires sorted { are_sorted (rows_in rows.now) ≡ true }
@@ -182,6 +183,9 @@ pub(crate) fn near_row(rows: &[Row], policy: u16, kind: u16) -> Option<&Row>
         let row = &rows[at];
         if is_same(row.0, row.1, policy, kind) {
             return Some(row);
+        }
+        if row.0 != policy {
+            return None;
         }
         let near = &rows[earlier(at, row.1, kind)];
         if is_same(near.0, near.1, policy, kind) {
@@ -200,10 +204,20 @@ fn earlier(at: usize, greater: u16, kind: u16) -> usize
     at.saturating_sub(usize::from(greater.saturating_sub(kind)))
 }
 
-/// Returns the row of a policy and a kind, by binary search. First compares the last row, because
-/// many kinds without a row are greater than all those with one.
+/// Returns the row of a policy and a kind, by `search`. It is a separate function so that its callers
+/// stay small.
 #[inline(never)]
 fn search_row(rows: &[Row], policy: u16, kind: u16) -> Option<&Row>
+    requires sorted { are_sorted (rows_in rows.now) ≡ true }
+    ensures { option_map borrowed_row result ≡ row_at (rows_in rows.now) policy kind }
+{
+    search(rows, policy, kind)
+}
+
+/// Returns the row of a policy and a kind, by binary search. First compares the last row, because
+/// many kinds without a row are greater than all those with one.
+#[inline(always)]
+fn search(rows: &[Row], policy: u16, kind: u16) -> Option<&Row>
     requires sorted { are_sorted (rows_in rows.now) ≡ true }
     ensures { option_map borrowed_row result ≡ row_at (rows_in rows.now) policy kind }
 {

@@ -5,6 +5,7 @@ ghost use Rattle.netlink_family.specs.Shapes.{named};
 ghost use Rattle.netlink_family_tests.specs.declared.choices.TheConstants.{ROWS, TYPES};
 
 use netlink_family::{Field, OwnedMessage, Row, Shape, TOP, Table, is_among};
+use netlink_packet_core::NLA_TYPE_MASK;
 
 pub const CHOOSING: u16 = 101;
 
@@ -97,6 +98,10 @@ impl Table for Choosing {
 
     fn fields(_message_type: u16) -> &'static [Field] {
         &[]
+    }
+
+    fn chooses_shape(_message_type: u16, kind: u16) -> bool {
+        kind & NLA_TYPE_MASK == KIND
     }
 
     ghost sorted = { λ _. refl };

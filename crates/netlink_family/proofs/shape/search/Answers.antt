@@ -1,6 +1,6 @@
 use Rattle.std.proofs.Common.{arith, ◌+◌, ◌-◌, ◌/◌, ℕ}
 use Rattle.netlink_family.proofs.RowSearch.{between_step, found_at, none_left}
-use Rattle.netlink_family.proofs.shape.search_row.Goals as goal
+use Rattle.netlink_family.proofs.shape.search.Goals as goal
 
 pub returns-then-is_equal : goal.returns-then-is_equal
 returns-then-is_equal c =

@@ -1,6 +1,6 @@
 use Rattle.std.proofs.Common.{◌-◌}
 use Rattle.netlink_family.proofs.RowSearch.{IsBetween}
-use Rattle.netlink_family.proofs.shape.search_row.Given as goal
+use Rattle.netlink_family.proofs.shape.search.Given as goal
 
 abbrev pub invariant-loop-low : goal.invariant-loop-low
 invariant-loop-low l = IsBetween l.policy l.kind l.rows l.low l.high
