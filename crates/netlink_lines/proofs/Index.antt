@@ -1,5 +1,5 @@
 -- A list of names and an index of it, step by step.
-use Rattle.std.proofs.Common.{◌≡◌, ℕ, ◌++◌, ◌∷◌, [], List, refl, arith, rules, drop, length, subst, ◌<◌, slice_index_or}
+use Rattle.std.proofs.Common.{◌≡◌, ℕ, ◌++◌, ◌∷◌, [], List, refl, arith, ap, rules, drop, inl, inr, length, subst, ◌<◌, ◌≤◌, ◌⊎◌, slice_index_or}
 use Rattle.std.proofs.lemmas.Bool.{cond_both, eqb-true, eqb-false, eq-eqb, ne_eqb}
 use Rattle.std.specs.Prelude.{◌==◌, None, Some, if◌then◌else◌}
 use Rattle.std.specs.BTreeMap.{BTreeMap, Updates, IsEmpty}
@@ -33,6 +33,26 @@ pub without_none : (known : List Known) (index : ℕ) → name_of known index �
 unfolding name_of
 without_none [] index none = refl
 without_none (first ∷ known) index none = grind (arith, without_none known index)
+
+without_less : (known : List Known) (index : ℕ) → length (without index known) ≤ length known
+without_less [] index = omega arith
+without_less (first ∷ known) index =
+    cond_both (is_other index first) (first ∷ without index known) (without index known)
+    (λ (l : List Known). length l ≤ length (first ∷ known))
+    (λ e. omega (arith, without_less known index)) (λ e. omega (arith, without_less known index))
+
+-- either nothing is removed, or the list becomes shorter
+pub without_or_less : (known : List Known) (index : ℕ)
+    → (without index known ≡ known) ⊎ (length (without index known) < length known)
+without_or_less [] index = inl refl
+without_or_less (first ∷ known) index =
+    cond_both (is_other index first) (first ∷ without index known) (without index known)
+    (λ (l : List Known). (l ≡ first ∷ known) ⊎ (length l < length (first ∷ known)))
+    (λ e. elim (without_or_less known index) [
+      | inl same ↦ inl (ap (λ (l : List Known). first ∷ l) same)
+      | inr less ↦ inr (omega (arith, less))
+    ])
+    (λ e. inr (omega (arith, without_less known index)))
 
 once_put : (known : List Known) (link : Known) → IsOnce known → IsOnce (without link.index known ++ link ∷ [])
 unfolding name_of

@@ -7,7 +7,7 @@ use Rattle.std.proofs.lemmas.Fmt.{decimal_nonempty}
 use Rattle.netlink_lines.specs.AddressFlags.{seconds_text}
 use Rattle.netlink_lines.specs.LinkAddress.{ip_size, link_address}
 use Rattle.netlink_lines.specs.LinkParts.{group_text, mode_text}
-use Rattle.netlink_lines.specs.Names.{scope_text, state_text}
+use Rattle.netlink_lines.specs.Names.{protocol_text, scope_text, state_text, table_text}
 use Rattle.netlink_lines.specs.Parts.{keyed, prefix_end, prefix_of, prefix_text, with_part}
 use Rattle.netlink_lines.specs.Route.{word_or_default}
 use Rattle.netlink_lines.specs.Text.{byte_text, bytes_text, ip_words, name_text, printable_text, sentence_text, pairs, separated, with_byte, with_pair, with_printable}
@@ -200,6 +200,22 @@ state_some n = grind arith
 pub state_more : (text key : List ℕ) (n : ℕ)
     → with_part text (keyed key (state_text n)) ≡ (separated (codes " ") text key ++ codes " ") ++ state_text n
 state_more text key n = keyed_more text key (state_text n) (state_some n)
+
+table_some : (n : ℕ) → n < 2 ^ 32 → 0 < length (table_text n)
+unfolding table_text
+table_some n fits = grind (arith, decimal_nonempty n (omega (arith, fits)))
+
+pub table_more : (text key : List ℕ) (n : ℕ) → n < 2 ^ 32
+    → with_part text (keyed key (table_text n)) ≡ (separated (codes " ") text key ++ codes " ") ++ table_text n
+table_more text key n fits = keyed_more text key (table_text n) (table_some n fits)
+
+protocol_some : (n : ℕ) → n < 2 ^ 32 → 0 < length (protocol_text n)
+unfolding protocol_text
+protocol_some n fits = grind (arith, decimal_nonempty n (omega (arith, fits)))
+
+pub protocol_more : (text key : List ℕ) (n : ℕ) → n < 2 ^ 32
+    → with_part text (keyed key (protocol_text n)) ≡ (separated (codes " ") text key ++ codes " ") ++ protocol_text n
+protocol_more text key n fits = keyed_more text key (protocol_text n) (protocol_some n fits)
 
 mode_some : (n : ℕ) → n < 2 ^ 32 → 0 < length (mode_text n)
 unfolding mode_text

@@ -17,6 +17,7 @@ pub mod Names
 pub mod Namespace
 pub mod Neighbour
 pub mod NeighbourTable
+pub mod News
 pub mod Packet
 pub mod Parts
 pub mod Pcap

@@ -34,13 +34,13 @@ pub(crate) fn push_flags(
     ensures { OnOk result
         (string_bytes text.new ≡ flags_text family flags (string_bytes text.old)) }
 {
-    push_named(text, family, flags)?;
+    push_flag_names(text, family, flags)?;
     push_rest(alloc, text, flags & UNNAMED)
 }
 
 /// Appends the names of the flags, in their order.
 #[tactic(auto, unfolding(crate::specs::AddressFlags::named_flags))]
-fn push_named(text: &mut String, family: u8, flags: u32) -> Result<(), AllocError>
+fn push_flag_names(text: &mut String, family: u8, flags: u32) -> Result<(), AllocError>
     ensures { OnOk result
         (string_bytes text.new ≡ named_flags family flags (string_bytes text.old)) }
 {

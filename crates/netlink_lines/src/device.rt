@@ -2,13 +2,13 @@
 
 ghost use Rattle.std.specs.Prelude.{◌≡◌, ◌++◌, IfOk, OnOk, codes, decimal, string_bytes};
 ghost use Rattle.std.specs.Option.{option_copied};
-ghost use Rattle.netlink_lines.specs.Device.{device_part, device_text, name_of};
+ghost use Rattle.netlink_lines.specs.Device.{device_part, device_text, name_of, name_or_index};
 ghost use Rattle.netlink_lines.specs.Parts.{keyed, with_part};
 
 use crate::digits::push_decimal;
 use crate::name::Name;
 use crate::name_table::{Names, name_of};
-use crate::parts::{push_key, push_keyed, push_named};
+use crate::parts::{push_key, push_named};
 use crate::text::{name_text, push_name};
 use std::alloc::{AllocError, Global};
 
@@ -29,7 +29,6 @@ pub fn device_text(alloc: Global, known: &[Known], index: u32) -> Result<String,
 }
 
 /// Returns the name of a link as `device_text` does.
-#[tactic(auto, unfolding(crate::specs::Device::device_text))]
 pub(crate) fn device_name(
     alloc: Global,
     known: &Names<'_>,
@@ -37,17 +36,13 @@ pub(crate) fn device_name(
 ) -> Result<String, AllocError>
     ensures { IfOk result (λ text. string_bytes text ≡ device_text known.now index) }
 {
-    if index == 0 {
-        return String::from_str(alloc, "*");
-    }
-    match name_of(known, index) {
+    match name_or_any(known, index) {
         Some(name) => name_text(alloc, name),
         None => format!(in alloc; "if{index}"),
     }
 }
 
 /// Appends the name of a link as `device_text` returns it.
-#[tactic(auto, unfolding(crate::specs::Device::device_text))]
 pub(crate) fn push_device_name(
     text: &mut String,
     known: &Names<'_>,
@@ -56,13 +51,22 @@ pub(crate) fn push_device_name(
     ensures { OnOk result
         (string_bytes text.new ≡ string_bytes text.old ++ device_text known.now index) }
 {
-    if index == 0 {
-        return text.push('*');
-    }
-    match name_of(known, index) {
+    match name_or_any(known, index) {
         Some(name) => push_name(text, name),
         None => push_index(text, index),
     }
+}
+
+/// Returns the name of a link if it is known, and `*` for the index 0.
+#[inline(always)]
+#[tactic(auto, unfolding(crate::specs::Device::device_text, crate::specs::Text::printable_text))]
+fn name_or_any<'a>(known: &'a Names<'a>, index: u32) -> Option<&'a [u8]>
+    ensures { name_or_index index (option_copied result) ≡ device_text known.now index }
+{
+    if index == 0 {
+        return Some(b"*");
+    }
+    name_of(known, index)
 }
 
 /// Appends `if` and the index of a link.
@@ -75,7 +79,7 @@ fn push_index(text: &mut String, index: u32) -> Result<(), AllocError>
 }
 
 /// Appends a key and the name of a link, if there is one.
-#[tactic(auto, unfolding(crate::specs::Device::device_text, crate::specs::Parts::keyed, crate::specs::Parts::with_part))]
+#[tactic(auto, unfolding(crate::specs::Parts::keyed, crate::specs::Parts::with_part))]
 pub(crate) fn push_device(
     text: &mut String,
     known: &Names<'_>,
@@ -87,21 +91,16 @@ pub(crate) fn push_device(
 {
     match index {
         None => Ok(()),
-        Some(index) => {
-            if index == 0 {
-                return push_keyed(text, key, "*");
-            }
-            match name_of(known, index) {
-                Some(name) => push_named(text, key, name),
-                None => push_unnamed(text, key, index),
-            }
-        }
+        Some(index) => match name_or_any(known, index) {
+            Some(name) => push_named(text, key, name),
+            None => push_keyed_index(text, key, index),
+        },
     }
 }
 
 /// Appends a key, `if` and the index of a link.
 #[tactic(auto, using(crate::proofs::Pieces::index_more))]
-fn push_unnamed(text: &mut String, key: &str, index: u32) -> Result<(), AllocError>
+fn push_keyed_index(text: &mut String, key: &str, index: u32) -> Result<(), AllocError>
     ensures { OnOk result (string_bytes text.new
         ≡ with_part (string_bytes text.old) (keyed key.now (codes "if" ++ decimal index))) }
 {

@@ -36,8 +36,8 @@ pub(crate) fn push_flags(alloc: Global, text: &mut String, flags: u32) -> Result
 {
     let start = text.len();
     text.push_str(first_flag(flags))?;
-    push_named(text, start, flags)?;
-    push_unnamed(alloc, text, start, flags & UNNAMED)
+    push_flag_names(text, start, flags)?;
+    push_unnamed_bits(alloc, text, start, flags & UNNAMED)
 }
 
 /// `NO-CARRIER` where a link is up and not running.
@@ -53,7 +53,7 @@ fn first_flag(flags: u32) -> &'static str
 
 /// Adds the names of the flags that are set to a list that starts at an offset of the text.
 #[tactic(auto, using(crate::proofs::Listed::still_room), unfolding(crate::specs::Flags::named_flags))]
-fn push_named(text: &mut String, start: usize, flags: u32) -> Result<(), AllocError>
+fn push_flag_names(text: &mut String, start: usize, flags: u32) -> Result<(), AllocError>
     requires room { start ≤ length (string_bytes text.old) }
     ensures { OnOk result (string_bytes text.new
         ≡ take start (string_bytes text.old) ++ named_flags flags (drop start (string_bytes text.old))) }
@@ -120,7 +120,12 @@ fn flag_name(bit: u32) -> &'static str
 
 /// Adds the bits without a name.
 #[tactic(auto, using(crate::proofs::Listed::none_more))]
-fn push_unnamed(alloc: Global, text: &mut String, start: usize, rest: u32) -> Result<(), AllocError>
+fn push_unnamed_bits(
+    alloc: Global,
+    text: &mut String,
+    start: usize,
+    rest: u32,
+) -> Result<(), AllocError>
     requires room { start ≤ length (string_bytes text.old) }
     ensures { OnOk result (string_bytes text.new
         ≡ take start (string_bytes text.old) ++ with_unnamed rest (drop start (string_bytes text.old))) }

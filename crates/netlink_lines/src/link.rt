@@ -9,7 +9,7 @@ ghost use Rattle.netlink_lines.specs.Names.{link_verb_text};
 use crate::device::{Known, push_device_name};
 use crate::digits::push_signed;
 use crate::flags::push_flags;
-use crate::link_address::push_hardware;
+use crate::link_address::push_hardware_parts;
 use crate::link_names::{push_alternatives, push_spaces};
 use crate::link_parts::push_settings;
 use crate::name_table::Names;
@@ -66,8 +66,8 @@ fn line_of(
 {
     let mut text = front_text(alloc, known, link)?;
     push_settings(alloc, &mut text, known, link)?;
-    push_hardware(alloc, &mut text, link)?;
-    push_spaces(alloc, &mut text, link)?;
+    push_hardware_parts(alloc, &mut text, link)?;
+    push_spaces(&mut text, link)?;
     push_words(&mut text, "alias", link.view().str_bytes(IFLA_IFALIAS))?;
     push_alternatives(&mut text, link)?;
     push_string(&mut text, "kind", kind_of(link))?;

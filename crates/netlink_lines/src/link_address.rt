@@ -21,7 +21,7 @@ const IFF_POINTOPOINT: u32 = 0x10;
 /// Appends the type of the device, its address, the broadcast address or that of the peer, and the
 /// permanent address if it is another one.
 #[tactic(auto, unfolding(crate::specs::LinkAddress::hardware_parts))]
-pub(crate) fn push_hardware(
+pub(crate) fn push_hardware_parts(
     alloc: Global,
     text: &mut String,
     link: &MessageIndex<'_, Links>,

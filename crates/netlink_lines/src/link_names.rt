@@ -9,29 +9,29 @@ ghost use Rattle.netlink_route.specs.declared.links.TheConstants.{IFLA_LINK_NETN
 ghost use Rattle.netlink_lines.specs.LinkNames.{IsProperties, IsProperty, alternative_part, alternatives_text, down_part, signed_part, space_id, space_part, space_parts, with_alternative};
 ghost use Rattle.netlink_lines.specs.Parts.{with_part, with_parts};
 
-use crate::parts::{push_part, push_string, push_when};
+use crate::digits::push_signed;
+use crate::parts::{push_key, push_part, push_string, push_when};
 use netlink_family::{BlockView, MessageIndex, Table, Value, bytes_until_nul};
 use netlink_route::Links;
 use netlink_route::links::{
     IFLA_ALT_IFNAME, IFLA_LINK_NETNSID, IFLA_NEW_IFINDEX, IFLA_NEW_NETNSID, IFLA_PROP_LIST,
     IFLA_PROTO_DOWN,
 };
-use std::alloc::{AllocError, Global};
+use std::alloc::AllocError;
 
 /// Appends the network namespace of the lower link, the namespace and the index that the link got,
 /// and whether its protocol is down.
 #[tactic(auto, unfolding(crate::specs::LinkNames::space_parts))]
 pub(crate) fn push_spaces(
-    alloc: Global,
     text: &mut String,
     link: &MessageIndex<'_, Links>,
 ) -> Result<(), AllocError>
     ensures { OnOk result (string_bytes text.new
         ≡ with_parts (string_bytes text.old) (space_parts link.now.message.payload.now)) }
 {
-    push_space(alloc, text, lower_space(link))?;
-    push_signed(alloc, text, "new-netnsid", new_space(link))?;
-    push_signed(alloc, text, "new-ifindex", new_index(link))?;
+    push_lower_space(text, lower_space(link))?;
+    push_keyed_signed(text, "new-netnsid", new_space(link))?;
+    push_keyed_signed(text, "new-ifindex", new_index(link))?;
     push_down(text, link.view().u8(IFLA_PROTO_DOWN))
 }
 
@@ -58,7 +58,7 @@ fn new_index(link: &MessageIndex<'_, Links>) -> Option<i32>
 
 /// Appends the id of the network namespace of a lower link; `unknown` for one below 0.
 #[tactic(auto, unfolding(crate::specs::LinkNames::space_part, crate::specs::Parts::with_part))]
-fn push_space(alloc: Global, text: &mut String, id: Option<i32>) -> Result<(), AllocError>
+fn push_lower_space(text: &mut String, id: Option<i32>) -> Result<(), AllocError>
     ensures { OnOk result (string_bytes text.new ≡ with_part (string_bytes text.old) (space_part id)) }
 {
     match id {
@@ -67,24 +67,22 @@ fn push_space(alloc: Global, text: &mut String, id: Option<i32>) -> Result<(), A
             if id < 0 {
                 return push_part(text, "link-netnsid unknown");
             }
-            push_signed(alloc, text, "link-netnsid", Some(id))
+            push_keyed_signed(text, "link-netnsid", Some(id))
         }
     }
 }
 
 /// Appends a key and a signed number, if there is one.
-#[tactic(auto, unfolding(crate::specs::LinkNames::signed_part, crate::specs::Parts::with_part))]
-fn push_signed(
-    alloc: Global,
-    text: &mut String,
-    key: &str,
-    number: Option<i32>,
-) -> Result<(), AllocError>
+#[tactic(auto, using(crate::proofs::Pieces::key_more), unfolding(crate::specs::LinkNames::signed_part, crate::specs::Parts::with_part))]
+fn push_keyed_signed(text: &mut String, key: &str, number: Option<i32>) -> Result<(), AllocError>
     ensures { OnOk result
         (string_bytes text.new ≡ with_part (string_bytes text.old) (signed_part key.now number)) }
 {
     match number {
-        Some(number) => push_part(text, format!(in alloc; "{key} {number}")?.as_str()),
+        Some(number) => {
+            push_key(text, key)?;
+            push_signed(text, number)
+        }
         None => Ok(()),
     }
 }

@@ -136,7 +136,8 @@ fn timed(alloc: Global, time: Option<Time>, shown: Shown) -> Result<Shown, Alloc
 }
 
 /// Returns the lines of the message in a frame at this offset of the input, by the known names of
-/// links. Requires that the bytes are one frame.
+/// links. Requires that the bytes are one frame. `next_lines` calls it for types below 16 only, since
+/// `family_shown` makes the lines of the others.
 ///
 /// The line of a message of a known type is that of the family or, if the family has none, its type
 /// and size, as for an unknown type. Control messages are `done`, with its code if that is not 0;
@@ -201,7 +202,8 @@ fn item_shown<F: Line>(
     Ok(well_formed(line))
 }
 
-/// Returns the lines of a message that is not a control message.
+/// Returns the lines of a message that is not a control message: one whose type is below 16, but none
+/// of theirs, as `lines_of` calls it.
 fn own_shown<F: Line>(
     alloc: Global,
     known: &Names<'_>,

@@ -1,18 +1,17 @@
 //! Names of links with an index.
 
-ghost use Rattle.std.specs.Prelude.{◌≡◌, ◌++◌, ◌∷◌, ◌≤◌, [], is_some, length, OnOk};
+ghost use Rattle.std.specs.Prelude.{◌≡◌, ◌++◌, ◌∷◌, ◌≤◌, ◌<◌, ◌⊎◌, [], is_some, length, IfErr, OnOk, vec_capacity, vec_len};
 ghost use Rattle.std.specs.Option.{option_copied};
 ghost use Rattle.netlink_lines.specs.Device.{name_of};
 ghost use Rattle.netlink_lines.specs.Known.{has_name, link_known, with_name, with_room, without};
 ghost use Rattle.netlink_lines.specs.NameTable.{IsIndex};
 
 use crate::device::{Known, first_name};
-use crate::known::{MOST_LINKS, enter_name, forget, has_name};
+use crate::known::{MOST_LINKS, News, enter_name, forget, is_settled, news_of};
 use crate::name::Name;
-use crate::short::{LONGEST_NAME, Short};
+use crate::short::Short;
 use netlink_family::MessageView;
 use netlink_route::Links;
-use netlink_route::links::{IFI_INDEX, IFLA_IFNAME, RTM_DELLINK, RTM_NEWLINK};
 use std::alloc::{AllocError, Global};
 use std::collections::BTreeMap;
 use std::marker::Model;
@@ -127,7 +126,6 @@ impl NameTable {
 
     /// Enters the name of a link that exists, or removes that of a link that is deleted, as
     /// `learn_link` does.
-    #[tactic(auto, unfolding(crate::specs::Known::link_known))]
     pub(crate) fn learn(
         &mut self,
         alloc: Global,
@@ -136,17 +134,14 @@ impl NameTable {
         ensures { OnOk result (self.new
             ≡ link_known link.now.message_type link.now.payload.now self.old) }
     {
-        let index = link.header().i32(IFI_INDEX).cast_unsigned();
-        if link.message_type == RTM_NEWLINK {
-            return match link.view().str_bytes(IFLA_IFNAME) {
-                Some(name) => self.enter(alloc, index, name),
-                None => Ok(()),
-            };
+        match news_of(link) {
+            News::Named(index, name) => self.enter(alloc, index, name),
+            News::Deleted(index) => {
+                self.forget(index);
+                Ok(())
+            }
+            News::Nothing => Ok(()),
         }
-        if link.message_type == RTM_DELLINK {
-            self.forget(index);
-        }
-        Ok(())
     }
 
     /// Enters a name as `enter_name` does. After an allocation fails, the table has no index, and
@@ -175,7 +170,8 @@ impl NameTable {
     }
 }
 
-/// Enters a name into a list and its index, as `enter_name` does.
+/// Enters a name into a list and its index, as `enter_name` does. If an allocation fails, the list is
+/// unchanged, and the index is of no use.
 #[tactic(auto, unfolding(crate::specs::Known::with_name))]
 fn enter_indexed(
     alloc: Global,
@@ -187,17 +183,16 @@ fn enter_indexed(
     requires is { IsIndex map.old known.old.items }
     ensures list { OnOk result (known.new.items ≡ with_name index name.now known.old.items) }
     ensures index { OnOk result (IsIndex map.new known.new.items) }
+    ensures unchanged { IfErr result (λ _. known.new.items ≡ known.old.items) }
 {
-    if name.len() > LONGEST_NAME {
-        return Ok(());
-    }
-    if has_name(&Names::by(known, map), index, name) {
+    if is_settled(&Names::by(known, map), index, name) {
         return Ok(());
     }
     put(alloc, known, map, index, name)
 }
 
-/// Enters a name as the newest. Changes nothing if an allocation for the name or the index fails.
+/// Enters a name as the newest. If an allocation fails, the list is unchanged, and the index is of no
+/// use.
 fn put(
     alloc: Global,
     known: &mut Vec<Known>,
@@ -210,6 +205,7 @@ fn put(
     ensures list { OnOk result (known.new.items ≡ with_room (without index known.old.items)
         ++ record { index = index; name = name.now } ∷ []) }
     ensures index { OnOk result (IsIndex map.new known.new.items) }
+    ensures unchanged { IfErr result (λ _. known.new.items ≡ known.old.items) }
 {
     let link = Known {
         index,
@@ -231,6 +227,8 @@ fn put_last(
     requires is { IsIndex map.old (known.old.items ++ link ∷ []) }
     ensures list { OnOk result (known.new.items ≡ with_room known.old.items ++ link ∷ []) }
     ensures index { OnOk result (IsIndex map.new known.new.items) }
+    ensures unchanged { IfErr result (λ _. known.new.items ≡ known.old.items) }
+    ensures full { IfErr result (λ _. vec_capacity known.old ≤ vec_len known.old) }
 {
     if known.len() >= MOST_LINKS {
         let oldest = known.remove(0);
@@ -255,7 +253,8 @@ fn forget_indexed(known: &mut Vec<Known>, map: &mut BTreeMap<u32, Short>, index:
 #[tactic(auto, using(crate::proofs::Index::without_none))]
 fn forget_if(is_known: bool, known: &mut Vec<Known>, index: u32)
     requires known { is_known ≡ is_some (name_of known.old.items index) }
-    ensures { known.new.items ≡ without index known.old.items }
+    ensures list { known.new.items ≡ without index known.old.items }
+    ensures room { known.new.items ≡ known.old.items ⊎ vec_len known.new < vec_capacity known.new }
 {
     if is_known {
         forget(known, index);

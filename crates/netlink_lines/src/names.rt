@@ -39,27 +39,15 @@ pub(crate) fn push_state(text: &mut String, state: u8) -> Result<(), AllocError>
 pub fn family_text(alloc: Global, family: u8) -> Result<String, AllocError>
     ensures { IfOk result (λ text. string_bytes text ≡ family_text family) }
 {
-    let mut text = String::new(alloc);
-    push_family(&mut text, family)?;
-    Ok(text)
-}
-
-/// Appends the name of an address family as `family_text` returns it.
-fn push_family(text: &mut String, family: u8) -> Result<(), AllocError>
-    ensures { OnOk result (string_bytes text.new ≡ string_bytes text.old ++ family_text family) }
-{
     let name = match family {
         2 => "inet",
         7 => "bridge",
         10 => "inet6",
         17 => "link",
         28 => "mpls",
-        _ => {
-            text.push_str("family ")?;
-            return push_decimal(text, family as u32);
-        }
+        _ => return format!(in alloc; "family {family}"),
     };
-    text.push_str(name)
+    String::from_str(alloc, name)
 }
 
 /// Returns the name of a scope, an `RT_SCOPE_*` of linux/rtnetlink.h; for any other number, the
@@ -87,15 +75,6 @@ pub(crate) fn push_scope(text: &mut String, scope: u8) -> Result<(), AllocError>
     text.push_str(name)
 }
 
-/// Returns the name of a routing table.
-pub(crate) fn table_text(alloc: Global, table: u32) -> Result<String, AllocError>
-    ensures { IfOk result (λ text. string_bytes text ≡ table_text table) }
-{
-    let mut text = String::new(alloc);
-    push_table(&mut text, table)?;
-    Ok(text)
-}
-
 /// Appends the name of a routing table, an `RT_TABLE_*` of linux/rtnetlink.h; for any other number,
 /// the number in decimal.
 #[tactic(auto, unfolding(crate::specs::Names::table_text))]
@@ -109,15 +88,6 @@ pub(crate) fn push_table(text: &mut String, table: u32) -> Result<(), AllocError
         _ => return push_decimal(text, table),
     };
     text.push_str(name)
-}
-
-/// Returns the name of who installed a route.
-pub(crate) fn protocol_text(alloc: Global, protocol: u8) -> Result<String, AllocError>
-    ensures { IfOk result (λ text. string_bytes text ≡ protocol_text protocol) }
-{
-    let mut text = String::new(alloc);
-    push_protocol(&mut text, protocol)?;
-    Ok(text)
 }
 
 /// Appends the name of who installed a route. `ip` itself knows no name for 17 and 99.
@@ -134,26 +104,16 @@ pub(crate) fn push_protocol(text: &mut String, protocol: u8) -> Result<(), Alloc
     }
 }
 
-/// Returns the name of a type of route.
+/// Returns the name of a type of route; `none` for the type 0.
+#[tactic(auto, unfolding(crate::specs::Names::route_type_text))]
 pub(crate) fn route_type_text(alloc: Global, route_type: u8) -> Result<String, AllocError>
     ensures { IfOk result (λ text. string_bytes text ≡ route_type_text route_type) }
 {
-    let mut text = String::new(alloc);
-    push_route_type(&mut text, route_type)?;
-    Ok(text)
-}
-
-/// Appends the name of a type of route; `none` for the type 0.
-#[tactic(auto, unfolding(crate::specs::Names::route_type_text))]
-fn push_route_type(text: &mut String, route_type: u8) -> Result<(), AllocError>
-    ensures { OnOk result
-        (string_bytes text.new ≡ string_bytes text.old ++ route_type_text route_type) }
-{
     if route_type == 0 {
-        return text.push_str("none");
+        return String::from_str(alloc, "none");
     }
     match RouteType(route_type).name() {
-        Some(name) => text.push_str(name),
-        None => push_decimal(text, route_type as u32),
+        Some(name) => String::from_str(alloc, name),
+        None => format!(in alloc; "{route_type}"),
     }
 }

@@ -10,8 +10,8 @@ ghost use Rattle.netlink_lines.specs.Parts.{with_part, with_parts};
 use crate::address::or_empty;
 use crate::device::{Known, push_device};
 use crate::name_table::Names;
-use crate::names::protocol_text;
-use crate::parts::{or_zero, push_hardware, push_ip, push_keyed, push_part, push_when};
+use crate::names::push_protocol;
+use crate::parts::{or_zero, push_hardware, push_ip, push_key, push_part, push_when};
 use netlink_family::MessageView;
 use netlink_route::Neighbours;
 use netlink_route::neighbours::{
@@ -66,7 +66,7 @@ pub(crate) fn neighbour_line(
     let more = or_zero(neighbour.view().u32(NDA_FLAGS_EXT));
     push_flags(&mut text, neighbour.header().u8(NDM_FLAGS), more)?;
     push_states(&mut text, neighbour.header().u16(NDM_STATE))?;
-    push_protocol(alloc, &mut text, neighbour.view().u8(NDA_PROTOCOL))?;
+    push_protocol_part(&mut text, neighbour.view().u8(NDA_PROTOCOL))?;
     text.push_str("\n")?;
     Ok(text)
 }
@@ -185,8 +185,8 @@ fn state_name(bit: u16) -> &'static str
 }
 
 /// Appends a protocol other than 0.
-#[tactic(auto, unfolding(crate::specs::Neighbour::protocol_part, crate::specs::Parts::when, crate::specs::Parts::with_part))]
-fn push_protocol(alloc: Global, text: &mut String, protocol: Option<u8>) -> Result<(), AllocError>
+#[tactic(auto, using(crate::proofs::Pieces::protocol_more), unfolding(crate::specs::Neighbour::protocol_part, crate::specs::Parts::when, crate::specs::Parts::with_part))]
+fn push_protocol_part(text: &mut String, protocol: Option<u8>) -> Result<(), AllocError>
     ensures { OnOk result
         (string_bytes text.new ≡ with_part (string_bytes text.old) (protocol_part protocol)) }
 {
@@ -196,7 +196,8 @@ fn push_protocol(alloc: Global, text: &mut String, protocol: Option<u8>) -> Resu
             if protocol == 0 {
                 return Ok(());
             }
-            push_keyed(text, "proto", protocol_text(alloc, protocol)?.as_str())
+            push_key(text, "proto")?;
+            push_protocol(text, protocol)
         }
     }
 }

@@ -208,15 +208,15 @@ fn prefix_of(alloc: Global, ip: String, length: u8, whole: u8) -> Result<String,
 
 /// Appends an IP address, unless it has neither 4 nor 16 bytes.
 #[tactic(auto, using(crate::proofs::Pieces::four_part))]
-pub(crate) fn push_ip(alloc: Global, text: &mut String, ip: &[u8]) -> Result<(), AllocError>
+pub(crate) fn push_ip(alloc: Global, text: &mut String, address: &[u8]) -> Result<(), AllocError>
     ensures { OnOk result
-        (string_bytes text.new ≡ with_part (string_bytes text.old) (ip_words ip.now)) }
+        (string_bytes text.new ≡ with_part (string_bytes text.old) (ip_words address.now)) }
 {
-    if ip.len() == 4 {
+    if address.len() == 4 {
         push_space(text)?;
-        return push_dotted(text, ip);
+        return push_dotted(text, address);
     }
-    push_part(text, ip_words(alloc, ip)?.as_str())
+    push_part(text, ip_words(alloc, address)?.as_str())
 }
 
 /// Appends a key and bytes in hexadecimal, unless there are none.

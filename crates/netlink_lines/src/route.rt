@@ -231,7 +231,7 @@ fn push_origin(
     let own = is_own(route);
     push_table_part(text, table_of(route))?;
     push_installer(text, own, route.header().u8(RTM_PROTOCOL))?;
-    push_scope_part(text, own, route.header().u8(RTM_SCOPE))?;
+    push_other_scope(text, own, route.header().u8(RTM_SCOPE))?;
     push_address(alloc, text, "src", preferred_of(route))?;
     push_number(text, "metric", route.view().u32(RTA_PRIORITY))?;
     push_hop_flags(alloc, text, route.header().u32(RTM_FLAGS))
@@ -282,7 +282,7 @@ fn push_installer(text: &mut String, own: bool, protocol: u8) -> Result<(), Allo
 
 /// Appends the scope, unless it is `global` or the route was looked up.
 #[tactic(auto, using(crate::proofs::Pieces::part_more), unfolding(crate::specs::Parts::with_part))]
-fn push_scope_part(text: &mut String, own: bool, scope: u8) -> Result<(), AllocError>
+fn push_other_scope(text: &mut String, own: bool, scope: u8) -> Result<(), AllocError>
     ensures { OnOk result
         (string_bytes text.new ≡ with_part (string_bytes text.old) (scope_part own scope)) }
 {

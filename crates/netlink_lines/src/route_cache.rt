@@ -69,7 +69,7 @@ fn cache_flags(alloc: Global, flags: u32) -> Result<String, AllocError>
     ensures { IfOk result (λ text. string_bytes text ≡ cache_flags flags) }
 {
     let mut names = named_flags(alloc, flags)?;
-    push_unnamed(alloc, &mut names, flags & UNNAMED)?;
+    push_unnamed_flags(alloc, &mut names, flags & UNNAMED)?;
     Ok(names)
 }
 
@@ -97,7 +97,7 @@ fn push_cache_flag(names: &mut String, flags: u32, bit: u32) -> Result<(), Alloc
 }
 
 /// Appends the bits without a name.
-fn push_unnamed(alloc: Global, names: &mut String, rest: u32) -> Result<(), AllocError>
+fn push_unnamed_flags(alloc: Global, names: &mut String, rest: u32) -> Result<(), AllocError>
     ensures { OnOk result (string_bytes names.new ≡ with_rest rest (string_bytes names.old)) }
 {
     if rest == 0 {

@@ -56,7 +56,7 @@ fn parts_text(alloc: Global, rule: &MessageView<'_, Rules>) -> Result<String, Al
     push_where(alloc, &mut text, rule)?;
     push_lookup(alloc, &mut text, rule)?;
     push_action(alloc, &mut text, rule)?;
-    push_installer(alloc, &mut text, rule.view().u8(FRA_PROTOCOL))?;
+    push_installer(&mut text, rule.view().u8(FRA_PROTOCOL))?;
     Ok(text)
 }
 

@@ -5,8 +5,8 @@ ghost use Rattle.netlink_packet_core.specs.Numbers.{signed};
 ghost use Rattle.netlink_lines.specs.Parts.{with_part, with_parts};
 ghost use Rattle.netlink_lines.specs.RuleParts.{action_part, action_text, goto_part, group_part, group_text, installer_part, lookup_parts, rule_table, suppressed_part, table_parts};
 
-use crate::names::{protocol_text, route_type_text, table_text};
-use crate::parts::{push_keyed, push_part, push_realms};
+use crate::names::{push_protocol, push_table, route_type_text};
+use crate::parts::{push_key, push_part, push_realms};
 use netlink_family::MessageView;
 use netlink_route::Rules;
 use netlink_route::rules::{
@@ -29,14 +29,14 @@ pub(crate) fn push_lookup(
 {
     let table = table_of(rule);
     if table != 0 {
-        push_table(alloc, text, table, rule)?;
+        push_lookup_table(alloc, text, table, rule)?;
     }
     push_realms(alloc, text, "realms", "realms", rule.view().u32(FRA_FLOW))
 }
 
 /// Appends the table to look in and what of it is not used.
-#[tactic(auto, unfolding(crate::specs::RuleParts::table_parts))]
-fn push_table(
+#[tactic(auto, using(crate::proofs::Pieces::table_more), unfolding(crate::specs::RuleParts::table_parts))]
+fn push_lookup_table(
     alloc: Global,
     text: &mut String,
     table: u32,
@@ -45,7 +45,8 @@ fn push_table(
     ensures { OnOk result (string_bytes text.new
         ≡ with_parts (string_bytes text.old) (table_parts table rule.now.payload.now)) }
 {
-    push_keyed(text, "lookup", table_text(alloc, table)?.as_str())?;
+    push_key(text, "lookup")?;
+    push_table(text, table)?;
     push_suppressed(alloc, text, rule.view().u32(FRA_SUPPRESS_PREFIXLEN))?;
     push_group(alloc, text, rule.view().u32(FRA_SUPPRESS_IFGROUP))
 }
@@ -171,12 +172,8 @@ fn push_goto(
 }
 
 /// Appends who installed a rule, unless that is nobody or the kernel.
-#[tactic(auto, unfolding(crate::specs::RuleParts::installer_part, crate::specs::Parts::with_part))]
-pub(crate) fn push_installer(
-    alloc: Global,
-    text: &mut String,
-    protocol: Option<u8>,
-) -> Result<(), AllocError>
+#[tactic(auto, using(crate::proofs::Pieces::protocol_more), unfolding(crate::specs::RuleParts::installer_part, crate::specs::Parts::with_part))]
+pub(crate) fn push_installer(text: &mut String, protocol: Option<u8>) -> Result<(), AllocError>
     ensures { OnOk result
         (string_bytes text.new ≡ with_part (string_bytes text.old) (installer_part protocol)) }
 {
@@ -186,7 +183,8 @@ pub(crate) fn push_installer(
             if protocol == 0 || protocol == 2 {
                 return Ok(());
             }
-            push_keyed(text, "proto", protocol_text(alloc, protocol)?.as_str())
+            push_key(text, "proto")?;
+            push_protocol(text, protocol)
         }
     }
 }

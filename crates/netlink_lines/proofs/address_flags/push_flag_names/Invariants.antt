@@ -1,7 +1,7 @@
 use Rattle.std.proofs.Common.{◌≡◌, take, string_bytes}
 use Rattle.std.specs.List.{fold}
 use Rattle.netlink_lines.specs.AddressFlags.{flag_order, with_flag}
-use Rattle.netlink_lines.proofs.address_flags.push_named.Given as goal
+use Rattle.netlink_lines.proofs.address_flags.push_flag_names.Given as goal
 
 -- the flags so far are named
 abbrev pub invariant-loop-bit : goal.invariant-loop-bit

@@ -1,7 +1,7 @@
 use Rattle.std.proofs.Common.{◌≡◌, ◌++◌, drop, take, string_bytes}
 use Rattle.std.specs.List.{fold}
 use Rattle.netlink_lines.specs.Flags.{flag_order, with_flag}
-use Rattle.netlink_lines.proofs.flags.push_named.Given as goal
+use Rattle.netlink_lines.proofs.flags.push_flag_names.Given as goal
 
 -- the flags so far are named
 abbrev pub invariant-loop-bit : goal.invariant-loop-bit

@@ -1,6 +1,6 @@
 use Rattle.std.proofs.Common.{◌∙◌, arith, string_bytes}
 use Rattle.netlink_lines.proofs.Listed.{flag_step}
-use Rattle.netlink_lines.proofs.flags.push_named.Goals as goal
+use Rattle.netlink_lines.proofs.flags.push_flag_names.Goals as goal
 
 pub loop-bit-preserved : goal.loop-bit-preserved
 loop-bit-preserved c =

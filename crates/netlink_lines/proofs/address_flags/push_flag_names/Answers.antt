@@ -1,7 +1,7 @@
 use Rattle.std.proofs.Common.{ℕ, List, get_or, ap, sym, ◌∙◌, arith, string_bytes}
 use Rattle.std.proofs.lemmas.List.Sums.{fold_more}
 use Rattle.netlink_lines.specs.AddressFlags.{flag_order, with_flag}
-use Rattle.netlink_lines.proofs.address_flags.push_named.Goals as goal
+use Rattle.netlink_lines.proofs.address_flags.push_flag_names.Goals as goal
 
 pub loop-bit-preserved : goal.loop-bit-preserved
 loop-bit-preserved c =
