@@ -1,5 +1,7 @@
 /* Prints a family of generic netlink, or all of them: genl-family-get of libmnl's examples, over
- * netlink_packet.h alone. */
+ * netlink_packet.h alone. Ends with status 1, and prints why, if the answer is an error, malformed,
+ * incomplete, or torn by a change of the families. */
+#include <errno.h>
 #include <linux/genetlink.h>
 #include <netlink_packet.h>
 #include <stdio.h>
@@ -84,15 +86,59 @@ static void print_family(const struct nlp_message *message)
     printf("\n");
 }
 
+/* Receives a datagram. Returns its size, or 0 after it printed why not. */
+static size_t receive(int fd)
+{
+    const ssize_t size = recv(fd, bytes, sizeof bytes, MSG_TRUNC);
+    if (size > 0 && (size_t)size <= sizeof bytes)
+        return (size_t)size;
+    if (size < 0)
+        perror("the answer");
+    else
+        fprintf(stderr, "the answer: %s\n", size == 0 ? "it has no end" : "a datagram is too long");
+    return 0;
+}
+
+/* Prints the error that the kernel sent, a negative errno, and returns the status of the program. */
+static int refused(int32_t code)
+{
+    fprintf(stderr, "error %d: %s\n", (int)code, strerror(code < 0 && code > -4096 ? -code : EPROTO));
+    return 1;
+}
+
+/* Reads the answer to a request and prints its families. Returns the status of the program. */
+static int print_answer(int fd, const struct nlp_header *header, uint32_t is_dump)
+{
+    struct nlp_replies replies;
+    struct nlp_reply reply;
+    struct nlp_message message;
+    uint32_t result = NLP_END;
+
+    nlp_replies_begin(header, is_dump, &replies);
+    while (!replies.ended && result == NLP_END) {
+        const size_t size = receive(fd);
+        size_t at = 0;
+        if (size == 0)
+            return 1;
+        while ((result = nlp_replies_next_opt(bytes, size, &at, &replies, &reply, NULL)) == NLP_OK) {
+            if (reply.code != 0 && reply.what != NLP_OTHER)
+                return refused(reply.code);
+            if (reply.what == NLP_MESSAGE && nlp_reply_message(bytes, &reply, &message) == NLP_OK)
+                print_family(&message);
+        }
+    }
+    if (result != NLP_END)
+        fprintf(stderr, "the answer is malformed: result %u\n", (unsigned)result);
+    else if (replies.interrupted)
+        fprintf(stderr, "the families changed during the dump: request it again\n");
+    return result == NLP_END && !replies.interrupted ? 0 : 1;
+}
+
 int main(int count, char **names)
 {
     uint8_t request[256];
     const struct genlmsghdr command = { CTRL_CMD_GETFAMILY, 1, 0 };
     struct nlp_header header = { 0, GENL_ID_CTRL, NLM_F_REQUEST | NLM_F_ACK, 1, 0 };
-    struct nlp_replies replies;
-    struct nlp_reply reply;
-    struct nlp_message message;
-    int32_t code = 0;
 
     if (count == 1)
         header.flags |= NLM_F_DUMP;
@@ -108,18 +154,7 @@ int main(int count, char **names)
         perror("the request");
         return 1;
     }
-    nlp_replies_begin(&header, count == 1, &replies);
-    while (!replies.ended) {
-        const ssize_t size = recv(fd, bytes, sizeof bytes, 0);
-        size_t at = 0;
-        if (size <= 0)
-            return 1;
-        while (nlp_replies_next_opt(bytes, (size_t)size, &at, &replies, &reply, NULL) == NLP_OK) {
-            code |= reply.code;
-            if (reply.what == NLP_MESSAGE && nlp_reply_message(bytes, &reply, &message) == NLP_OK)
-                print_family(&message);
-        }
-    }
+    const int status = print_answer(fd, &header, count == 1);
     close(fd);
-    return code == 0 ? 0 : 1;
+    return status;
 }

@@ -1,5 +1,7 @@
 /* Prints the links of this machine: rtnl-link-dump of libmnl's examples, over netlink_packet.h
- * alone. With arguments, reads the answer from these files, without a socket. */
+ * alone. With arguments, reads the answer from these files, without a socket. Ends with status 1, and
+ * prints why, if the answer is an error, malformed, incomplete, or torn by a change of the links. */
+#include <errno.h>
 #include <linux/if.h>
 #include <linux/if_link.h>
 #include <linux/rtnetlink.h>
@@ -55,7 +57,7 @@ static int ask(const struct nlp_header *header)
     return fd;
 }
 
-/* Receives a datagram, or reads the next file. Returns its size, or 0. */
+/* Receives a datagram, or reads the next file. Returns its size, or 0 after it printed why not. */
 static size_t receive(int fd, char ***names)
 {
     FILE *file = **names != NULL ? fopen(*(*names)++, "rb") : NULL;
@@ -64,9 +66,22 @@ static size_t receive(int fd, char ***names)
         size = (ssize_t)fread(bytes, 1, sizeof bytes, file);
         fclose(file);
     } else if (fd >= 0) {
-        size = recv(fd, bytes, sizeof bytes, 0);
+        size = recv(fd, bytes, sizeof bytes, MSG_TRUNC);
     }
-    return size > 0 ? (size_t)size : 0;
+    if (size > 0 && (size_t)size <= sizeof bytes)
+        return (size_t)size;
+    if (size < 0)
+        perror("the answer");
+    else
+        fprintf(stderr, "the answer: %s\n", size == 0 ? "it has no end" : "a datagram is too long");
+    return 0;
+}
+
+/* Prints the error that the kernel sent, a negative errno, and returns the status of the program. */
+static int refused(int32_t code)
+{
+    fprintf(stderr, "error %d: %s\n", (int)code, strerror(code < 0 && code > -4096 ? -code : EPROTO));
+    return 1;
 }
 
 int main(int count, char **names)
@@ -76,20 +91,25 @@ int main(int count, char **names)
     struct nlp_reply reply;
     struct nlp_message message;
     const int fd = count == 1 ? ask(&header) : -1;
-    int32_t code = 0;
+    uint32_t result = NLP_END;
 
     nlp_replies_begin(&header, 1, &replies);
     names++;
-    while (!replies.ended) {
+    while (!replies.ended && result == NLP_END) {
         const size_t size = receive(fd, &names);
         size_t at = 0;
         if (size == 0)
             return 1;
-        while (nlp_replies_next_opt(bytes, size, &at, &replies, &reply, NULL) == NLP_OK) {
-            code |= reply.code;
+        while ((result = nlp_replies_next_opt(bytes, size, &at, &replies, &reply, NULL)) == NLP_OK) {
+            if (reply.code != 0 && reply.what != NLP_OTHER)
+                return refused(reply.code);
             if (reply.what == NLP_MESSAGE && nlp_reply_message(bytes, &reply, &message) == NLP_OK)
                 print_link(&message);
         }
     }
-    return code == 0 ? 0 : 1;
+    if (result != NLP_END)
+        fprintf(stderr, "the answer is malformed: result %u\n", (unsigned)result);
+    else if (replies.interrupted)
+        fprintf(stderr, "the links changed during the dump: request it again\n");
+    return result == NLP_END && !replies.interrupted ? 0 : 1;
 }

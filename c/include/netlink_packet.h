@@ -30,7 +30,8 @@
  * Proved of each function: unless it returns NLP_OK, it changes nothing but the fault, the cursor of a walk,
  * the state of an answer, `*size` at NLP_NO_ROOM, the offset of nlp_attrs_validate, and the outputs of
  * nlp_ext_ack_path, nlp_attrs_find and nlp_attrs_table. So you may set an output to a default value, and
- * ignore the result of a getter. The compiler warns if you ignore any other result.
+ * ignore the result of nlp_get_*, nlp_ext_ack_*, nlp_reply_message, nlp_attrs_find and nlp_attrs_table. The
+ * compiler warns if you ignore any other result.
  *
  * If you know libmnl:
  *
@@ -388,12 +389,30 @@ uint32_t nlp_done_body(const uint8_t *bytes, size_t len, int32_t *code, struct n
 /* Reads the answer to a dump:
  *
  *     nlp_replies_begin(&header, 1, &replies);            // the header of the request that is sent
- *     while (!replies.ended && (size = recv(fd, bytes, sizeof bytes, 0)) > 0) {
+ *     while (!replies.ended) {
+ *         if ((size = recv(fd, bytes, sizeof bytes, 0)) <= 0) {
+ *             perror("the answer");
+ *             return 1;
+ *         }
  *         at = 0;
- *         while (nlp_replies_next(bytes, size, &at, &replies, &reply, &fault) == NLP_OK)
+ *         while ((result = nlp_replies_next(bytes, (size_t)size, &at, &replies, &reply, &fault)) == NLP_OK) {
  *             if (reply.what == NLP_MESSAGE)
  *                 use(bytes + reply.frame.offset, reply.frame.size);
+ *             if (reply.what != NLP_OTHER && reply.code != 0) {
+ *                 fprintf(stderr, "error %d: %s\n", (int)reply.code, strerror(-reply.code));
+ *                 return 1;
+ *             }
+ *         }
+ *         if (result != NLP_END) {
+ *             fprintf(stderr, "the answer is malformed: result %u\n", (unsigned)result);
+ *             return 1;
+ *         }
  *     }
+ *     if (replies.interrupted) {
+ *         fprintf(stderr, "something changed during the dump: request it again\n");
+ *         return 1;
+ *     }
+ *     return 0;
  *
  * The answer to a rejected request ends with NLP_REJECTED and a code, and that of a dump that fails later
  * with NLP_DONE and a code. Two requests can share a socket: each has its own state, which reads every
