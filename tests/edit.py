@@ -148,3 +148,17 @@ def edits_of(crate, folder):
     """Returns the crate's edits, from this folder."""
     names = sorted(os.listdir(folder)) if os.path.isdir(folder) else []
     return [Edit(crate, os.path.join(folder, it)) for it in names if it.endswith(".edit")]
+
+
+def path_of(top, name):
+    """Returns the path of an edit that is named as CRATE/EDIT, in the repository at `top`."""
+    crate, _, edit = name.partition("/")
+    return os.path.join(top, "crates", crate, "must-fail", f"{edit}.edit")
+
+
+def chosen(edits, names, all_if_none):
+    """Returns those of a crate's edits that are named, or all if the crate is. If nothing is named, returns all or none."""
+    wanted = {f"{it}.edit" for it in names}
+    if not names and all_if_none:
+        return edits
+    return [it for it in edits if it.crate in names or f"{it.crate}/{it.name}" in wanted]

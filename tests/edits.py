@@ -1,5 +1,5 @@
 #!/usr/bin/env python3
-"""Tries the must-fail edits of all crates, or of the crates named: a contract must reject each.
+"""Tries the must-fail edits of all crates, or of the crates named, or the edits named: a contract must reject each.
 
 An edit changes code only (edit.py checks this by reading). It counts as rejected only if the prover reads the edited
 text and fails to prove a goal of an `ensures` of every function that the edit changes, or of the functions that its
@@ -11,7 +11,7 @@ functions. The prover proves a function against the contracts of the functions t
 so one broken implementation does not affect the goals of another. A function that is not proved only because it depends
 on another one shows nothing: its edit is tried again in another check, and in the end alone.
 
-    tests/edits.py [--clone FOLDER] [--log FOLDER] [CRATE..]
+    tests/edits.py [--clone FOLDER] [--log FOLDER] [--tests] [CRATE..] [CRATE/EDIT..]
 
 Works in a copy of the crates or, with four processors or more, in two, each with a part of the edits. An edit counts only
 if the crate is proved without it, so first proves there the crates and those below them, the lowest first. Then tries the
@@ -19,8 +19,8 @@ edits from the top down: those of a crate after those of the crates above it, so
 below again. Restores the sources after each check. In one copy, one check runs at a time, because `rt` lets no two run
 over the same library. --clone keeps the copies in this folder, and a later run proves only what changed. --log keeps what
 each check prints, each line prefixed with the seconds since its start, so the lines `checked NAME` show what each function
-costs. If no crate is named, also tries the edits of tests/edits/, each of which states what this script must print for
-it.
+costs. If nothing is named, also tries the edits of tests/edits/, each of which states what this script must print for it.
+With --tests, tries these and what is named.
 """
 
 import argparse
@@ -33,8 +33,9 @@ import tempfile
 import time
 from concurrent.futures import ThreadPoolExecutor
 
-from edit import BadEdit, edits_of, function_at_line, is_of
+from edit import BadEdit, chosen, edits_of, function_at_line, is_of, path_of
 from libraries import TOP, below, dependencies, folder_of
+from reasons import open_goals, wrong_answers
 
 # The largest number of edits that one check tries.
 BATCH = 24
@@ -49,14 +50,6 @@ WHOLE = re.compile(r"(?m)^logic=proved ")
 ONLY = re.compile(r"(?m)^only=\d+ \w+=\d+")
 # The path of a function of the crate that is proved.
 PROVED = re.compile(r"(?m)^fn ([\w+]+(?:::[\w+]+)*): proved$")
-# A goal of an `ensures` for which no proof file has an answer, and where in the code it arises.
-OPEN_GOAL = re.compile(r"(?m)^note: (src/\S+?):(\d+):\d+: it is not proved that what the function ensures holds")
-# A goal that its answer in a proof file does not prove: the function's folder in proofs/, the goal, and the reason.
-WRONG_ANSWER = re.compile(r"(?m)^(?:\./)?proofs/(\S+)/Answers\.antt:\d+:\d+: error: `([^`]+)`: (.*)$")
-# The name of a goal of an `ensures`. If functions call one another, it begins with the function's name.
-ENSURES = re.compile(r"(?:(\w+)-)?returns(?:-.*)?")
-# If an answer fails because the edit removed a name, that shows little about the contract.
-NAME_GONE = re.compile(r"has no field|is not in scope|has no `|was not admitted|is no name|names nothing")
 ERROR = re.compile(r"^(?:\./)?(\S+?):\d+:\d+: error: (?:(`[^`]*`): )?(.*)$", re.M)
 UNREAD = re.compile(r"is not in scope|has no field|is no name|operand is missing|expected the end|cannot continue")
 
@@ -129,14 +122,10 @@ class Checked:
     def broken(self, paths):
         """Returns which of these functions, all paths in the crate, have a goal of an `ensures` that is not proved."""
         found = set()
-        for it in OPEN_GOAL.finditer(self.output):
-            function = function_at_line(it[1], self.texts.get(it[1], ""), int(it[2]))
+        for file, line in open_goals(self.output):
+            function = function_at_line(file, self.texts.get(file, ""), line)
             found |= {path for path in paths if function and is_of(function, path)}
-        for it in WRONG_ANSWER.finditer(self.output):
-            goal, path = ENSURES.fullmatch(it[2]), re.sub(r"(^|::)\+", r"\1", it[1].replace("/", "::"))
-            if goal and not NAME_GONE.search(re.sub(r"`[^`]*`", "`", it[3])):
-                found.add("::".join([*path.split("::")[:-1], goal[1]]) if goal[1] else path)
-        return found.intersection(paths)
+        return found.union(wrong_answers(self.output)).intersection(paths)
 
     def why(self):
         """Returns the first line that states what was not proved or not read."""
@@ -369,7 +358,8 @@ def options(words):
     parser = argparse.ArgumentParser(description="Tries the must-fail edits: a contract must reject each.")
     parser.add_argument("--clone", help="keep the copies of the crates in this folder (default: a temporary one)")
     parser.add_argument("--log", help="write what each check prints, with times, to a file in this folder")
-    parser.add_argument("crates", nargs="*", help="crates to test (default: all)")
+    parser.add_argument("--tests", action="store_true", help="try the edits of tests/edits/, which test this script, and those that are named")
+    parser.add_argument("names", nargs="*", help="crates, or edits as CRATE/EDIT (default: all crates)")
     return parser.parse_args(words)
 
 
@@ -377,14 +367,19 @@ def main(words):
     how, names = options(words), dependencies()
     if how.log:
         os.makedirs(how.log, exist_ok=True)
-    crates = how.crates or [it for it in names if edits_of(it, os.path.join(folder_of(it), "must-fail"))]
+    own = [] if how.names and not how.tests else edits_of("tests/edits", os.path.join(TOP, "tests", "edits"))
+    crates = {it.partition("/")[0] for it in how.names} | {it.base for it in own if how.tests}
+    if unknown := [it for it in how.names if "/" in it and not os.path.isfile(path_of(TOP, it))]:
+        sys.exit(f"no such edit: {' '.join(unknown)}")
+    crates = sorted(crates) or [it for it in names if edits_of(it, os.path.join(folder_of(it), "must-fail"))]
     with tempfile.TemporaryDirectory(prefix="edits-") as folder:
         parts = shares(crates, names, 2 if len(os.sched_getaffinity(0)) >= 4 else 1)
         tops = [os.path.join(how.clone or folder, str(number)) for number in range(len(parts))]
         lanes = [Lane(top, names, part, how.log) for top, part in zip(tops, parts)]
-        if not how.crates:
-            for edit in edits_of("tests/edits", os.path.join(TOP, "tests", "edits")):
-                next(it for lane in lanes for it in lane.crates if it.name == edit.base).script_tests.append(edit)
+        for crate in [it for lane in lanes for it in lane.crates]:
+            crate.edits = chosen(crate.edits, how.names, not how.tests)
+        for edit in own:
+            next(it for lane in lanes for it in lane.crates if it.name == edit.base).script_tests.append(edit)
         with ThreadPoolExecutor(len(lanes)) as threads:
             for it in [threads.submit(lane.run) for lane in lanes]:
                 it.result()

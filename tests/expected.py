@@ -8,8 +8,9 @@ import re
 TOP = os.path.dirname(os.path.dirname(os.path.abspath(__file__)))
 FILE = "tests/expected.txt"
 
-# The step that tries the edits, and the folder of edits that test this step itself.
-EDITS, OWN_EDITS = "tests/edits.py", "tests/edits"
+# The step that proves the crates and tries their edits; the script that tries the edits of a crate by function, and the
+# folder of edits that test this script.
+CI, EDITS, OWN_EDITS = "rt ci", "tests/edits.py", "tests/edits"
 
 # The form of each line, by its first word: its name, and its number or digest.
 POSITIVE = r"[1-9]\d*"
@@ -21,6 +22,7 @@ FORMS = {
     "passes-at-least": rf"(\S.*) ({POSITIVE})",
     "skippable": r"([\w-]+ \S.*) (\d+)",
     "digest": r"(\S+) ([0-9a-f]{64})",
+    "other-reason": r"(\w+/\w+)()",
 }
 
 
@@ -51,7 +53,9 @@ class Expected:
         with open(os.path.join(top, FILE), encoding="utf-8") as file:
             for at, line in enumerate(file, 1):
                 self.read(at, line.partition("#")[0].split())
-        self.lines["passes"][EDITS] = sum(self.lines["edits"].values())
+        edits = self.lines["edits"]
+        self.lines["passes"][EDITS] = edits.get(OWN_EDITS, 0)
+        self.lines["passes"][CI] = self.lines["passes"].get(CI, 0) + sum(edits.values()) - edits.get(OWN_EDITS, 0)
 
     def read(self, at, words):
         """Reads the words of one line, without its comment."""
@@ -88,6 +92,24 @@ class Expected:
                 yield why
         for name in sorted({*stated, *self.lines["measures"]} - {*names}):
             yield f"{FILE} names the crate {name}, which does not exist"
+
+    def edits(self):
+        """Returns the names of all edits, as CRATE/EDIT."""
+        paths = glob.glob(os.path.join(glob.escape(self.top), "crates", "*", "must-fail", "*.edit"))
+        return sorted(f"{path.split(os.sep)[-3]}/{os.path.basename(path)[:-5]}" for path in paths)
+
+    def unclear(self, reasons):
+        """Returns the edits that tests/edits.py must try: those whose first reason is no goal of an `ensures`, and for
+        which no line states that. `reasons` has, for each edit that `rt ci` refused, whether it is such a goal."""
+        return [it for it in self.edits() if not reasons.get(it, True) and it not in self.lines["other-reason"]]
+
+    def wrong_edits_tried(self, reasons):
+        """Yields each edit that `rt ci` did not refuse, and each line about an edit that does not exist."""
+        for edit in self.edits():
+            if edit not in reasons:
+                yield f"rt ci did not refuse the edit {edit}"
+        for edit in sorted({*self.lines["other-reason"]} - {*self.edits()}):
+            yield f"{FILE} names the edit {edit}, which does not exist"
 
     def wrong_tests(self, counted):
         """Yields each difference in the numbers of tests that ran and passed in each crate."""
