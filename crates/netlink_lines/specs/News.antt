@@ -5,7 +5,7 @@ use Rattle.netlink_lines.specs.declared.device.Known.{Known}
 use Rattle.netlink_lines.specs.declared.known.News.{News}
 use Rattle.netlink_lines.specs.declared.known.News.TheVariants as news
 
--- the names after this was told
+-- the names after this news
 abbrev pub after_news : News → List Known → List Known
 after_news (news.Named index name) known = with_name index name.now known
 after_news (news.Deleted index) known = without index known

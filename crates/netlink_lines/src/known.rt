@@ -18,7 +18,7 @@ use std::alloc::{AllocError, Global};
 /// The number of links whose names are kept.
 pub(crate) const MOST_LINKS: usize = 65_536;
 
-/// What a message about a link tells of its name.
+/// What a message about a link says about its name.
 pub(crate) enum News<'a> {
     /// The link with this index exists and has this name.
     Named(u32, &'a [u8]),
@@ -28,7 +28,7 @@ pub(crate) enum News<'a> {
     Nothing,
 }
 
-/// Returns what a message about a link tells of its name.
+/// Returns what a message about a link says about its name.
 #[inline(always)]
 #[tactic(auto, unfolding(crate::specs::Known::link_known))]
 pub(crate) fn news_of<'a>(link: &MessageView<'a, Links>) -> News<'a>

@@ -202,8 +202,8 @@ fn item_shown<F: Line>(
     Ok(well_formed(line))
 }
 
-/// Returns the lines of a message that is not a control message: one whose type is below 16, but none
-/// of theirs, as `lines_of` calls it.
+/// Returns the lines of a message that is not a control message. Its type is below 16, as `lines_of`
+/// calls it.
 fn own_shown<F: Line>(
     alloc: Global,
     known: &Names<'_>,
