@@ -1,9 +1,9 @@
 //! Shapes that are chosen by the value of another attribute.
 
-ghost use Rattle.std.specs.Prelude.{ℕ, ◌≡◌, ◌==◌, ◌&&◌, IfSome, List, bytes_eq, true};
+ghost use Rattle.std.specs.Prelude.{ℕ, ◌≡◌, ◌==◌, ◌&&◌, IfNone, IfSome, List, None, Some, bytes_eq, true};
 ghost use Rattle.netlink_family.specs.Listing.{first_of, listed};
 ghost use Rattle.netlink_family.specs.Policies.{IsPart};
-ghost use Rattle.netlink_family.specs.Shapes.{CachesOther, choice_at, choice_by, resolved, rows_in, shape_among, within, are_sorted};
+ghost use Rattle.netlink_family.specs.Shapes.{CachesOther, choice_at, choice_by, resolved, rows_in, shape_among, shape_in, within, are_sorted};
 
 use crate::find::first_value;
 use crate::shape::{Row, Shape, TOP, cached_shape, near_row, row_shape, rows_from, searched_shape};
@@ -38,17 +38,17 @@ pub(crate) fn near_shape(rows: &[Row], policy: u16, kind: u16) -> Option<Shape>
     }
 }
 
-/// Like `shape_among`, for a kind for which `near_shape` returned `None`. Outside nests, that may be
+/// Like `row_shape`, for a kind for which `near_shape` returned `None`. Outside nests, that may be
 /// because a value chooses the shape, and its row is near. In nests, searches at once.
 #[inline(always)]
-pub(crate) fn far_shape_among(rows: &[Row], policy: u16, block: &[u8], kind: u16) -> Shape
+pub(crate) fn far_row_shape(rows: &[Row], policy: u16, kind: u16) -> Shape
     requires sorted { are_sorted (rows_in rows.now) ≡ true }
-    ensures { result ≡ shape_among (within (rows_in rows.now) block.now) policy kind }
+    ensures { result ≡ shape_in (rows_in rows.now) policy kind }
 {
     if policy == TOP {
-        return shape_among(rows, policy, block, kind);
+        return row_shape(rows, policy, kind);
     }
-    resolved(rows, block, searched_shape(rows, policy, kind))
+    searched_shape(rows, policy, kind)
 }
 
 /// Like `shape_among`, for a kind that is looked up among `own`, rows among which are all of the policy.
@@ -122,7 +122,17 @@ fn chosen_shape(rows: &[Row], policy: u16, block: &[u8], by: u16) -> Shape
     requires sorted { are_sorted (rows_in rows.now) ≡ true }
     ensures { result ≡ choice_by (rows_in rows.now) policy (first_of by (listed block.now)) }
 {
-    match first_value(block, by) {
+    chosen_by(rows, policy, first_value(block, by))
+}
+
+/// Returns the shape that the value of an attribute chooses; `Bytes` without an attribute.
+#[inline(always)]
+pub(crate) fn chosen_by(rows: &[Row], policy: u16, value: Option<&[u8]>) -> Shape
+    requires sorted { are_sorted (rows_in rows.now) ≡ true }
+    ensures some { IfSome value.entry (λ v. result ≡ choice_by (rows_in rows.now) policy (Some v.now)) }
+    ensures none { IfNone value.entry (result ≡ choice_by (rows_in rows.now) policy None) }
+{
+    match value {
         Some(value) => choice_at(rows, policy, bytes_until_nul(value)),
         None => Shape::Bytes,
     }
@@ -130,6 +140,7 @@ fn chosen_shape(rows: &[Row], policy: u16, block: &[u8], by: u16) -> Shape
 
 /// Returns the shape in the first row of a policy with a name; `Bytes` if there is none. Only reads
 /// the names in the policy.
+#[inline(always)]
 #[tactic(auto, using(crate::proofs::PolicyRows::begins, crate::proofs::PolicyRows::ends))]
 fn choice_at(rows: &[Row], policy: u16, name: &[u8]) -> Shape
     requires sorted { are_sorted (rows_in rows.now) ≡ true }

@@ -10,7 +10,7 @@ ghost use Rattle.netlink_family.specs.Values.{NestHasRows, IsValueOf, value_shap
 
 use crate::attributes::Attributes;
 use crate::block_view::BlockView;
-use crate::choice::{far_shape_among, near_shape};
+use crate::choice::{chosen_by, far_row_shape, near_shape};
 use crate::find::first_whole;
 use crate::header_view::HeaderView;
 use crate::shape::{Shape, nest_block, policy_of};
@@ -287,7 +287,13 @@ impl<'a> BlockView<'a> {
 fn far_shape(view: &BlockView<'_>, kind: u16) -> Shape
     ensures { result ≡ shape_at view.now kind }
 {
-    far_shape_among(view.rows, view.policy, view.block, kind)
+    match far_row_shape(view.rows, view.policy, kind) {
+        Shape::Chosen { by, policy } => {
+            are_shaped(view, view.block);
+            chosen_by(view.rows, policy, first_whole(view.block, by))
+        }
+        shape => shape,
+    }
 }
 
 /// A law: the attributes have the shapes of their kinds. Does nothing at run time.
