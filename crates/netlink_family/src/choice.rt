@@ -6,7 +6,7 @@ ghost use Rattle.netlink_family.specs.Policies.{IsPart};
 ghost use Rattle.netlink_family.specs.Shapes.{CachesOther, choice_at, choice_by, resolved, rows_in, shape_among, shape_in, within, are_sorted};
 
 use crate::find::first_value;
-use crate::shape::{Row, Shape, TOP, cached_shape, near_row, row_shape, rows_from, searched_shape};
+use crate::shape::{Row, Shape, TOP, cached_shape, near_row, row_shape, rows_after, searched_shape};
 use crate::value::bytes_until_nul;
 use netlink_packet_core::NLA_TYPE_MASK;
 
@@ -167,7 +167,7 @@ fn rows_with(rows: &[Row], policy: u16) -> &[Row]
     ensures { IsPart policy (rows_in rows.now) (rows_in result.now) }
 {
     if rows.len() > FIRST && rows[FIRST].0 < policy {
-        return rows_from(rows, policy);
+        return rows_after(rows, policy, FIRST + 1);
     }
     rows
 }

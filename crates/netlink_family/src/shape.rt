@@ -1,6 +1,6 @@
 //! The shapes of values, and the lookup of rows.
 
-ghost use Rattle.std.specs.Prelude.{◌≡◌, ◌≤◌, ◌<◌, ◌+◌, ◌*◌, ◌==◌, ◌&&◌, IfSome, None, Some, true, if◌then◌else◌};
+ghost use Rattle.std.specs.Prelude.{◌≡◌, ◌≤◌, ◌<◌, ◌+◌, ◌*◌, ◌==◌, ◌&&◌, IfSome, None, Some, true, if◌then◌else◌, drop, length};
 ghost use Rattle.std.specs.Option.{option_map};
 ghost use Rattle.netlink_packet_core.specs.Views.{masked};
 ghost use Rattle.netlink_family.specs.Policies.{IsPart};
@@ -257,15 +257,19 @@ pub(crate) fn policy_rows(rows: &[Row], policy: u16) -> &[Row]
     requires sorted { are_sorted (rows_in rows.now) ≡ true }
     ensures { IsPart policy (rows_in rows.now) (rows_in result.now) }
 {
-    rows_until(rows_from(rows, policy), policy)
+    rows_until(rows_after(rows, policy, 0), policy)
 }
 
-/// Returns the rows from the first row of a policy on.
-pub(crate) fn rows_from(rows: &[Row], policy: u16) -> &[Row]
+/// Returns the rows from the first row of a policy on. Does not search the first `start` rows, none of
+/// which may be the policy's.
+#[inline(always)]
+pub(crate) fn rows_after(rows: &[Row], policy: u16, start: usize) -> &[Row]
     requires sorted { are_sorted (rows_in rows.now) ≡ true }
+    requires inside { start ≤ length rows.now }
+    requires part { IsPart policy (rows_in rows.now) (rows_in (drop start rows.now)) }
     ensures { IsPart policy (rows_in rows.now) (rows_in result.now) }
 {
-    let mut low = 0;
+    let mut low = start;
     let mut high = rows.len();
     while low < high {
         let middle = low + (high - low) / 2;

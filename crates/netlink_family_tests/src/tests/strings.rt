@@ -2,7 +2,7 @@
 
 use crate::route::Route;
 use crate::rules::{FRA_IIFNAME, MARK, MARK_REST, RTM_NEWRULE};
-use netlink_family::{AttributeError, FamilyError, Reason, Value, str_until_nul};
+use netlink_family::{AttributeError, FamilyError, Reason, Value, bytes_until_nul, str_until_nul};
 use netlink_packet_core::{NetlinkDeserializable, NetlinkHeader};
 use std::test::Fail;
 
@@ -44,6 +44,21 @@ fn strings_need_no_nul(rt: HostRuntime) -> Result<(), Fail> {
         match message.view().value(FRA_IIFNAME) {
             Some(Value::Str(bytes)) => assert!(rt; str_until_nul(bytes) == *text),
             _ => assert!(rt; false),
+        }
+    }
+    Ok(())
+}
+
+#[test]
+fn a_string_ends_at_its_first_nul(rt: HostRuntime) -> Result<(), Fail> {
+    for size in 0..10usize {
+        let text = [b'x'; 10];
+        assert_eq!(rt; bytes_until_nul(&text[..size]), &text[..size]);
+        for at in 0..size {
+            let mut bytes = [b'x'; 10];
+            bytes[9] = 0;
+            bytes[at] = 0;
+            assert_eq!(rt; bytes_until_nul(&bytes[..size]), &text[..at]);
         }
     }
     Ok(())

@@ -1,7 +1,7 @@
 use Rattle.std.proofs.Common.{◌-◌, ◌≤◌, length, drop}
 use Rattle.netlink_family.specs.Policies.{IsPart}
 use Rattle.netlink_family.specs.Shapes.{rows_in}
-use Rattle.netlink_family.proofs.shape.rows_from.Given as goal
+use Rattle.netlink_family.proofs.shape.rows_after.Given as goal
 
 abbrev pub invariant-loop-low : goal.invariant-loop-low
 invariant-loop-low l =

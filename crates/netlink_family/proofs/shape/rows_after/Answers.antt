@@ -1,6 +1,6 @@
 use Rattle.std.proofs.Common.{arith, ◌+◌, ◌-◌, ◌/◌, ℕ}
 use Rattle.netlink_family.proofs.PolicyRows.{drop_smaller}
-use Rattle.netlink_family.proofs.shape.rows_from.Goals as goal
+use Rattle.netlink_family.proofs.shape.rows_after.Goals as goal
 
 pub loop-low-preserved-then-rows-middle : goal.loop-low-preserved-then-rows-middle
 loop-low-preserved-then-rows-middle c =
