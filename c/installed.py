@@ -133,7 +133,7 @@ def run_wrapper(prefix, lib, folder):
 def run_python(lib):
     """Lists the links of this machine from Python."""
     if has_route_socket():
-        words = [sys.executable, os.path.join(HERE, "examples", "links.py"), os.path.join(lib, "libnetlink_packet.so.1")]
+        words = [sys.executable, os.path.join(HERE, "examples", "links.py"), os.path.join(lib, "libnetlink_packet.so.2")]
         run_dump(lambda: run(words))
 
 

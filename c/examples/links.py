@@ -1,4 +1,4 @@
-"""Lists the links of this machine by ctypes: links.py [LIBRARY], by default libnetlink_packet.so.1."""
+"""Lists the links of this machine by ctypes: links.py [LIBRARY], by default libnetlink_packet.so.2."""
 from ctypes import CDLL, Structure, byref, c_int32, c_size_t, c_uint16, c_uint32
 from socket import AF_NETLINK, SOCK_RAW, socket
 from struct import pack, unpack_from
@@ -13,7 +13,7 @@ Fault = struct("Fault", [("cause", c_uint32), ("inside", c_uint32), ("size", c_s
 Part = struct("Part", [("offset", c_size_t), ("size", c_size_t)])
 Attr = struct("Attr", [("kind", c_uint16), ("offset", c_size_t), ("size", c_size_t)])
 Reply = struct("Reply", [("what", c_uint32), ("code", c_int32), ("frame", Part), ("request", Part), ("attributes", Part)])
-library = CDLL(argv[1] if len(argv) > 1 else "libnetlink_packet.so.1")
+library = CDLL(argv[1] if len(argv) > 1 else "libnetlink_packet.so.2")
 header = pack("IHHII", 32, 18, 0x301, 1, 0)  # RTM_GETLINK, NLM_F_REQUEST | NLM_F_DUMP, sequence number 1
 state, reply, attr, fault, ended = (c_uint32 * 6)(), Reply(), Attr(), Fault(), 4
 library.nlp_replies_begin(header, 1, state)

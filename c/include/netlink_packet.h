@@ -80,9 +80,9 @@
 
 /* The version of the library. A program can test the numbers in an #if. */
 #define NLP_VERSION_MAJOR 0
-#define NLP_VERSION_MINOR 2
+#define NLP_VERSION_MINOR 3
 #define NLP_VERSION_PATCH 0
-#define NLP_VERSION "0.2.0"
+#define NLP_VERSION "0.3.0"
 
 #ifdef __cplusplus
 extern "C" {
@@ -102,7 +102,7 @@ enum {
     NLP_FRAME_CUT = 10,      /* a frame's length is above what is left    size: what is left; */
                              /*                                           wanted: the length field */
     NLP_FRAME_LENGTH = 11,   /* a frame's length is below 16              wanted: the length field */
-    NLP_DONE_SHORT = 12,     /* a done body is below 4 bytes              size: that of the body */
+    NLP_DONE_SHORT = 12,     /* a done body has 1 to 3 bytes              size: that of the body */
     NLP_ERROR_SHORT = 13,    /* an error body is below 4 bytes            size: that of the body */
     NLP_REFUSED = 14,        /* a message type is 0, or 5 to 15 */
     NLP_FRAME_TOO_LONG = 15, /* a message's length does not fit in 32 bits */
@@ -129,7 +129,7 @@ enum {
 enum {
     NLP_EXACTLY = 1,        /* `size` bytes                                 NLA_EXACT_LEN */
     NLP_AT_LEAST = 2,       /* at least `size` bytes                        NLA_MIN_LEN */
-    NLP_AT_MOST = 3,        /* at most `size` bytes                         NLA_BINARY */
+    NLP_AT_MOST = 3,        /* at most `size` bytes; any number if it is 0  NLA_BINARY */
     NLP_U8 = 4,             /* 1 byte                                       NLA_U8 */
     NLP_U16 = 5,            /* 2 bytes                                      NLA_U16 */
     NLP_U32 = 6,            /* 4 bytes                                      NLA_U32 */
@@ -314,7 +314,8 @@ uint32_t nlp_attrs_table(const uint8_t *block, size_t len, struct nlp_attr *tabl
 
 /* Checks a block against a policy of `count` rows: each attribute must have the shape that each row of its
  * kind states, and an attribute without a row may have any value. Two rows of a kind state a range. Compares
- * kinds without the attribute's flag bits. NLP_OK if the walk of the block ends without an error and each
+ * kinds without the attribute's flag bits: unlike the kernel's strict validation, it does not ask that a nest has
+ * NLA_F_NESTED, nor that every kind has a row. NLP_OK if the walk of the block ends without an error and each
  * attribute has its shapes. Otherwise what comes first, and `*offset` is where its header is: NLP_WRONG_SHAPE,
  * for an attribute; or the error that ends the walk. To read the attribute, call nlp_attrs_next with a cursor
  * of `*offset`. After NLP_OK, nlp_get_u32 never returns NLP_WRONG_SIZE for a kind with a row NLP_U32, and so on.
@@ -372,15 +373,16 @@ uint32_t nlp_frame_payload(const uint8_t *bytes, size_t len, struct nlp_part *pa
 /* Reads the body of an error message (type 2, NLMSG_ERROR): NLP_OK or NLP_ERROR_SHORT. `bytes` are the
  * message's payload, and `flags` those of its header: NLM_F_ACK_TLVS (0x200) means that attributes
  * follow the request, and NLM_F_CAPPED (0x100) that only the header of the request is present.
- * Proved: the code is the first 4 bytes, signed. The request and then the attributes are the bytes after it.
- * The request is all of them without NLM_F_ACK_TLVS, or if they are too few for the request; 16 bytes with
- * NLM_F_CAPPED; and otherwise its length with its padding, where a length below 16 counts as 16. The request
- * of nlp_replies_next differs for such a length: it is taken as it is. The kernel never sends one. */
+ * Proved: the code is the first 4 bytes, signed. The request is the bytes after it, as many as its length
+ * says, or as there are; a length below 16 counts as 16, and with NLM_F_CAPPED it is 16. With NLM_F_ACK_TLVS,
+ * the attributes are the bytes after the padding of the request, and otherwise a part of size 0 at the end.
+ * nlp_replies_next has the same parts. An error changes nothing. */
 uint32_t nlp_error_body(const uint8_t *bytes, size_t len, uint16_t flags, struct nlp_error *body,
                         struct nlp_fault *fault) NLP_CHECKED(4, 5);
 
-/* Reads the body of a done message (type 3, NLMSG_DONE): NLP_OK or NLP_DONE_SHORT.
- * Proved: the code is the first 4 bytes, signed, and the rest is all others; an error changes neither. */
+/* Reads the body of a done message (type 3, NLMSG_DONE): NLP_OK, or NLP_DONE_SHORT if it has 1 to 3 bytes.
+ * Proved: the code is the first 4 bytes, signed, and the rest is all others. An empty body has the code 0,
+ * as for nlp_replies_next, and a rest at offset 0. An error changes neither. */
 uint32_t nlp_done_body(const uint8_t *bytes, size_t len, int32_t *code, struct nlp_part *rest,
                        struct nlp_fault *fault) NLP_CHECKED(3, 4, 5);
 

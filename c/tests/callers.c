@@ -146,7 +146,7 @@ static void shapes(void)
         for (size_t row = 0; row < 5; row++)
             integers = integers && has_shape("123456789", size, sizes[row][0], 5) == (size == sizes[row][1]);
         counts = counts && has_shape("123456789", size, NLP_EXACTLY, 3) == (size == 3) && has_shape("123456789", size, NLP_AT_LEAST, 3) == (size >= 3)
-            && has_shape("123456789", size, NLP_AT_MOST, 3) == (size <= 3) && has_shape("123456789", size, 0, 3) && has_shape("123456789", size, 12, 3);
+            && has_shape("123456789", size, NLP_AT_MOST, 3) == (size <= 3) && has_shape("123456789", size, NLP_AT_MOST, 0) && has_shape("123456789", size, 0, 3) && has_shape("123456789", size, 12, 3);
         nests = nests && has_shape("123456789", size, NLP_NESTED, 5) == (size == 0 || size >= 4);
     }
     expect("the sizes of integers and flags", integers);

@@ -52,6 +52,9 @@ static void bodies(void)
     /* EINVAL, a request of 20 bytes with type 18, and an attribute (1, "no"). */
     static const uint8_t error[36] = { 0xea, 0xff, 0xff, 0xff, 20, 0, 0, 0, 18, 0, 5, 0, 1, 0, 0, 0, 0, 0, 0, 0, 1, 2, 3, 4,
         7, 0, 1, 0, 'n', 'o', 0, 0, 4, 0, 2, 0 };
+    /* EPERM, a request whose length is 18 and one whose length is 12, each followed by the attribute (1). */
+    static const uint8_t padded[28] = { 0xff, 0xff, 0xff, 0xff, 18, 0, 0, 0, 18, 0, 5, 0, 1, 0, 0, 0, 0, 0, 0, 0, 1, 2, 0, 0, 4, 0, 1, 0 };
+    static const uint8_t below[24] = { 0xff, 0xff, 0xff, 0xff, 12, 0, 0, 0, 18, 0, 5, 0, 1, 0, 0, 0, 0, 0, 0, 0, 4, 0, 1, 0 };
     struct nlp_fault fault;
     struct nlp_error body = { 1, { 1, 1 }, { 1, 1 } };
     struct nlp_part rest = { 1, 1 };
@@ -59,13 +62,22 @@ static void bodies(void)
     expect("no error in no bytes", nlp_error_body(NULL, 0, 0, &body, &fault) == NLP_ERROR_SHORT && is_fault(&fault, 13, 0, 0, 0) && body.code == 1);
     expect("an error of a code alone", nlp_error_body(error, 4, 0x300, &body, &fault) == NLP_OK && body.code == -22
         && body.request.offset == 4 && body.request.size == 0 && body.attributes.size == 0);
-    expect("an error with no attributes", nlp_error_body(error, 36, 0, &body, &fault) == NLP_OK && body.request.size == 32 && body.attributes.size == 0);
+    expect("an error with no attributes", nlp_error_body(error, 36, 0, &body, &fault) == NLP_OK && body.request.size == 20
+        && body.attributes.offset == 36 && body.attributes.size == 0);
     expect("an error with attributes", nlp_error_body(error, 36, 0x200, &body, &fault) == NLP_OK && body.request.size == 20
         && body.attributes.offset == 24 && body.attributes.size == 12);
     expect("an error that is capped", nlp_error_body(error, 36, 0x300, &body, &fault) == NLP_OK && body.request.size == 16
         && body.attributes.offset == 20 && body.attributes.size == 16);
     expect("a request that is cut", nlp_error_body(error, 22, 0x200, &body, &fault) == NLP_OK && body.request.size == 18 && body.attributes.size == 0);
-    expect("a done message of no bytes", nlp_done_body(NULL, 0, &code, &rest, &fault) == NLP_DONE_SHORT && is_fault(&fault, 12, 0, 0, 0) && code == 1);
+    expect("an error that is capped, without attributes", nlp_error_body(error, 36, 0x100, &body, &fault) == NLP_OK && body.request.size == 16
+        && body.attributes.size == 0);
+    expect("a request with padding", nlp_error_body(padded, 28, 0x200, &body, &fault) == NLP_OK && body.request.size == 18
+        && body.attributes.offset == 24 && body.attributes.size == 4);
+    expect("a request whose length is below 16", nlp_error_body(below, 24, 0x200, &body, &fault) == NLP_OK && body.request.size == 16
+        && body.attributes.offset == 20 && body.attributes.size == 4);
+    expect("a done message of 1 byte", nlp_done_body(error, 1, &code, &rest, &fault) == NLP_DONE_SHORT && is_fault(&fault, 12, 0, 1, 0) && code == 1
+        && rest.size == 1);
+    expect("a done message of no bytes", nlp_done_body(NULL, 0, &code, &rest, &fault) == NLP_OK && code == 0 && rest.offset == 0 && rest.size == 0);
     expect("a done message", nlp_done_body(error, 36, &code, &rest, &fault) == NLP_OK && code == -22 && rest.offset == 4 && rest.size == 32);
 }
 

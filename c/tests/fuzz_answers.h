@@ -138,6 +138,13 @@ static void read_frame(const struct input *in)
     check_fault(in->len < 16 ? &found : &none);
 }
 
+/* The size of the request after the code of an error message, before it is cut. */
+static size_t request_size(const uint8_t *body, size_t left, uint16_t flags)
+{
+    const size_t said = flags & CAPPED || left < 16 ? 16 : (size_t)number(body, 4, false);
+    return said < 16 ? 16 : said;
+}
+
 static void read_error(const struct input *in)
 {
     const uint16_t flags = (uint16_t)((in->args[0] & 3u) << 8 | (in->args[0] >= 192 ? in->args[1] : 0));
@@ -149,15 +156,11 @@ static void read_error(const struct input *in)
         result = NLP_ERROR_SHORT;
         wanted = (struct nlp_fault){ NLP_ERROR_SHORT, 0, in->len, 0 };
     } else {
-        size_t size = in->len - 4;
-        if (flags & ACK_TLVS && size >= 16) {
-            size_t said = flags & CAPPED ? 16 : (size_t)number(in->bytes + 4, 4, false);
-            said = said < 16 ? 16 : said;
-            size = said > size ? size : past(0, said, size);
-        }
+        const size_t left = in->len - 4, said = request_size(in->bytes + 4, left, flags);
+        const size_t after = flags & ACK_TLVS && aligned(said) < left ? left - aligned(said) : 0;
         expected.code = (int32_t)number(in->bytes, 4, false);
-        expected.request = (struct nlp_part){ 4, size };
-        expected.attributes = (struct nlp_part){ 4 + size, in->len - 4 - size };
+        expected.request = (struct nlp_part){ 4, said < left ? said : left };
+        expected.attributes = (struct nlp_part){ in->len - after, after };
     }
     RESULT(OPT(nlp_error_body, in->bytes, in->len, flags, body), result);
     CHECK(body->code == expected.code);
@@ -171,8 +174,11 @@ static void read_done(const struct input *in)
     int32_t *code = place(OUT, sizeof *code), expected = *code = 90;
     struct nlp_part *rest = place(CURSOR, sizeof *rest), part = *rest = no_part;
     struct nlp_fault wanted = begin_fault();
-    const uint32_t result = in->len < 4 ? NLP_DONE_SHORT : NLP_OK;
-    if (result == NLP_OK) {
+    const uint32_t result = in->len > 0 && in->len < 4 ? NLP_DONE_SHORT : NLP_OK;
+    if (in->len == 0) {
+        expected = 0;
+        part = (struct nlp_part){ 0, 0 };
+    } else if (result == NLP_OK) {
         expected = (int32_t)number(in->bytes, 4, false);
         part = (struct nlp_part){ 4, in->len - 4 };
     } else {
@@ -201,7 +207,7 @@ static uint32_t meaning(const uint8_t *bytes, const struct nlp_message *message,
         const size_t left = size - 4;
         reply->code = (int32_t)number(bytes + at, 4, false);
         if (type == 2) {
-            said = flags & CAPPED || left < 16 ? 16 : (size_t)number(bytes + at + 4, 4, false);
+            said = request_size(bytes + at + 4, left, flags);
             reply->what = reply->code == 0 ? NLP_ACKNOWLEDGED : NLP_REJECTED;
         }
         if (reply->what == NLP_REJECTED)

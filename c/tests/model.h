@@ -141,7 +141,7 @@ static inline bool fits(const uint8_t *value, size_t size, uint16_t shape, size_
     if (shape >= NLP_U8 && shape <= NLP_FLAG)
         return size == sizes[shape - NLP_U8];
     return shape == NLP_EXACTLY ? size == stated : shape == NLP_AT_LEAST ? size >= stated
-        : shape == NLP_AT_MOST ? size <= stated : shape == NLP_STRING ? is_string
+        : shape == NLP_AT_MOST ? stated == 0 || size <= stated : shape == NLP_STRING ? is_string
         : shape == NLP_NUL_STRING ? is_string && memchr(value, 0, size) != NULL
         : shape == NLP_NESTED ? size == 0 || size >= 4 : true;
 }

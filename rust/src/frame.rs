@@ -103,7 +103,8 @@ pub fn error_body(payload: &[u8], flags: u16) -> Result<ErrorBody<'_>, Fault> {
     Ok(ErrorBody { code: body.code, request: part(payload, body.request), attributes: part(payload, body.attributes) })
 }
 
-/// Returns the body of a done message. Returns [`Fault::DoneShort`] if there are fewer than 4 bytes.
+/// Returns the body of a done message; an empty one has the code 0. Returns [`Fault::DoneShort`] if there are 1 to 3
+/// bytes.
 pub fn done_body(payload: &[u8]) -> Result<DoneBody<'_>, Fault> {
     let mut code = 0;
     let mut rest = ffi::Part::default();

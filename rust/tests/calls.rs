@@ -174,6 +174,7 @@ fn bodies_are_read() {
     assert_eq!((body.code, body.request, body.attributes), (-22, &refusal[4..20], &refusal[20..]));
     assert_eq!(error_body(&[], 0), Err(Fault::ErrorShort { size: 0, inside: false }));
     assert_eq!(done_body(&refusal), Ok(DoneBody { code: -22, rest: &refusal[4..] }));
+    assert_eq!(done_body(&[]), Ok(DoneBody { code: 0, rest: &[] }));
     assert_eq!(done_body(&[1]), Err(Fault::DoneShort { size: 1, inside: false }));
 }
 

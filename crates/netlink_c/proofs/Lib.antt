@@ -10,3 +10,4 @@ mod Texts
 mod ReplyLemmas
 mod StateLemmas
 mod WalkLemmas
+mod BodyLemmas

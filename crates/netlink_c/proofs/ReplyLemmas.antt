@@ -72,12 +72,12 @@ tail_at frame n x is =
     let same : drop (length frame - length x) frame ≡ x = ap (λ (k : ℕ). drop k frame) at ∙ drop_min n frame ∙ sym is in
     record { same = ap (take (length x)) same ∙ take_all (length x) x (omega arith); inside = omega arith }
 
-attributes_at : (frame : List ℕ) (b : Bool) (n at : ℕ) (body : List ℕ) → body ≡ drop at frame
+pub attributes_at : (frame : List ℕ) (b : Bool) (n at : ℕ) (body : List ℕ) → body ≡ drop at frame
     → IsPartAt frame (length frame - length (if b then drop n body else [])) (if b then drop n body else [])
 attributes_at frame true n at body is = tail_at frame (at + n) (drop n body) (ap (drop n) is ∙ drop-drop n at frame)
 attributes_at frame false n at body is = none_at frame (length frame - 0) (omega arith)
 
-take_min : (n : ℕ) (xs : List ℕ) → take (min n (length xs)) xs ≡ take n xs
+pub take_min : (n : ℕ) (xs : List ℕ) → take (min n (length xs)) xs ≡ take n xs
 take_min n xs = elim (cases_lt n (length xs)) [
   | inl less ↦ (let e : min n (length xs) ≡ n = omega arith in ap (λ (k : ℕ). take k xs) e)
   | inr more ↦ (let e : min n (length xs) ≡ length xs = omega arith in ap (λ (k : ℕ). take k xs) e ∙ take_all (length xs) xs (omega arith) ∙ sym (take_all n xs more))

@@ -1,4 +1,3 @@
-pub mod ErrorBody
 pub mod Any
 pub mod Bodies
 pub mod Describe

@@ -26,12 +26,12 @@ is_string most value =
     nat_lt 0 (length value) && (nat_eq most 0 || nat_le (string_size value) most)
 
 -- whether a value has a shape, as the kernel's policies have them; a row's size states the size of
--- the first three and the maximum of strings
+-- the first two, and the maximum of the third and of strings, where 0 is none
 abbrev pub has_shape : ℕ → ℕ → List ℕ → Bool
 has_shape shape stated value =
     if nat_eq shape 1 then nat_eq (length value) stated
     else if nat_eq shape 2 then nat_le stated (length value)
-    else if nat_eq shape 3 then nat_le (length value) stated
+    else if nat_eq shape 3 then nat_eq stated 0 || nat_le (length value) stated
     else if nat_eq shape 4 then nat_eq (length value) 1
     else if nat_eq shape 5 then nat_eq (length value) 2
     else if nat_eq shape 6 then nat_eq (length value) 4

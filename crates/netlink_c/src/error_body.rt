@@ -1,25 +1,21 @@
 //! The body of an error message: the code, the request that it answers, and the extended
 //! acknowledgement.
 
-ghost use Rattle.std.specs.Prelude.{◌≡◌, ◌≢◌, ◌+◌, ◌≤◌, length};
+ghost use Rattle.std.specs.Prelude.{◌≡◌, ◌≢◌, ◌+◌, ◌≤◌, drop, length};
 ghost use Rattle.netlink_packet_core.specs.Header.{field};
 ghost use Rattle.netlink_packet_core.specs.Numbers.{signed};
-ghost use Rattle.netlink_c.specs.ErrorBody.{IsRequestEnd};
+ghost use Rattle.netlink_replies.specs.Bodies.{error_attributes, request_of};
 ghost use Rattle.netlink_c.specs.Bodies.{IsShortError};
 ghost use Rattle.netlink_c.specs.Fault.{Refuses};
+ghost use Rattle.netlink_c.specs.Parts.{part_of};
 
 use crate::fault::{FaultNumbers, refused};
 use crate::frame::Part;
 use crate::results::OK;
-use netlink_packet_core::{
-    ErrorBuffer, NETLINK_HEADER_LEN, NLM_F_ACK_TLVS, NLM_F_CAPPED, NetlinkBuffer, nlmsg_align,
-};
+use netlink_packet_core::{DecodeError, i32_at};
 
 /// The size in bytes of the code, which precedes the request.
 const CODE_SIZE: usize = 4;
-
-/// The offset past the header of the request, in bytes from the start of the code.
-const AFTER_HEADER: usize = CODE_SIZE + NETLINK_HEADER_LEN;
 
 /// The body of an error message (`struct nlp_error`).
 #[derive(Clone, Copy, Debug, PartialEq, Eq)]
@@ -29,16 +25,14 @@ pub struct ErrorBody {
     pub code: i32,
     /// The header of the request, and what is present of its payload.
     pub request: Part,
-    /// The attributes of the extended acknowledgement.
+    /// The attributes of the extended acknowledgement, or a part of size 0.
     pub attributes: Part,
 }
 
 /// Reads the body of a message of type `NLMSG_ERROR` whose header has these flags: its code, and
-/// where the request and the attributes that follow it are.
-///
-/// `NLM_F_ACK_TLVS` means that there are attributes, and `NLM_F_CAPPED` that only the header of the
-/// request is present. Returns 0, or the number of `ErrorShort` if there are fewer than 4 bytes.
-/// Wraps `ErrorBuffer`. Does not allocate.
+/// where the request and the attributes that follow it are, as `netlink_replies::ErrorBody` says.
+/// Returns 0, or the number of `ErrorShort` if there are fewer than 4 bytes. Wraps `ErrorBody`. Does
+/// not allocate.
 #[unsafe(no_mangle)]
 pub extern "C" fn nlp_error_body(
     payload: &[u8],
@@ -49,55 +43,35 @@ pub extern "C" fn nlp_error_body(
     ensures code { result ≡ 0 → (4 ≤ length payload.now)
         × (body.new.code ≡ signed 4 (field 0 4 payload.now)) }
     ensures request { result ≡ 0 → (body.new.request.offset ≡ 4)
-        × IsRequestEnd flags payload.now (4 + body.new.request.size) }
-    ensures attributes { result ≡ 0 → (body.new.attributes.offset ≡ 4 + body.new.request.size)
-        × (body.new.attributes.offset + body.new.attributes.size ≡ length payload.now) }
+        × (part_of body.new.request payload.now ≡ request_of flags (drop 4 payload.now)) }
+    ensures attributes { result ≡ 0
+        → (body.new.attributes.offset + body.new.attributes.size ≡ length payload.now)
+        × (part_of body.new.attributes payload.now ≡ error_attributes flags (drop 4 payload.now)) }
     ensures unfaulted { result ≡ 0 → fault.new ≡ fault.old }
     ensures refuses { result ≢ 0 → Refuses (IsShortError payload.now) result fault.new
         × (body.new ≡ body.old) }
 {
-    match ErrorBuffer::new_checked(payload) {
-        Ok(view) => {
-            let end = request_end(payload, flags);
-            let code = match view.code() {
-                None => 0,
-                Some(code) => code.get(),
-            };
-            *body = ErrorBody {
-                code,
-                request: Part {
-                    offset: 4,
-                    size: end - 4,
-                },
-                attributes: Part {
-                    offset: end,
-                    size: payload.len() - end,
-                },
-            };
-            OK
-        }
-        Err(cause) => refused(fault, &cause),
-    }
-}
-
-/// Returns the offset past the request, in bytes from the start of the code.
-fn request_end(payload: &[u8], flags: u16) -> usize
-    requires code { 4 ≤ length payload.now }
-    ensures end { IsRequestEnd flags payload.now result }
-    ensures inside { (4 ≤ result) × (result ≤ length payload.now) }
-{
     let size = payload.len();
-    if flags / NLM_F_ACK_TLVS % 2 == 0 || size < AFTER_HEADER {
-        return size;
+    if size < CODE_SIZE {
+        return refused(
+            fault,
+            &DecodeError::ErrorShort {
+                size,
+                inside: false,
+            },
+        );
     }
-    if flags / NLM_F_CAPPED % 2 == 1 {
-        return AFTER_HEADER;
-    }
-    let said = NetlinkBuffer::new(&payload[CODE_SIZE..]).length() as usize;
-    let end = if said < NETLINK_HEADER_LEN {
-        AFTER_HEADER
-    } else {
-        CODE_SIZE + nlmsg_align(said)
+    let parts = netlink_replies::ErrorBody::new(flags, &payload[CODE_SIZE..]);
+    *body = ErrorBody {
+        code: i32_at(payload, 0),
+        request: Part {
+            offset: CODE_SIZE,
+            size: parts.request.len(),
+        },
+        attributes: Part {
+            offset: size - parts.attributes.len(),
+            size: parts.attributes.len(),
+        },
     };
-    if end < size { end } else { size }
+    OK
 }

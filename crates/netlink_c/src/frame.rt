@@ -4,9 +4,8 @@
 ghost use Rattle.std.specs.Prelude.{◌≡◌, ◌≢◌, ◌+◌, ◌≤◌, ◌<◌, IfNone, IfSome, length, drop, false};
 ghost use Rattle.netlink_packet_core.specs.DecodeError.{DecodeError};
 ghost use Rattle.netlink_packet_core.specs.Header.{HoldsFrame, field, header_of, payload_of};
-ghost use Rattle.netlink_packet_core.specs.Numbers.{signed};
 ghost use Rattle.netlink_packet_core.specs.Refusal.{IsFrameFault};
-ghost use Rattle.netlink_c.specs.Bodies.{IsShortDone, IsShortError, IsShortHeader};
+ghost use Rattle.netlink_c.specs.Bodies.{IsShortDone, IsShortHeader, done_code};
 ghost use Rattle.netlink_c.specs.Fault.{Refuses};
 ghost use Rattle.netlink_c.specs.Parts.{part_of};
 
@@ -133,8 +132,8 @@ pub extern "C" fn nlp_frame_payload(
 }
 
 /// Reads the body of a message of type `NLMSG_DONE`: its code, and where the bytes after the code
-/// are. Returns 0, or the number of `DoneShort` if there are fewer than 4 bytes. Wraps
-/// `DoneBuffer`. Does not allocate.
+/// are. An empty body has the code 0, as in `nlp_replies_next`. Returns 0, or the number of
+/// `DoneShort` if there are 1 to 3 bytes. Wraps `DoneBuffer`. Does not allocate.
 #[unsafe(no_mangle)]
 pub extern "C" fn nlp_done_body(
     payload: &[u8],
@@ -142,15 +141,19 @@ pub extern "C" fn nlp_done_body(
     rest: &mut Part,
     fault: &mut FaultNumbers,
 ) -> u32
-    ensures code { result ≡ 0 → code.new ≡ signed 4 (field 0 4 payload.now) }
-    ensures rest { result ≡ 0 → (4 ≤ length payload.now)
-        × (part_of rest.new payload.now ≡ drop 4 payload.now) }
-    ensures place { result ≡ 0
-        → (rest.new.offset ≡ 4) × (4 + rest.new.size ≡ length payload.now) }
+    ensures code { result ≡ 0 → code.new ≡ done_code payload.now }
+    ensures rest { result ≡ 0 → part_of rest.new payload.now ≡ drop 4 payload.now }
+    ensures place { result ≡ 0 → rest.new.offset + rest.new.size ≡ length payload.now }
+    ensures whole { result ≡ 0 → 0 < length payload.now → 4 ≤ length payload.now }
     ensures unfaulted { result ≡ 0 → fault.new ≡ fault.old }
     ensures refuses { result ≢ 0 → Refuses (IsShortDone payload.now) result fault.new
         × (code.new ≡ code.old) × (rest.new ≡ rest.old) }
 {
+    if payload.len() == 0 {
+        *code = 0;
+        *rest = Part { offset: 0, size: 0 };
+        return OK;
+    }
     match DoneBuffer::new_checked(payload) {
         Ok(view) => {
             *code = view.code();

@@ -21,8 +21,8 @@ pub struct PolicyRow {
     /// `u32` (6) or `u64` (7); a flag without a value (8); a string (9) or one with a zero (10); a
     /// nest (11). Any other number: any value.
     pub shape: u16,
-    /// The size for the shapes 1 to 3. For a string the maximum, not counting a zero at the end; 0
-    /// for no maximum.
+    /// The size for the shapes 1 to 3. For a string the maximum, not counting a zero at the end. A
+    /// maximum of 0, also for the shape 3, is none, as for `NLA_BINARY` of the kernel.
     pub size: usize,
 }
 
@@ -96,7 +96,7 @@ fn fits_shape(shape: u16, stated: usize, value: &[u8]) -> bool
     match shape {
         1 => size == stated,
         2 => stated <= size,
-        3 => size <= stated,
+        3 => stated == 0 || size <= stated,
         4 => size == 1,
         5 => size == 2,
         6 => size == 4,

@@ -1,9 +1,10 @@
 //! Laws about the definitions alone. Calling a law does nothing at run time: its contract is the
 //! theorem.
 
-ghost use Rattle.std.specs.Prelude.{◌≡◌, ◌++◌, ◌∷◌, ◌||◌, ℕ, List, true, false};
+ghost use Rattle.std.specs.Prelude.{◌≡◌, ◌++◌, ◌∷◌, ◌||◌, ℕ, List, drop, true, false};
 ghost use Rattle.std.specs.List.{cons_option, filter, filter_map, list_any};
 ghost use Rattle.netlink_replies.specs.Answers.{after_all, answers_in, belongs, has_ended, is_interrupted, request_in, waiting};
+ghost use Rattle.netlink_replies.specs.Bodies.{request_of, request_size};
 ghost use Rattle.netlink_replies.specs.Endings.{answer_of, has_interruption, is_end, is_own, open_item};
 ghost use Rattle.netlink_replies.specs.Groups.{HoldGroups, ReadsAllAs, joined};
 ghost use Rattle.netlink_replies.specs.Meaning.{Item, other};
@@ -48,6 +49,14 @@ pub fn interruption()
     ensures flag { (r : Request) (frames : List (List ℕ))
         → is_interrupted (after_all (waiting r) frames)
         ≡ list_any has_interruption (answer_of r frames) }
+{}
+
+/// States that the request in an error message is a prefix of what follows the code, which is the
+/// payload that `ErrorBuffer` gives.
+pub fn returned_request()
+    ensures prefix { (flags : ℕ) (bytes : List ℕ)
+        → request_of flags (drop 4 bytes) ++ drop (request_size flags (drop 4 bytes)) (drop 4 bytes)
+        ≡ drop 4 bytes }
 {}
 
 /// States that frames with other numbers do not matter: without them, the items are those that are

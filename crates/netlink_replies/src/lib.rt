@@ -15,6 +15,6 @@ pub use crate::extended_ack::ExtendedAck;
 pub use crate::path::Path;
 pub use crate::reading::Reading;
 pub use crate::replies::Replies;
-pub use crate::reply::Reply;
+pub use crate::reply::{ErrorBody, Reply};
 pub use crate::request::Request;
 pub use crate::sequence::SequenceNumbers;

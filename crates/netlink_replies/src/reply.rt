@@ -2,7 +2,7 @@
 
 ghost use Rattle.std.specs.Prelude.{◌≡◌, ◌<◌, ◌^◌, take};
 ghost use Rattle.netlink_packet_core.specs.Header.{HoldsFrame};
-ghost use Rattle.netlink_replies.specs.Bodies.{attributes_after, request_size};
+ghost use Rattle.netlink_replies.specs.Bodies.{attributes_after, error_attributes, request_of, request_size};
 ghost use Rattle.netlink_replies.specs.Meaning.{meaning, other, done_item, error_item, shown_item, shown_result};
 
 use crate::request::has_flag;
@@ -45,6 +45,35 @@ pub enum Reply<T> {
     /// A frame that is no part of the answer: it has another sequence number or port number, or
     /// follows the end.
     Other(T),
+}
+
+/// What follows the code of an error message (`struct nlmsgerr`).
+#[derive(Clone, Copy, Debug, PartialEq, Eq)]
+pub struct ErrorBody<'a> {
+    /// The request as far as the kernel returned it, from its header on.
+    pub request: &'a [u8],
+    /// The attributes of an extended acknowledgement.
+    pub attributes: &'a [u8],
+}
+
+impl<'a> ErrorBody<'a> {
+    /// Reads the bytes that follow the code of an error message whose header has these flags.
+    ///
+    /// The request has as many bytes as its length field says, but at least 16, a header; with
+    /// `NLM_F_CAPPED`, 16. If there are fewer, it is all of them. With `NLM_F_ACK_TLVS`, the attributes
+    /// are the bytes after the request and its padding; otherwise there are none (`netlink_ack` of
+    /// net/netlink/af_netlink.c; RFC 3549, 2.3.2.2).
+    #[inline]
+    pub fn new(flags: u16, bytes: &'a [u8]) -> Self
+        ensures request { result.request.now ≡ request_of flags bytes.now }
+        ensures attributes { result.attributes.now ≡ error_attributes flags bytes.now }
+    {
+        let size = request_size(flags, bytes);
+        ErrorBody {
+            request: first_bytes(bytes, size),
+            attributes: attributes_of(flags, size, bytes),
+        }
+    }
 }
 
 /// Returns what a frame of the answer means: nothing for a noop. Requires that the bytes hold a
@@ -93,15 +122,16 @@ fn error_item(flags: u16, payload: &[u8]) -> Result<Reply<&[u8]>, DecodeError>
     if size < CODE_SIZE {
         return Err(DecodeError::ErrorShort { size, inside: true });
     }
-    let body = &payload[CODE_SIZE..];
-    let start = request_size(flags, body);
-    let attributes = attributes_of(flags, start, body);
+    let ErrorBody {
+        request,
+        attributes,
+    } = ErrorBody::new(flags, &payload[CODE_SIZE..]);
     if u32_at(payload, 0) == 0 {
         return Ok(Reply::Acknowledged { attributes });
     }
     Ok(Reply::Rejected {
         code: i32_at(payload, 0),
-        request: first_bytes(body, start),
+        request,
         attributes,
     })
 }
@@ -129,6 +159,7 @@ fn done_item(flags: u16, payload: &[u8]) -> Result<Reply<&[u8]>, DecodeError>
 
 /// Returns the size of the request that follows the code of an error message.
 #[inline]
+#[tactic(auto, unfolding(crate::specs::Bodies::request_size))]
 fn request_size(flags: u16, body: &[u8]) -> usize
     ensures size { result ≡ request_size flags body.now }
     ensures fits { result < 2 ^ 32 }
@@ -136,7 +167,12 @@ fn request_size(flags: u16, body: &[u8]) -> usize
     if has_flag(flags, NLM_F_CAPPED) || body.len() < NETLINK_HEADER_LEN {
         return NETLINK_HEADER_LEN;
     }
-    u32_at(body, 0) as usize
+    let said = u32_at(body, 0) as usize;
+    if said < NETLINK_HEADER_LEN {
+        NETLINK_HEADER_LEN
+    } else {
+        said
+    }
 }
 
 /// Returns the attributes, which follow the first `start` bytes of the body and their padding.

@@ -2,7 +2,7 @@
 
 use crate::tests::captured::{LINK_MTU_0, LINK_MTU_REFUSED_0, LINK_UNKNOWN_0};
 use crate::tests::helpers::{Value, acknowledged, dump, gives, has_values};
-use netlink_replies::Reply;
+use netlink_replies::{ErrorBody, Reply};
 use std::test::Fail;
 
 #[test]
@@ -96,6 +96,35 @@ fn attributes_follow_the_padding_of_the_request(rt: HostRuntime) -> Result<(), F
     );
     assert!(rt; replies.has_ended());
     assert!(rt; has_values(&NOT_CAPPED[40..], &NOT_CAPPED_VALUES));
+    Ok(())
+}
+
+/// An error whose request states a length of 12. The kernel copies a whole header first, so the request
+/// has 16 bytes, and the attributes follow them.
+const BELOW_A_HEADER: [u8; 44] = [
+    44, 0, 0, 0, 2, 0, 0, 2, 1, 0, 0, 0, 0, 0, 0, 0, // NLMSG_ERROR, NLM_F_ACK_TLVS
+    0xea, 0xff, 0xff, 0xff, // -22
+    12, 0, 0, 0, 16, 0, 5, 0, 1, 0, 0, 0, 0, 0, 0, 0, // the request
+    8, 0, 2, 0, 16, 0, 0, 0, // NLMSGERR_ATTR_OFFS
+];
+
+#[test]
+fn a_request_has_at_least_a_header(rt: HostRuntime) -> Result<(), Fail> {
+    let mut replies = dump();
+    assert!(rt;
+        gives(
+            &mut replies,
+            &BELOW_A_HEADER,
+            &[Reply::Rejected {
+                code: -22,
+                request: &BELOW_A_HEADER[20..36],
+                attributes: &BELOW_A_HEADER[36..],
+            }]
+        )
+    );
+    let body = ErrorBody::new(0x200, &BELOW_A_HEADER[20..]);
+    assert!(rt; body.request == &BELOW_A_HEADER[20..36]);
+    assert!(rt; body.attributes == &BELOW_A_HEADER[36..]);
     Ok(())
 }
 
