@@ -48,7 +48,9 @@ fn push_pairs(text: &mut String, bytes: &[u8]) -> Result<(), AllocError>
 }
 
 /// Appends two digits per byte, 64 bytes at a time, after reserving room for all of them. Returns
-/// `AllocError`, and leaves the text unchanged, if that fails.
+/// `AllocError`, and leaves the text unchanged, if that fails. It is a separate function so that
+/// `push_hex` saves no registers for it.
+#[inline(never)]
 fn push_many(text: &mut String, bytes: &[u8]) -> Result<(), AllocError>
     ensures appends { string_bytes text.new
         ≡ (if is_ok result then string_bytes text.old ++ hex_digits bytes.now
