@@ -1,4 +1,4 @@
-use Rattle.std.proofs.Common.{◌≡◌, ◌+◌, ◌≤◌, ℕ, List, Bool, arith, ap, ◌∙◌, drop, length}
+use Rattle.std.proofs.Common.{◌+◌, ◌≤◌, ℕ, List, Bool, arith, ap, ◌∙◌, drop, length}
 use Rattle.std.proofs.lemmas.List.{take_rest}
 use Rattle.netlink_packet_core.specs.Attribute.{padding}
 use Rattle.netlink_replies.specs.Bodies.{error_attributes, request_size}
