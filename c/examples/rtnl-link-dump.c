@@ -60,11 +60,12 @@ static int ask(const struct nlp_header *header)
 /* Receives a datagram, or reads the next file. Returns its size, or 0 after it printed why not. */
 static size_t receive(int fd, char ***names)
 {
-    FILE *file = **names != NULL ? fopen(*(*names)++, "rb") : NULL;
     ssize_t size = 0;
-    if (file != NULL) {
-        size = (ssize_t)fread(bytes, 1, sizeof bytes, file);
-        fclose(file);
+    if (**names != NULL) {
+        FILE *file = fopen(*(*names)++, "rb");
+        size = file != NULL ? (ssize_t)fread(bytes, 1, sizeof bytes, file) : -1;
+        if (file != NULL)
+            fclose(file);
     } else if (fd >= 0) {
         size = recv(fd, bytes, sizeof bytes, MSG_TRUNC);
     }
