@@ -39,7 +39,7 @@ from reasons import open_goals, wrong_answers
 
 # The largest number of edits that one check tries.
 BATCH = 24
-# The number of jobs of a check. More would compete with `rt ci` for the processors.
+# The number of jobs of a check. Two checks may run at once, on two processors each.
 JOBS = "2"
 # What a crate costs: about how many lines are proved in a second, and the seconds of an edit.
 LINES_PER_SECOND, EDIT_SECONDS = 30, 15

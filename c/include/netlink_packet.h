@@ -202,7 +202,7 @@ struct nlp_message_batch {
 /* The body of an error message. */
 struct nlp_error {
     int32_t code;               /* 0 for an acknowledgement, else a negative errno */
-    struct nlp_part request;    /* the header of the request, and what is present of its payload and padding */
+    struct nlp_part request;    /* the header of the request, and what is present of its payload */
     struct nlp_part attributes; /* the attributes of the extended acknowledgement; size 0 if none */
 };
 
@@ -376,7 +376,7 @@ uint32_t nlp_frame_payload(const uint8_t *bytes, size_t len, struct nlp_part *pa
  * Proved: the code is the first 4 bytes, signed. The request is the bytes after it, as many as its length
  * says, or as there are; a length below 16 counts as 16, and with NLM_F_CAPPED it is 16. With NLM_F_ACK_TLVS,
  * the attributes are the bytes after the padding of the request, and otherwise a part of size 0 at the end.
- * nlp_replies_next has the same parts. An error changes nothing. */
+ * nlp_replies_next has the same parts. An error leaves `*body` unchanged. */
 uint32_t nlp_error_body(const uint8_t *bytes, size_t len, uint16_t flags, struct nlp_error *body,
                         struct nlp_fault *fault) NLP_CHECKED(4, 5);
 

@@ -302,6 +302,7 @@ pub(crate) fn error_in(
     requires inside { length block.now ≤ end }
     ensures { result ≡ nest_error levels (rows_in rows.now) policy end block.now }
 {
+    // Rows among which are all of the policy.
     let own = rows_for(rows, policy, block);
     let mut left = block.len();
     for item in NlasIterator::new(block) {

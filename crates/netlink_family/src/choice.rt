@@ -10,7 +10,7 @@ use crate::shape::{Row, Shape, TOP, cached_shape, near_row, row_shape, rows_afte
 use crate::value::bytes_until_nul;
 use netlink_packet_core::NLA_TYPE_MASK;
 
-/// How many rows are read faster than the first row of a policy is found by search.
+/// Up to this many rows, reading all is faster than searching for the first row of a policy.
 const FIRST: usize = 8;
 
 /// Returns the shape of a kind in a policy, among the attributes of a block.

@@ -36,6 +36,7 @@ fn is_block_shaped(levels: u8, rows: &[Row], policy: u16, block: &[u8]) -> bool
     requires sorted { are_sorted (rows_in rows.now) ≡ true }
     ensures { result ≡ is_block_shaped levels (rows_in rows.now) policy block.now }
 {
+    // Rows among which are all of the policy.
     let own = rows_for(rows, policy, block);
     let mut other = None;
     for item in NlasIterator::new(block) {

@@ -111,7 +111,7 @@ pub(crate) fn cached_shape(rows: &[Row], policy: u16, kind: u16, other: &mut Opt
     }
 }
 
-/// Like `row_shape`, for a kind whose row is not near: searches at once.
+/// Like `row_shape`, but searches at once, without the two tries of `near_row`.
 #[inline(always)]
 pub(crate) fn searched_shape(rows: &[Row], policy: u16, kind: u16) -> Shape
     requires sorted { are_sorted (rows_in rows.now) ≡ true }
@@ -172,7 +172,7 @@ fn row_at(rows: &[Row], policy: u16, kind: u16) -> Option<&Row>
 /// index `kind - 1`, where the row is if the first policy has a row for every smaller kind. If some
 /// of these kinds have no row, that index has a greater kind. Then goes back from there by the
 /// difference of the two kinds, and tries the row there. Does not try a second row if the first one
-/// belongs to another policy: then the policy is not the first one.
+/// belongs to another policy: that row's kind says nothing about this policy.
 #[inline(always)]
 pub(crate) fn near_row(rows: &[Row], policy: u16, kind: u16) -> Option<&Row>
     requires sorted { are_sorted (rows_in rows.now) ≡ true }

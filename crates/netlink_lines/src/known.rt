@@ -110,8 +110,8 @@ fn has_name(known: &Names<'_>, index: u32, name: &[u8]) -> bool
     }
 }
 
-/// Removes the name of the link with this index, if it is known. Keeps the capacity, so that a name can
-/// be entered in its place without an allocation.
+/// Removes the name of the link with this index, if it is known. Keeps the capacity, so that the list
+/// can take another name without an allocation.
 pub(crate) fn forget(known: &mut Vec<Known>, index: u32)
     ensures list { known.new.items ≡ without index known.old.items }
     ensures room { known.new.items ≡ known.old.items ⊎ vec_len known.new < vec_capacity known.new }

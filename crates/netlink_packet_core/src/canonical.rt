@@ -59,8 +59,8 @@ pub fn normalize<I: NetlinkProtocol>(alloc: Global, bytes: &[u8]) -> Result<Vec<
 
 /// Returns what `normalize` returns for bytes that hold a complete frame with this header, or `None`
 /// if the protocol does not write the frame without its message. It is inlined, so that such a protocol
-/// pays nothing for it. `normal_inner` is not: else the compiler keeps the code for its errors, which such
-/// a protocol does not have, until it is too late to inline that of `read_inner`.
+/// pays nothing for it. If `normal_inner` were inlined too, the compiler would keep the code for errors
+/// that such a protocol does not have until it is too late to inline `read_inner`.
 #[inline(always)]
 fn direct_frame<I: NetlinkProtocol>(
     alloc: Global,
