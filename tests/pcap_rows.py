@@ -46,11 +46,51 @@ def header_error(data, order):
     return None
 
 
+def without_padding(datagram):
+    """Returns a datagram without the zeros after its last message."""
+    at = 0
+    while any(datagram[at:]):
+        size = int.from_bytes(datagram[at : at + 4], "little")
+        if not 16 <= size <= len(datagram) - at:
+            return datagram
+        at += size + -size % 4
+    return datagram[:at]
+
+
+def whole_messages(datagram):
+    """Returns the whole messages at the start of a datagram that was cut, and what follows them if it is damaged."""
+    at = 0
+    while len(datagram) - at >= 16 and any(datagram[at:]):
+        size = int.from_bytes(datagram[at : at + 4], "little")
+        if size < 16:
+            return datagram
+        if size > len(datagram) - at:
+            break
+        at += size + -size % 4
+    return datagram[:at]
+
+
+def is_route(data):
+    """Returns whether the captured bytes of a packet have the header of a datagram of route netlink."""
+    return len(data) >= 16 and struct.unpack(">2xH10xH", data[:16]) == (DEVICE, 0)
+
+
+def cut_lines(at, data, shown):
+    """Returns the lines of the messages in a packet that was cut, if it has a datagram of route netlink, or None."""
+    if not is_route(data):
+        return ""
+    if not (result := shown(whole_messages(data[16:]), at + 32)):
+        return None
+    return result[1].decode() + (f"{result[2]}\n" if result[2] not in ("", BAD) else "")
+
+
 def datagram_lines(at, data, original, shown):
     """Returns the lines of the captured bytes of a packet, whose header is at an offset, and whether one is an error.
     `shown` returns what the program does with the messages of a datagram. Returns None if it does."""
     if len(data) < original:
-        return f"byte {at}: of a packet of {original} bytes, {len(data)} were captured\n", True
+        line = f"byte {at}: of a packet of {original} bytes, {len(data)} were captured\n"
+        lines = cut_lines(at, data, shown)
+        return None if lines is None else (lines + line, True)
     if len(data) < 16:
         return f"byte {at}: a packet of {len(data)} bytes is shorter than its header of 16\n", True
     device, family = struct.unpack(">2xH10xH", data[:16])
@@ -58,7 +98,7 @@ def datagram_lines(at, data, original, shown):
         return f"byte {at}: the device type of a packet is {device} instead of 824 (NETLINK)\n", True
     if family:
         return f"netlink family {family}, {len(data) - 16} bytes\n", False
-    if not (result := shown(data[16:], at + 32)):
+    if not (result := shown(without_padding(data[16:]), at + 32)):
         return None
     status, lines, error = result
     return lines.decode() + (f"{error}\n" if error not in ("", BAD) else ""), status == 1
@@ -81,6 +121,9 @@ def file_shown(data, shown):
             error = f"byte {at}: a packet of {captured} bytes is longer than {LONGEST}"
         elif captured > left - 16:
             error = f"byte {at}: a packet is cut to {left - 16} of {captured} bytes"
+            if (more := cut_lines(at, data[at + 16 :], shown)) is None:
+                return None
+            lines += more
         if error:
             break
         if not (found := datagram_lines(at, data[at + 16 : at + 16 + captured], original, shown)):
@@ -94,11 +137,14 @@ def made_file(message, order, resolution):
     messages = [message(kind, bytes(kind % 5)) for kind in range(40, 48)]
     padded = b"".join(it + bytes(-len(it) % 4) for it in messages)
     datagrams = [messages[0], padded, b"", padded + messages[1][:-1], b"\1"]
+    datagrams += [messages[0] + bytes(25), padded + bytes(3), bytes(16), messages[1] + bytes(18) + b"\1"]
     datagrams += [message(40, b"", length) for length in (15, 1 << 21)]
     packets = [packet(it, order) for it in datagrams]
     packets += [packet(padded, order, family=family) for family in (16, 65535)]
     packets += [packet(padded, order, device=it) for it in (0, 1, 823)]
     packets += [packet(padded, order, missing=missing) for missing in (1, 1 << 24)]
+    packets += [packet(it, order, missing=1) for it in (padded[:-5], padded + bytes(20), messages[0] + bytes(18) + b"\1")]
+    packets += [packet(padded, order, family=16, missing=1)]
     packets += [raw_packet(bytes(size), order) for size in (0, 15)]
     return header(order, resolution) + b"".join(packets) + packets[0]
 

@@ -16,12 +16,12 @@ import struct
 import subprocess
 import tempfile
 
-from built import TOP, FailingDevices, built, error_of, in_parallel, row, silent, tally
+from built import TOP, FailingDevices, built, error_of, in_parallel, row, run, silent, tally
 from ip_lines import ip_errors
 from live import closed_error, live_error, memory_error
 from pcap_rows import header as pcap_header
 from pcap_rows import packet as pcap_packet
-from pcap_rows import pcap_rows, tshark_errors
+from pcap_rows import pcap_rows, tshark_errors, without_padding
 
 CAPTURED = ["links-0", "links-1", "links-2", "addresses-0", "addresses-1", "link-by-name-0"]
 CAPTURED += ["event-0", "event-1", "event-2"]
@@ -328,6 +328,36 @@ STREAMS += [
     )
 ]
 
+# Requests with NLM_F_REQUEST and NLM_F_ACK, and the lines of each: the kernel may refuse what they ask for, so they
+# change no name.
+ASKED = 5
+STREAMS += [
+    (
+        NAME + link(attribute(3, b"b\0"), index=3, flags=ASKED) + error(b"", code=-16) + frame(28, NEIGHBOUR),
+        NAMED_LINE + b"request 3: b: <> link/netrom\nerror -16\n" + SHOWN.replace(b"if3", b"a"),
+    ),
+    (
+        NAME + frame(17, GONE[16:], flags=ASKED) + frame(28, NEIGHBOUR),
+        NAMED_LINE + b"request delete 3: if3: <> link/netrom\n" + SHOWN.replace(b"if3", b"a"),
+    ),
+]
+LINES += [
+    (frame(25, ROUTE, flags=ASKED), b"request delete default via 10.1.0.2 dev if3\n"),
+    (frame(19, GONE[16:], flags=ASKED), b"request Set 3: if3: <> link/netrom\n"),
+]
+
+# Requests for a dump with a `struct ifinfomsg` and IFLA_EXT_MASK, as iproute2 before 5.0 sends them, and requests for an
+# id with one byte and with three; and the line of each.
+OLD = b"\2" + bytes(15) + attribute(29, b"\1\0\0\0")
+LINES += [(frame(kind, OLD, flags=0x301), f"type {kind}, 40 bytes\n".encode()) for kind in (22, 26, 90)]
+LINES += [(frame(90, bytes(size), flags=1), f"type 90, {16 + size} bytes\n".encode()) for size in (1, 3)]
+
+# An address, a route and a neighbour of MCTP (45), whose addresses have one byte, and the line of each.
+LINES += [
+    (frame(kind, b"\x2d" + bytes(size - 1) + attribute(at, b"\x09")), f"type {kind}, {24 + size} bytes\n".encode())
+    for kind, size, at in ((20, 8, 2), (24, 12, 1), (28, 12, 1))
+]
+
 
 def captured_lines():
     """Returns the captured datagrams by their names, each with its lines after those before it."""
@@ -461,7 +491,21 @@ def live_checks(program):
     many = 1024 * link(NAMED, attribute(200, bytes(1000)))
     yield memory_error(program, b"", many, 64)
     yield memory_error(program, pcap_header(), 32 * pcap_packet(many[: len(many) // 32]), 64)
+    yield padding_error(program)
     yield names_error(program)
+
+
+def padding_error(program):
+    """Passes all datagrams of examples/captured/programs.tsv as packets, with the zeros that `ip` sends after some
+    requests. Returns what differs from the lines of the same messages as a stream, without the zeros, or None."""
+    with open(os.path.join(TOP, "examples", "captured", "programs.tsv"), encoding="utf-8") as file:
+        datagrams = [bytes.fromhex(line.split("\t")[2]) for line in file if not line.startswith("#")]
+    unpadded = [without_padding(it) for it in datagrams]
+    stream = run([program], b"".join(padded(it) for it in unpadded))
+    packets = run([program], pcap_header() + b"".join(pcap_packet(it) for it in datagrams))
+    zeros = sum(len(it) - len(rest) for it, rest in zip(datagrams, unpadded))
+    good = stream == packets and stream[0] == 0 and stream[1] and not stream[2] and zeros
+    return None if good else f"programs: status {stream[0]} as a stream, {packets[0]} as packets, {packets[2]}"
 
 
 def names_error(program):

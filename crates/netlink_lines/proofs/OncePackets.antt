@@ -1,9 +1,10 @@
 -- Bytes show one list of packets and end in one way.
-use Rattle.std.proofs.Common.{◌≡◌, ◌+◌, ◌-◌, ◌++◌, ◌∙◌, ap, arith, refl, sym, subst, ℕ, List, [], drop, take, length, length-append, Option}
+use Rattle.std.proofs.Common.{◌≡◌, ◌+◌, ◌-◌, ◌++◌, ◌∙◌, ap, arith, refl, sym, subst, ℕ, List, [], ◌∷◌, drop, take, length, length-append, Option}
 use Rattle.std.proofs.lemmas.List.{append_cancel_left, take_at}
+use Rattle.std.specs.Prelude.{Bool, true, false}
 use Rattle.netlink_packet_core.specs.Walks.{StepLaws, walks_once}
 use Rattle.netlink_lines.specs.Messages.{Lines, Seen}
-use Rattle.netlink_lines.specs.Packet.{HasContent, IsDatagram, IsPacketCause, IsPacketFault, IsPacketStop, IsWholePacket, Packet, ShowsPackets, StartsPacket, captured_of, content_of, stop_lines}
+use Rattle.netlink_lines.specs.Packet.{HasContent, HasTorn, IsDatagram, IsPacketCause, IsPacketFault, IsPacketStop, IsTornBy, IsWholePacket, Packet, ShowsPackets, StartsPacket, captured_of, content_lines, content_of, from_stop, is_route, stop_lines, torn_by, with_line}
 use Rattle.netlink_lines.specs.declared.packet.Content.{Content}
 use Rattle.netlink_lines.specs.declared.packet.Content.TheVariants as content
 use Rattle.netlink_lines.specs.declared.pcap.Order.{Order}
@@ -21,10 +22,10 @@ shown_once : (a b : Packet) → a.seen ≡ b.seen → a.own ≡ b.own → a ≡ 
 shown_once a b seen own =
     ap (λ (s : List Seen). record { seen = s; own = a.own }) seen ∙ ap (λ (l : Lines). record { seen = b.seen; own = l }) own
 
-datagram_once : (end : ℕ) (bytes : List ℕ) (a b : Packet) → IsDatagram end bytes a → IsDatagram end bytes b → a ≡ b
-datagram_once end bytes a b (stop, shows, is) (other, also, that) =
-    let same = messages_once end bytes a.seen b.seen stop other shows also in
-    shown_once a b same.0 (is ∙ ap stop_lines same.1 ∙ sym that)
+datagram_once : (cut : Bool) (at : ℕ) (bytes : List ℕ) (a b : Packet) → IsDatagram cut at bytes a → IsDatagram cut at bytes b → a ≡ b
+datagram_once cut at bytes a b (stop, shows, is) (other, also, that) =
+    let same = messages_once (at + length bytes) bytes a.seen b.seen stop other shows also in
+    shown_once a b same.0 (is ∙ ap (stop_lines cut at bytes) same.1 ∙ sym that)
 
 other_once : (a b : Packet) (line : Lines) → (a.seen ≡ []) × (a.own ≡ line) → (b.seen ≡ []) × (b.own ≡ line) → a ≡ b
 other_once a b line (none, is) (nothing, that) = shown_once a b (none ∙ sym nothing) (is ∙ sym that)
@@ -32,7 +33,10 @@ other_once a b line (none, is) (nothing, that) = shown_once a b (none ∙ sym no
 content_once : (at : ℕ) (packet : List ℕ) (what : Content) (a b : Packet) → HasContent at packet what a
     → HasContent at packet what b → a ≡ b
 content_once at packet content.Messages a b first second =
-    datagram_once (at + length packet) (drop 32 packet) a b first second
+    datagram_once false (at + 32) (drop 32 packet) a b first second
+content_once at packet (content.CutMessages n m) a b (part, is, whole) (other, that, also) =
+    whole ∙ ap (with_line (content_lines at (length packet - 32) (content.Cut n m))) (datagram_once true (at + 32) (drop 32 packet) part other is that)
+    ∙ sym also
 content_once at packet (content.Family n) a b first second = other_once a b _ first second
 content_once at packet (content.Cut n m) a b first second = other_once a b _ first second
 content_once at packet (content.Short n) a b first second = other_once a b _ first second
@@ -124,6 +128,18 @@ packet_stop_once order end bytes r s first second =
     let cause : r.cause ≡ s.cause = packet_cause_once order bytes r.cause s.cause first.cause second.cause in
     let moved : r ≡ record { at = s.at; cause = r.cause } = ap (λ (n : ℕ). record { at = n; cause = r.cause }) at in
     moved ∙ ap (λ (c : Cause). record { at = s.at; cause = c }) cause
+
+-- ---- what is left is shown in one way
+
+torn_once : (b : Bool) (at : ℕ) (bytes : List ℕ) (s t : Packet) → IsTornBy b at bytes s → IsTornBy b at bytes t → s ≡ t
+torn_once true at bytes s t first second = datagram_once true (at + 32) (drop 32 bytes) s t first second
+torn_once false at bytes s t first second = first ∙ sym second
+
+pub parts_once : (end : ℕ) (bytes : List ℕ) (stop : Stop) (last more : List Packet) → HasTorn end bytes stop last
+    → HasTorn end bytes stop more → last ≡ more
+parts_once end bytes stop last more (s, is, torn) (t, that, also) =
+    let left : List ℕ = torn_by stop.cause (from_stop (end - length bytes) bytes stop) in
+    is ∙ ap (λ (p : Packet). p ∷ []) (torn_once (is_route left) stop.at left s t torn also) ∙ sym that
 
 -- ---- bytes show one list
 

@@ -56,6 +56,16 @@ packet_cut order (Some xs) (Some ys) (Some zs) head body said n took more size i
       (omega (arith, long, size), is ∙ sym same, most, omega (arith, long, left, whole, size), short),
     )
 
+-- all bytes of a packet that they end in were read
+pub keeps_cut : (old middle new : Option (List ℕ)) (head body packet : List ℕ) → Consumes old middle head
+    → Consumes middle new body → packet ≡ head ++ body → IsAtEnd new → IfSome old (λ rest. packet ≡ rest)
+keeps_cut None middle new head body packet took more same end = tt
+keeps_cut (Some xs) None new head body packet took more same end = absurd took
+keeps_cut (Some xs) (Some ys) None head body packet took more same end = absurd more
+keeps_cut (Some xs) (Some ys) (Some zs) head body packet took more same end =
+    let rest : ys ≡ body = more ∙ ap (λ (l : List ℕ). body ++ l) end ∙ append-nil body in
+    same ∙ ap (λ (l : List ℕ). head ++ l) (sym rest) ∙ sym took
+
 -- ---- what was read
 
 -- the whole packet was read

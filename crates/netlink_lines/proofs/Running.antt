@@ -1,25 +1,29 @@
 -- What the loops of a run keep, and how the run ends at each exit. `base` is the offset of the first
 -- message or packet, and `memory` is what the messages before it left.
-use Rattle.std.proofs.Common.{◌≡◌, ◌≤◌, ◌+◌, ◌∙◌, inl, inr, refl, ℕ, List, [], ◌∷◌, ◌++◌, Option, Some, None, IfSome, Result, Err, drop, take, length, ap, sym, subst, append_assoc, take-append-drop}
+use Rattle.std.proofs.Common.{◌≡◌, ◌≢◌, ◌≤◌, ◌+◌, ◌∙◌, inl, inr, refl, ℕ, List, [], ◌∷◌, ◌++◌, Option, Some, None, IfSome, Result, Ok, Err, drop, take, length, ap, sym, subst, append-nil, append_assoc, take-append-drop}
 use Rattle.std.proofs.KnownBytes.{Appends-nil, Appends-trans}
 use Rattle.std.specs.Io.KnownBytes.{Appends, Consumes, IsAtEnd}
 use Rattle.std.specs.Prelude.{Bool, true, false, ◌||◌, ◌⊎◌, ⊤}
 use Rattle.netlink_packet_core.specs.Attribute.{padding}
 use Rattle.netlink_lines.specs.Format.{Format, Told, told_from}
 use Rattle.netlink_lines.specs.Messages.{Check, Lines, Memory, Tells}
-use Rattle.netlink_lines.specs.Packet.{TellsPacket, packets_of}
+use Rattle.netlink_lines.specs.Packet.{IsPacketFault, Packet, TellsPacket, TellsTorn, packets_of, torn_of}
 use Rattle.netlink_lines.specs.Reading.{GivesNext, GivesPacket, Skips, SkipsPart}
-use Rattle.netlink_lines.specs.Run.{Leaves, Reads, RunsOver, Writes, end_of}
+use Rattle.netlink_lines.specs.Run.{EndsOver, Leaves, Reads, RunsOver, Writes, WritesTorn, end_by, end_of, end_with}
 use Rattle.netlink_lines.specs.Stream.{messages_of}
 use Rattle.netlink_lines.specs.declared.packet.NextPacket.{NextPacket}
 use Rattle.netlink_lines.specs.declared.packet.NextPacket.TheVariants as packet_next
 use Rattle.netlink_lines.specs.declared.pcap.Order.{Order}
+use Rattle.netlink_lines.specs.declared.pcap.PcapFault.{PcapFault}
 use Rattle.netlink_lines.specs.declared.runs.Fault.{Fault}
 use Rattle.netlink_lines.specs.declared.runs.Fault.TheVariants as fault
+use Rattle.netlink_lines.specs.declared.runs.Outcome.{Outcome}
 use Rattle.netlink_lines.specs.declared.stream.Cause.{Cause}
+use Rattle.netlink_lines.specs.declared.stream.Cause.TheVariants.{Pcap}
 use Rattle.netlink_lines.specs.declared.stream.Next.{Next}
 use Rattle.netlink_lines.specs.declared.stream.Next.TheVariants.{Frame}
-use Rattle.netlink_lines.proofs.Steps.{IsOne, PassedKnown, StopsAt, TriesOne, ends_here, first_shown, is_message, is_packet, none_lost, none_lost_between, passed_nothing, passes, passes_padding, stops_here, told_push}
+use Rattle.netlink_lines.specs.declared.stream.Stop.{Stop}
+use Rattle.netlink_lines.proofs.Steps.{IsOne, PassedKnown, StopsAt, TriesOne, ends_here, first_shown, is_message, is_packet, none_lost, none_lost_between, passed_nothing, passes, passes_padding, stops_here, stops_torn, told_push}
 
 -- ---- what the loops keep
 
@@ -151,13 +155,95 @@ pub at_the_end : {A : Type 0} (f : Format A) (memory : Memory) (base : ℕ) (old
 at_the_end f memory base old now left start end at state malformed k none =
     ends_well f memory base old now left start end k.done at state malformed k.passed k.any k.wrote (sym k.leaves) none
 
-pub at_a_stop : {A : Type 0} (f : Format A) (memory : Memory) (base : ℕ) (old now left start end : Option (List ℕ)) (at : ℕ)
+-- the packets stop, and the lines of what is left are written
+abbrev pub IsLeft : Order → PcapFault → List ℕ → List ℕ → Type 0
+IsLeft order why kept rest = ((rest ≢ []) × IsPacketFault order rest why) × (torn_of why kept ≡ torn_of why rest)
+
+pub left_here : (order : Order) (why : PcapFault) (kept : List ℕ) (now : Option (List ℕ))
+    → IfSome now (λ rest. (rest ≢ []) × IsPacketFault order rest why) → IfSome now (λ rest. torn_of why kept ≡ torn_of why rest)
+    → IfSome now (IsLeft order why kept)
+left_here order why kept None is same = tt
+left_here order why kept (Some rest) is same = (is, same)
+
+pub at_torn_stop : (check : Check) (order : Order) (memory : Memory) (base : ℕ) (old now left start before end : Option (List ℕ))
+    (at : ℕ) (state : Memory) (malformed : Bool) (why : PcapFault) (kept : List ℕ) (lines : Lines) (after : Memory)
+    → Kept (packets_of check order) memory base old now start before 0 at state malformed → IfSome now (IsLeft order why kept)
+    → TellsTorn check at (torn_of why kept) state lines after → Appends before end lines.0
+    → Ended (packets_of check order) memory base old left start end after
+    (Err (fault.Stopped (record { at = at; cause = Pcap why })))
+at_torn_stop check order memory base None now left start before end at state malformed why kept lines after k is tells more = tt
+at_torn_stop check order memory base (Some input) None left start before end at state malformed why kept lines after k is tells more =
+    absurd k.passed
+at_torn_stop check order memory base (Some input) (Some rest) left start before end at state malformed why kept lines after k is (shown, torn, said, leaves) more =
+    let f : Format Packet = packets_of check order in
+    let told = told_more f memory k.done shown state after lines malformed k.leaves k.any said leaves in (
+      k.done ++ (shown ∷ []),
+      stops_torn check order base input rest k.done at why kept shown k.passed is.0 is.1 torn,
+      subst (Appends start end) (sym (ap (λ (t : Told). t.text) told))
+          (Appends-trans start before end (told_from f memory k.done).text lines.0 k.wrote more),
+      sym (ap (λ (t : Told). t.memory) told),
+    )
+
+-- a part of these lines was written
+no_torn_write : (check : Check) (order : Order) (memory : Memory) (base : ℕ) (old now left start before end : Option (List ℕ))
+    (at : ℕ) (state : Memory) (malformed : Bool) (why : PcapFault) (kept : List ℕ) (lines : Lines) (after : Memory)
+    → Kept (packets_of check order) memory base old now start before 0 at state malformed → IfSome now (IsLeft order why kept)
+    → TellsTorn check at (torn_of why kept) state lines after → (n : ℕ) × (n ≤ length lines.0) × Appends before end (take n lines.0)
+    → Ended (packets_of check order) memory base old left start end after (Err fault.Write)
+no_torn_write check order memory base None now left start before end at state malformed why kept lines after k is tells more = tt
+no_torn_write check order memory base (Some input) None left start before end at state malformed why kept lines after k is tells more =
+    absurd k.passed
+no_torn_write check order memory base (Some input) (Some rest) left start before end at state malformed why kept lines after k is (shown, torn, said, leaves) (n, few, more) =
+    let f : Format Packet = packets_of check order in
+    let told = told_more f memory k.done shown state after lines malformed k.leaves k.any said leaves in
+    let so_far : List ℕ = (told_from f memory k.done).text in
+    let split : (told_from f memory (k.done ++ (shown ∷ []))).text ≡ (so_far ++ take n lines.0) ++ drop n lines.0 =
+    ap (λ (t : Told). t.text) told ∙ ap (λ (l : List ℕ). so_far ++ l) (sym (take-append-drop n lines.0))
+    ∙ sym (append_assoc so_far (take n lines.0) (drop n lines.0)) in (
+      k.done ++ (shown ∷ []),
+      inr (record { at = at; cause = Pcap why }, stops_torn check order base input rest k.done at why kept shown k.passed is.0 is.1 torn),
+      (so_far ++ take n lines.0, drop n lines.0, split, Appends-trans start before end so_far (take n lines.0) k.wrote more),
+      sym (ap (λ (t : Told). t.memory) told),
+    )
+
+-- the same with an outcome
+abbrev pub EndedWith : {A : Type 0} → Format A → Memory → ℕ → Option (List ℕ) → Option (List ℕ) → Option (List ℕ) → Option (List ℕ)
+    → Memory → Result Outcome Fault → Type 0
+EndedWith f memory base old left start end after result =
+    IfSome old (λ input. EndsOver f memory (base + length input) input left start end after result)
+
+pub ends_whole : {A : Type 0} (f : Format A) (memory : Memory) (base : ℕ) (old now left start end : Option (List ℕ)) (at : ℕ)
+    (state : Memory) (malformed : Bool) → Kept f memory base old now start end 0 at state malformed → IsAtEnd now
+    → EndedWith f memory base old left start end state (Ok (record { is_malformed = malformed; stop = None }))
+ends_whole f memory base None now left start end at state malformed k none = tt
+ends_whole f memory base (Some input) now left start end at state malformed k none =
+    (k.done, ends_here f base (Some input) now k.done at k.passed none, k.any, k.wrote, sym k.leaves)
+
+pub ends_at_stop : {A : Type 0} (f : Format A) (memory : Memory) (base : ℕ) (old now left start end : Option (List ℕ)) (at : ℕ)
     (state : Memory) (malformed : Bool) (cause : Cause) → Kept f memory base old now start end 0 at state malformed
     → IfSome now (StopsAt f at cause)
-    → Ended f memory base old left start end state (Err (fault.Stopped (record { at = at; cause = cause })))
-at_a_stop f memory base old now left start end at state malformed cause k is =
-    runs f memory base old left start end k.done state (Err (fault.Stopped (record { at = at; cause = cause })))
-    (stops_here f base old now k.done at cause k.passed is) k.wrote (sym k.leaves)
+    → EndedWith f memory base old left start end state
+    (Ok (record { is_malformed = malformed; stop = Some (record { at = at; cause = cause }) }))
+ends_at_stop f memory base None now left start end at state malformed cause k is = tt
+ends_at_stop f memory base (Some input) now left start end at state malformed cause k is =
+    (k.done, stops_here f base (Some input) now k.done at cause k.passed is, k.any, k.wrote, sym k.leaves)
+
+-- a run ends by its outcome
+over_by : (check : Check) (memory : Memory) (end : ℕ) (bytes : List ℕ) (left old new : Option (List ℕ)) (after : Memory)
+    (malformed : Bool) (stop : Option Stop)
+    → EndsOver (messages_of check) memory end bytes left old new after (Ok (record { is_malformed = malformed; stop = stop }))
+    → RunsOver (messages_of check) memory end bytes left old new after (end_by malformed stop)
+over_by check memory end bytes left old new after malformed (Some stop) (all, shows, any, wrote, leaves) =
+    (all, (all, [], sym (append-nil all), shows, refl), wrote, leaves)
+over_by check memory end bytes left old new after true None (all, shows, any, wrote, leaves) = (all, (shows, any), wrote, leaves)
+over_by check memory end bytes left old new after false None (all, shows, any, wrote, leaves) = (all, (shows, any), wrote, leaves)
+
+pub ended_with : (check : Check) (memory : Memory) (base : ℕ) (old left start end : Option (List ℕ)) (after : Memory)
+    (outcome : Outcome) → EndedWith (messages_of check) memory base old left start end after (Ok outcome)
+    → Ended (messages_of check) memory base old left start end after (end_with outcome)
+ended_with check memory base None left start end after outcome ends = tt
+ended_with check memory base (Some input) left start end after outcome ends =
+    over_by check memory (base + length input) input left start end after outcome.is_malformed outcome.stop ends
 
 pub without_memory : {A : Type 0} (f : Format A) (memory : Memory) (base : ℕ) (old now left start end : Option (List ℕ)) (at : ℕ)
     (state : Memory) (malformed : Bool) (after : Memory) → Kept f memory base old now start end 0 at state malformed
@@ -165,6 +251,28 @@ pub without_memory : {A : Type 0} (f : Format A) (memory : Memory) (base : ℕ) 
 without_memory f memory base old now left start end at state malformed after k =
     runs f memory base old left start end k.done after (Err fault.OutOfMemory)
     (first_shown f base old now k.done 0 at k.passed) k.wrote tt
+
+-- the lines of what was left could not be written
+torn_ends : (check : Check) (order : Order) (memory : Memory) (base : ℕ) (old now left start before end : Option (List ℕ))
+    (at : ℕ) (state : Memory) (malformed : Bool) (why : PcapFault) (kept : List ℕ) (after : Memory) (fails : Fault)
+    → Kept (packets_of check order) memory base old now start before 0 at state malformed → IfSome now (IsLeft order why kept)
+    → WritesTorn {R = ⊤} check at (torn_of why kept) state after before end (Err fails)
+    → Ended (packets_of check order) memory base old left start end after (Err fails)
+torn_ends check order memory base old now left start before end at state malformed why kept after fault.Write k is (lines, tells, n, few, more) =
+    no_torn_write check order memory base old now left start before end at state malformed why kept lines after k is tells (n, few, more)
+torn_ends check order memory base old now left start before end at state malformed why kept after fault.OutOfMemory k is same =
+    subst (λ (e : Option (List ℕ)). Ended (packets_of check order) memory base old left start e after (Err fault.OutOfMemory)) (sym same)
+    (without_memory (packets_of check order) memory base old now left start before at state malformed after k)
+torn_ends check order memory base old now left start before end at state malformed why kept after other k is fails = absurd fails
+
+pub torn_fails : (check : Check) (order : Order) (memory : Memory) (base : ℕ) (old now left start before end : Option (List ℕ))
+    (at : ℕ) (state : Memory) (malformed : Bool) (why : PcapFault) (kept view : List ℕ) (after : Memory) (fails : Fault)
+    → Kept (packets_of check order) memory base old now start before 0 at state malformed → IfSome now (IsLeft order why kept)
+    → view ≡ kept → WritesTorn {R = ⊤} check at (torn_of why view) state after before end (Err fails)
+    → Ended (packets_of check order) memory base old left start end after (Err fails)
+torn_fails check order memory base old now left start before end at state malformed why kept view after fails k is same writes =
+    torn_ends check order memory base old now left start before end at state malformed why kept after fails k is
+    (subst (λ (l : List ℕ). WritesTorn {R = ⊤} check at (torn_of why l) state after before end (Err fails)) same writes)
 
 -- the reader gave no more, or too many messages or packets, or bytes
 pub failed_read : {A : Type 0} (f : Format A) (memory : Memory) (base : ℕ) (old now left start end : Option (List ℕ)) (at : ℕ)

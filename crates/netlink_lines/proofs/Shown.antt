@@ -1,7 +1,7 @@
 -- The lines of a message, from those of its parts.
 use Rattle.std.proofs.Common.{◌≡◌, ◌∙◌, refl, ap, arith, sym, subst, ℕ, List, [], Option, Some, None, IfOk, OnOk, Result, Ok, Err, string_bytes}
 use Rattle.std.proofs.lemmas.Bool.{eqb-true, ne_eqb}
-use Rattle.std.specs.Prelude.{◌≤◌, ◌<◌, Bool, true, false, length, nat_eq, ◌==◌, if◌then◌else◌}
+use Rattle.std.specs.Prelude.{◌≤◌, ◌<◌, Bool, true, false, nat_eq, ◌==◌, if◌then◌else◌}
 use Rattle.netlink_family.specs.ErrorTexts.{error_text}
 use Rattle.netlink_family.specs.declared.error.FamilyError.{FamilyError}
 use Rattle.netlink_family.specs.declared.error.FamilyError.TheVariants.{UnknownType}
@@ -121,8 +121,7 @@ own_time frame least = rw (ne_eqb (header_of frame).message_type 15 (λ e. omega
 
 -- its line, where no text is in it
 own_item : (check : Check) (known : List Known) (at : ℕ) (frame : List ℕ) → 16 ≤ (header_of frame).message_type
-    → family_lines known at (header_of frame).message_type (length frame) (payload_of frame)
-    (check (header_of frame).message_type (payload_of frame))
+    → family_lines known at frame (check (header_of frame).message_type (payload_of frame))
     ≡ item_lines check known at frame None (meaning frame)
 own_item check known at frame least =
     rw (own_meaning frame least, ne_eqb (header_of frame).message_type 15 (λ e. omega (arith, e, least))) refl
@@ -131,8 +130,7 @@ own_item check known at frame least =
 pub tells_own : {E : Type 0} (check : Check) (at : ℕ) (frame : List ℕ) (memory : Memory) (known : List Known) (flags : ℕ)
     (shown marked : Lines) (r : Result Shown E)
     → 16 ≤ (header_of frame).message_type → known ≡ known_after check frame memory.known → flags ≡ (header_of frame).flags
-    → shown ≡ family_lines known at (header_of frame).message_type (length frame) (payload_of frame)
-    (check (header_of frame).message_type (payload_of frame))
+    → shown ≡ family_lines known at frame (check (header_of frame).message_type (payload_of frame))
     → marked ≡ marked_if flags shown
     → IfOk r (λ s. ◌≡◌ {A = Lines} (string_bytes s.text, s.is_malformed) (timed memory.time marked))
     → IfOk r (λ s. Tells check at frame memory (string_bytes s.text, s.is_malformed) (record { time = None; known = known }))
@@ -152,12 +150,12 @@ tells_own check at frame memory known flags shown marked (Ok s) least names flag
 tells_own check at frame memory known flags shown marked (Err e) least names flag lines mark timely = tt
 
 -- the names of links after a message without errors, if they were updated by it
-pub knows_message : (check : Check) (frame : List ℕ) (known after : List Known) (t : ℕ) (payload : List ℕ)
-    → t ≡ (header_of frame).message_type → payload ≡ payload_of frame
+pub knows_message : (check : Check) (frame : List ℕ) (known after : List Known) (flags t : ℕ) (payload : List ℕ)
+    → flags ≡ (header_of frame).flags → t ≡ (header_of frame).message_type → payload ≡ payload_of frame
     → check (header_of frame).message_type (payload_of frame) ≡ None
-    → after ≡ (if is_named t then known_by (t, payload) known else known) → after ≡ known_after check frame known
+    → after ≡ (if is_named flags t then known_by (t, payload) known else known) → after ≡ known_after check frame known
 unfolding known_after
-knows_message check frame known after t payload type is checked learned = rw checked (rw (type, is) at learned)
+knows_message check frame known after flags t payload flag type is checked learned = rw checked (rw (flag, type, is) at learned)
 
 same_names : (b : Bool) (known : List Known) → known ≡ (if b then known else known)
 same_names true known = refl
@@ -167,7 +165,7 @@ same_names false known = refl
 pub knows_error : (check : Check) (frame : List ℕ) (known : List Known) (e : FamilyError)
     → check (header_of frame).message_type (payload_of frame) ≡ Some e → known ≡ known_after check frame known
 unfolding known_after
-knows_error check frame known e checked = rw checked (same_names (is_named (header_of frame).message_type) known)
+knows_error check frame known e checked = rw checked (same_names (is_named (header_of frame).flags (header_of frame).message_type) known)
 
 -- a control message leaves them
 pub knows_other : (check : Check) (frame : List ℕ) (known : List Known) → (header_of frame).message_type < 16

@@ -117,8 +117,8 @@ runs_unread check why (Some xs) (Some ys) left start first (took, few, all) is =
 
 no_memory_in : (check : Check) (layout : Layout) (input : List ℕ) (left start : Option (List ℕ))
     → RunsIn {R = ⊤} check layout input left start start (Err fault.OutOfMemory)
-no_memory_in check Messages input left start = (no_memory, ([], (input, refl), Appends-nil start, tt))
-no_memory_in check (Packets order) input left start = (no_memory, ([], (drop 24 input, refl), Appends-nil start, tt))
+no_memory_in check Messages input left start = (no_memory, ([], inl (input, refl), Appends-nil start, tt))
+no_memory_in check (Packets order) input left start = (no_memory, ([], inl (drop 24 input, refl), Appends-nil start, tt))
 no_memory_in check (Unread why) input left start = (tt, Appends-nil start)
 
 pub starts_without_memory : (check : Check) (old left start : Option (List ℕ))

@@ -1,17 +1,17 @@
 -- The messages or packets so far, and how bytes end, where those of the reader are known.
-use Rattle.std.proofs.Common.{◌≡◌, ◌≢◌, ◌<◌, ◌≤◌, ◌+◌, ◌-◌, ◌∙◌, refl, ℕ, List, [], ◌∷◌, ◌++◌, Option, Some, None, IfSome, drop, take, length, ap, sym, subst, inl, inr, arith, length-append, length-drop, take-append-drop}
+use Rattle.std.proofs.Common.{◌≡◌, ◌≢◌, ◌<◌, ◌≤◌, ◌+◌, ◌-◌, ◌∙◌, refl, ℕ, List, [], ◌∷◌, ◌++◌, Option, Some, None, IfSome, drop, take, length, ap, sym, subst, inl, inr, arith, append_assoc, length-append, length-drop, take-append-drop}
 use Rattle.std.proofs.lemmas.Bool.{cases_lt}
-use Rattle.std.proofs.lemmas.List.{drop_all, length-take-le, take_all, take_at}
+use Rattle.std.proofs.lemmas.List.{drop_all, drop_at, length-take-le, take_all, take_at}
 use Rattle.std.proofs.lemmas.List.Sums.{fold-append}
 use Rattle.std.specs.Io.KnownBytes.{Consumes, IsAtEnd}
 use Rattle.netlink_packet_core.specs.Attribute.{padding}
 use Rattle.netlink_packet_core.specs.FrameWalk.{IsWholeFrame, StartsFrame}
-use Rattle.netlink_packet_core.specs.Walks.{Passed, passed_ends, passed_faults, passed_push}
+use Rattle.netlink_packet_core.specs.Walks.{Passed, passed_ends, passed_faults, passed_keeps, passed_push}
 use Rattle.netlink_replies.specs.Meaning.{meaning}
 use Rattle.netlink_lines.specs.Ack.{IsText, ack_attributes}
-use Rattle.netlink_lines.specs.Format.{Format, ShowsAll, tell, told_from, told_nothing}
+use Rattle.netlink_lines.specs.Format.{Format, ShowsAll, StopsAs, tell, told_from, told_nothing}
 use Rattle.netlink_lines.specs.Messages.{Check, Memory, Seen}
-use Rattle.netlink_lines.specs.Packet.{HasContent, IsPacketFault, IsWholePacket, Packet, captured_of, content_of, packets_of}
+use Rattle.netlink_lines.specs.Packet.{HasContent, IsPacketFault, IsTorn, IsWholePacket, Packet, StartsPacket, captured_of, content_of, packets_of, torn_of}
 use Rattle.netlink_lines.specs.Reading.{Skips, SkipsPart}
 use Rattle.netlink_lines.specs.Run.{NoneLost, ShowsFirst}
 use Rattle.netlink_lines.specs.Stream.{IsCause, longest, messages_of}
@@ -122,12 +122,6 @@ pub frame_stop : (check : Check) (at : ℕ) (cause : Cause) (now : Option (List 
 frame_stop check at cause None is = tt
 frame_stop check at cause (Some rest) (some, is) = (some, λ end place. record { place = place; cause = is })
 
-pub packet_stop : (check : Check) (order : Order) (at : ℕ) (why : PcapFault) (now : Option (List ℕ))
-    → IfSome now (λ rest. (rest ≢ []) × IsPacketFault order rest why)
-    → IfSome now (StopsAt (packets_of check order) at (Pcap why))
-packet_stop check order at why None is = tt
-packet_stop check order at why (Some rest) (some, is) = (some, λ end place. record { place = place; cause = is })
-
 pub stops_here : {A : Type 0} (f : Format A) (base : ℕ) (old now : Option (List ℕ)) (done : List A) (at : ℕ) (cause : Cause)
     → PassedKnown f base old done now 0 at → IfSome now (StopsAt f at cause)
     → IfSome old (λ input. ShowsAll f (base + length input) input done (Some (record { at = at; cause = cause })))
@@ -137,11 +131,40 @@ stops_here f base (Some input) (Some rest) done at cause (passed, place) is =
     passed_faults (f.starts (base + length input)) (f.stops (base + length input)) input done rest
     (record { at = at; cause = cause }) passed is.0 (is.1 (base + length input) place)
 
+-- what is left is the end of the input
+passed_end : (order : Order) (end : ℕ) (input : List ℕ) (done : List Packet) (rest : List ℕ)
+    → Passed (StartsPacket order end) input done rest → (front : List ℕ) × (input ≡ front ++ rest)
+passed_end order end input done rest passed =
+    passed_keeps (StartsPacket order end) (λ (l : List ℕ). (front : List ℕ) × (input ≡ front ++ l))
+    (λ bytes one after starts ends. (
+      ends.0 ++ starts.packet,
+      ends.1 ∙ ap (λ (l : List ℕ). ends.0 ++ l) starts.whole ∙ sym (append_assoc ends.0 starts.packet after),
+    )) input done rest passed ([], refl)
+
+-- the packets stop there, and this is shown of the bytes that are left, which the reader gave
+pub stops_torn : (check : Check) (order : Order) (base : ℕ) (input rest : List ℕ) (done : List Packet) (at : ℕ) (why : PcapFault)
+    (kept : List ℕ) (shown : Packet) → PassedKnown (packets_of check order) base (Some input) done (Some rest) 0 at
+    → (rest ≢ []) × IsPacketFault order rest why → torn_of why kept ≡ torn_of why rest → IsTorn at (torn_of why kept) shown
+    → StopsAs (packets_of check order) (base + length input) input (done ++ (shown ∷ [])) (record { at = at; cause = Pcap why })
+stops_torn check order base input rest done at why kept shown (passed, place) (some, is) same torn =
+    let (front, whole) = passed_end order (base + length input) input done rest passed in
+    let long : length input ≡ length front + length rest = ap length whole ∙ length-append front rest in
+    let size : length front ≡ at - (base + length input - length input) = omega (arith, long, place) in
+    let left : drop (at - (base + length input - length input)) input ≡ rest =
+    ap (drop (at - (base + length input - length input))) whole ∙ drop_at front rest (at - (base + length input - length input)) size in (
+      done,
+      shown ∷ [],
+      refl,
+      stops_here (packets_of check order) base (Some input) (Some rest) done at (Pcap why) (passed, place)
+          (some, λ end there. record { place = there; cause = is }),
+      (shown, refl, subst (λ (l : List ℕ). IsTorn at l shown) (same ∙ ap (torn_of why) (sym left)) torn),
+    )
+
 pub first_shown : {A : Type 0} (f : Format A) (base : ℕ) (old now : Option (List ℕ)) (done : List A) (missing at : ℕ)
     → PassedKnown f base old done now missing at → IfSome old (λ input. ShowsFirst f (base + length input) input done)
 first_shown f base None now done missing at passed = tt
 first_shown f base (Some input) None done missing at passed = absurd passed
-first_shown f base (Some input) (Some left) done missing at (passed, place) = (drop missing left, passed)
+first_shown f base (Some input) (Some left) done missing at (passed, place) = inl (drop missing left, passed)
 
 -- the reader gave bytes that hold none: `Tries` and `TriesPacket`
 abbrev pub TriesOne : {A : Type 0} → Format A → Option (List ℕ) → Option (List ℕ) → Type 0

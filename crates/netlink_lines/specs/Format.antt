@@ -1,5 +1,5 @@
 -- Bytes that are messages or packets, one after another, and what a run tells of them.
-use Rattle.std.specs.Prelude.{ℕ, Bool, false, ◌||◌, List, [], ◌++◌, Option}
+use Rattle.std.specs.Prelude.{ℕ, ◌≡◌, Bool, false, ◌||◌, List, [], ◌++◌, Option, Some}
 use Rattle.std.specs.List.{fold}
 use Rattle.netlink_packet_core.specs.Walks.{WalksAs}
 use Rattle.netlink_lines.specs.Messages.{Lines, Memory}
@@ -11,6 +11,8 @@ pub record Format (A : Type 0) : Type 1 where
   pub starts : ℕ → List ℕ → A → List ℕ → Type 0
   -- they start with none that can be read, and end there so
   pub stops : ℕ → List ℕ → Stop → Type 0
+  -- of bytes that end at this offset and stop here, these are shown after the whole ones
+  pub parts : ℕ → List ℕ → Stop → List A → Type 0
   -- bytes hold a whole one at their start
   pub holds : List ℕ → Type 0
   -- its lines, after those that left this memory
@@ -21,6 +23,12 @@ pub record Format (A : Type 0) : Type 1 where
 -- bytes, which end at this offset of the input, are these, up to their end or a stop
 abbrev pub ShowsAll : {A : Type 0} → Format A → ℕ → List ℕ → List A → Option Stop → Type 0
 ShowsAll f end = WalksAs (f.starts end) (f.stops end)
+
+-- bytes, which end at this offset of the input, are these up to a stop, with what is shown of the bytes there
+abbrev pub StopsAs : {A : Type 0} → Format A → ℕ → List ℕ → List A → Stop → Type 0
+StopsAs {A} f end bytes all stop =
+    (done last : List A) × (all ≡ done ++ last) × ShowsAll f end bytes done (Some stop)
+    × f.parts end bytes stop last
 
 -- what the messages or packets so far leave, their lines, one after another, and whether one was
 -- malformed

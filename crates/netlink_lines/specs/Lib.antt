@@ -2,6 +2,7 @@ pub mod Ack
 pub mod Address
 pub mod AddressFlags
 pub mod Device
+pub mod Families
 pub mod Flags
 pub mod Format
 pub mod Hardware
@@ -22,6 +23,7 @@ pub mod Packet
 pub mod Parts
 pub mod Pcap
 pub mod Reading
+pub mod Requests
 pub mod Route
 pub mod RouteCache
 pub mod RouteHops

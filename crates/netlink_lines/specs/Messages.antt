@@ -1,5 +1,5 @@
 -- What a message is shown as.
-use Rattle.std.specs.Prelude.{ℕ, ◌≡◌, ◌==◌, ◌||◌, Bool, true, false, List, [], ◌++◌, length, Option, Some, None, Ok, Err, codes, decimal, pos, if◌then◌else◌}
+use Rattle.std.specs.Prelude.{ℕ, ◌≡◌, ◌==◌, ◌||◌, ◌&&◌, not, Bool, true, false, List, [], ◌++◌, length, Option, Some, None, Ok, Err, codes, decimal, pos, if◌then◌else◌}
 use Rattle.netlink_family.specs.ErrorTexts.{error_text}
 use Rattle.netlink_family.specs.declared.error.FamilyError.{FamilyError}
 use Rattle.netlink_family.specs.declared.error.FamilyError.TheVariants.{UnknownType}
@@ -9,7 +9,9 @@ use Rattle.netlink_packet_core.specs.Refusal.{refusal_text}
 use Rattle.netlink_replies.specs.Meaning.{Item, meaning}
 use Rattle.netlink_replies.specs.declared.reply.Reply.TheVariants.{Message, Done, Acknowledged, Rejected, Overrun, Other}
 use Rattle.netlink_lines.specs.Ack.{IsText, ack_attributes, marked_if}
+use Rattle.netlink_lines.specs.Families.{is_foreign}
 use Rattle.netlink_lines.specs.Lines.{done_line, error_line, known_by, route_line}
+use Rattle.netlink_lines.specs.Requests.{asked_line, is_dump, is_request}
 use Rattle.netlink_lines.specs.Time.{time_in, time_text}
 use Rattle.netlink_lines.specs.declared.device.Known.{Known}
 use Rattle.netlink_lines.specs.declared.state.State.{State}
@@ -35,20 +37,30 @@ abbrev pub type_line : ℕ → ℕ → List ℕ
 type_line t size =
     codes "type " ++ (decimal t ++ (codes ", " ++ (decimal size ++ codes " bytes\n")))
 
-abbrev pub line_or_type : ℕ → ℕ → Option (List ℕ) → List ℕ
-line_or_type t size (Some line) = line
-line_or_type t size None = type_line t size
+-- a message by its flags, type and size, and by the line of such a message that is no request, if it has one
+abbrev pub line_or_type : ℕ → ℕ → ℕ → Option (List ℕ) → List ℕ
+line_or_type flags t size (Some line) = asked_line flags t line
+line_or_type flags t size None = type_line t size
 
 -- a message whose payload has this error, by the offset, type and size of the message
 abbrev pub error_lines : ℕ → ℕ → ℕ → FamilyError → Lines
 error_lines at t size (UnknownType other) = good (type_line t size)
 error_lines at t size error = bad at (refusal_text t (error_text error))
 
--- a message of a family, by the known names of links, its offset, type, size and payload, and by the
--- payload's error
-abbrev pub family_lines : List Known → ℕ → ℕ → ℕ → List ℕ → Option FamilyError → Lines
-family_lines known at t size payload None = good (line_or_type t size (route_line known (t, payload)))
-family_lines known at t size payload (Some error) = error_lines at t size error
+-- a message whose family rejects its payload with this error, by its offset and its frame
+abbrev pub rejected_lines : ℕ → List ℕ → FamilyError → Lines
+rejected_lines at frame error =
+    if is_dump (header_of frame).flags (header_of frame).message_type
+    || is_foreign (header_of frame).message_type (payload_of frame)
+    then good (type_line (header_of frame).message_type (length frame))
+    else error_lines at (header_of frame).message_type (length frame) error
+
+-- a message of a family, by the known names of links, its offset and its frame, and by its payload's error
+abbrev pub family_lines : List Known → ℕ → List ℕ → Option FamilyError → Lines
+family_lines known at frame None =
+    good (line_or_type (header_of frame).flags (header_of frame).message_type (length frame)
+    (route_line known ((header_of frame).message_type, payload_of frame)))
+family_lines known at frame (Some error) = rejected_lines at frame error
 
 -- a message of type 15 at this offset, whose payload is no time
 abbrev pub wrong_time : ℕ → List ℕ → Lines
@@ -59,8 +71,7 @@ wrong_time at payload =
 abbrev pub own_lines : Check → List Known → ℕ → List ℕ → Lines
 own_lines check known at frame =
     if (header_of frame).message_type == 15 then wrong_time at (payload_of frame)
-    else family_lines known at (header_of frame).message_type (length frame) (payload_of frame)
-    (check (header_of frame).message_type (payload_of frame))
+    else family_lines known at frame (check (header_of frame).message_type (payload_of frame))
 
 -- a frame by what it means, and by the kernel's text in it
 abbrev pub item_lines : Check → List Known → ℕ → List ℕ → Option (List ℕ) → Option Item → Lines
@@ -99,9 +110,9 @@ memory_of state = record { time = state.time; known = state.known }
 abbrev pub no_memory : Memory
 no_memory = record { time = None; known = [] }
 
--- messages of this type tell the names of links
-abbrev pub is_named : ℕ → Bool
-is_named t = t == 16 || t == 17
+-- messages with these flags and of this type tell the names of links
+abbrev pub is_named : ℕ → ℕ → Bool
+is_named flags t = (t == 16 || t == 17) && not (is_request flags t)
 
 -- the names of links after a message of this type and payload, by the payload's error
 abbrev pub known_if : Option FamilyError → ℕ → List ℕ → List Known → List Known
@@ -111,7 +122,7 @@ known_if (Some error) t payload known = known
 -- the names of links after the message in a frame
 unfoldable pub known_after : Check → List ℕ → List Known → List Known
 known_after check frame known =
-    if is_named (header_of frame).message_type
+    if is_named (header_of frame).flags (header_of frame).message_type
     then known_if (check (header_of frame).message_type (payload_of frame))
     (header_of frame).message_type (payload_of frame) known
     else known

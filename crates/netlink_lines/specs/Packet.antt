@@ -3,14 +3,16 @@
 -- header of 16 comes first (LINKTYPE_NETLINK), whose numbers are big-endian: the type of the packet in 2
 -- bytes, the device type (ARPHRD_NETLINK, 824) in 2, 10 that are not used, and the netlink family in 2.
 -- A datagram follows.
-use Rattle.std.specs.Prelude.{◌≡◌, ◌<◌, ◌≤◌, ◌+◌, ◌-◌, ◌==◌, ◌||◌, ℕ, true, List, [], ◌++◌, drop, length, Option, None, Some, codes, decimal, nat_lt, if◌then◌else◌}
+use Rattle.std.specs.Prelude.{◌≡◌, ◌<◌, ◌≤◌, ◌+◌, ◌-◌, ◌==◌, ◌||◌, ◌&&◌, ℕ, Bool, true, false, List, [], ◌∷◌, ◌++◌, drop, length, Option, None, Some, codes, decimal, nat_le, nat_lt, if◌then◌else◌}
+use Rattle.std.specs.List.{list_all}
+use Rattle.netlink_packet_core.specs.Header.{field}
 use Rattle.netlink_packet_core.specs.Walks.{WalksAs}
 use Rattle.netlink_lines.specs.Format.{Format, told_from}
 use Rattle.netlink_lines.specs.Messages.{Check, Lines, Memory, Seen, bad, good}
 use Rattle.netlink_lines.specs.Pcap.{number_in}
 use Rattle.netlink_lines.specs.Stream.{ShowsMessages, longest, messages_of, stop_text}
 use Rattle.netlink_lines.specs.declared.packet.Content.{Content}
-use Rattle.netlink_lines.specs.declared.packet.Content.TheVariants.{Messages, Family, Cut, Short, Device}
+use Rattle.netlink_lines.specs.declared.packet.Content.TheVariants.{Messages, Family, CutMessages, Cut, Short, Device}
 use Rattle.netlink_lines.specs.declared.pcap.Order.{Order}
 use Rattle.netlink_lines.specs.declared.pcap.Order.TheVariants.{Big}
 use Rattle.netlink_lines.specs.declared.pcap.PcapFault.{PcapFault}
@@ -36,11 +38,17 @@ abbrev pub HoldsPacket : Order → List ℕ → Type 0
 HoldsPacket order bytes =
     (16 ≤ length bytes) × (16 + captured_of order bytes ≤ length bytes)
 
+-- a packet, or what there is of it, has the header of a datagram of route netlink
+abbrev pub is_route : List ℕ → Bool
+is_route packet =
+    nat_le 32 (length packet) && (number_in Big 18 2 packet == 824 && number_in Big 30 2 packet == 0)
+
 -- what a packet is; the first of these that holds
 abbrev pub content_of : Order → List ℕ → Content
 content_of order packet =
     if nat_lt (captured_of order packet) (original_of order packet) then
-    Cut (captured_of order packet) (original_of order packet)
+    (if is_route packet then CutMessages (captured_of order packet) (original_of order packet)
+    else Cut (captured_of order packet) (original_of order packet))
     else if nat_lt (captured_of order packet) 16 then Short (captured_of order packet)
     else if number_in Big 18 2 packet == 824 then
     (if number_in Big 30 2 packet == 0 then Messages else Family (number_in Big 30 2 packet))
@@ -57,17 +65,34 @@ content_text (Device n) =
     codes "the device type of a packet is " ++ (decimal n ++ codes " instead of 824 (NETLINK)")
 content_text other = []
 
--- the line of a packet that is no datagram of route netlink, at this offset of the input, by the size of
+-- the line of a packet that is no whole datagram of route netlink, at this offset of the input, by the size of
 -- its datagram
 abbrev pub content_lines : ℕ → ℕ → Content → Lines
 content_lines at size (Family n) =
     good (codes "netlink family " ++ (decimal n ++ (codes ", " ++ (decimal size ++ codes " bytes\n"))))
 content_lines at size other = bad at (content_text other)
 
--- the line of what ends a datagram before its end
-abbrev pub stop_lines : Option Stop → Lines
-stop_lines None = good []
-stop_lines (Some stop) = (stop_text stop ++ codes "\n", true)
+-- the bytes of a datagram, which starts at this offset of the input, from a stop on
+abbrev pub from_stop : ℕ → List ℕ → Stop → List ℕ
+from_stop at bytes stop = drop (stop.at - at) bytes
+
+abbrev pub are_zeros : List ℕ → Bool
+are_zeros bytes = list_all (λ b. b == 0) bytes
+
+-- the bytes are a part of a message: fewer than its header, or than its length field says
+abbrev pub is_partial : List ℕ → Bool
+is_partial bytes = nat_lt (length bytes) 16 || nat_lt (length bytes) (field 0 4 bytes)
+
+-- bytes that no message starts with have no line: zeros, which are padding, and a part of a message in a datagram
+-- that was cut
+abbrev pub is_silent : Bool → List ℕ → Bool
+is_silent cut bytes = are_zeros bytes || (cut && is_partial bytes)
+
+-- the line of what ends a datagram, which starts at this offset of the input, before its end
+abbrev pub stop_lines : Bool → ℕ → List ℕ → Option Stop → Lines
+stop_lines cut at bytes None = good []
+stop_lines cut at bytes (Some stop) =
+    if is_silent cut (from_stop at bytes stop) then good [] else (stop_text stop ++ codes "\n", true)
 
 -- ---- a packet after others
 
@@ -77,14 +102,26 @@ pub record Packet : Type 0 where
   pub seen : List Seen
   pub own : Lines
 
--- a datagram that ends at this offset of the input is shown so
-abbrev pub IsDatagram : ℕ → List ℕ → Packet → Type 0
-IsDatagram end bytes shown =
-    (stop : Option Stop) × ShowsMessages end bytes shown.seen stop × (shown.own ≡ stop_lines stop)
+-- a datagram that starts at this offset of the input, of which all bytes are there or which was cut, is shown so
+abbrev pub IsDatagram : Bool → ℕ → List ℕ → Packet → Type 0
+IsDatagram cut at bytes shown =
+    (stop : Option Stop) × ShowsMessages (at + length bytes) bytes shown.seen stop
+    × (shown.own ≡ stop_lines cut at bytes stop)
+
+-- what is shown so, and then a line
+abbrev pub with_line : Lines → Packet → Packet
+with_line line shown =
+    record { seen = shown.seen; own = (shown.own.0 ++ line.0, shown.own.1 || line.1) }
+
+-- a datagram that was cut is shown so, before the line about the cut
+abbrev pub IsCut : ℕ → List ℕ → Lines → Packet → Type 0
+IsCut at bytes line shown = (part : Packet) × IsDatagram true at bytes part × (shown ≡ with_line line part)
 
 -- a packet, whose header is at this offset of the input, is shown so, by what it is
 abbrev pub HasContent : ℕ → List ℕ → Content → Packet → Type 0
-HasContent at packet Messages shown = IsDatagram (at + length packet) (drop 32 packet) shown
+HasContent at packet Messages shown = IsDatagram false (at + 32) (drop 32 packet) shown
+HasContent at packet (CutMessages captured original) shown =
+    IsCut (at + 32) (drop 32 packet) (content_lines at (length packet - 32) (Cut captured original)) shown
 HasContent at packet other shown =
     (shown.seen ≡ []) × (shown.own ≡ content_lines at (length packet - 32) other)
 
@@ -106,8 +143,8 @@ TellsShown check Is memory lines after =
     × (after ≡ packet_leaves check memory shown)
 
 -- a datagram at this offset of the input
-abbrev pub TellsDatagram : Check → ℕ → List ℕ → Memory → Lines → Memory → Type 0
-TellsDatagram check at bytes = TellsShown check (IsDatagram (at + length bytes) bytes)
+abbrev pub TellsDatagram : Check → Bool → ℕ → List ℕ → Memory → Lines → Memory → Type 0
+TellsDatagram check cut at bytes = TellsShown check (IsDatagram cut at bytes)
 
 -- a packet, whose header is at this offset of the input
 abbrev pub TellsPacket : Check → Order → ℕ → List ℕ → Memory → Lines → Memory → Type 0
@@ -143,11 +180,41 @@ pub record IsPacketStop (order : Order) (end : ℕ) (bytes : List ℕ) (stop : S
   pub place : stop.at + length bytes ≡ end
   pub cause : IsPacketCause order bytes stop.cause
 
+-- ---- a packet that the end of the file cuts
+
+-- the bytes of a packet at whose header, at this offset of the input, the packets stop
+abbrev pub torn_of : PcapFault → List ℕ → List ℕ
+torn_of (PacketCut said size) bytes = bytes
+torn_of _ bytes = []
+
+abbrev pub torn_by : Cause → List ℕ → List ℕ
+torn_by (Pcap why) bytes = torn_of why bytes
+torn_by _ bytes = []
+
+-- the bytes of such a packet, whose header is at this offset of the input, are shown so: the run's error tells of
+-- the cut
+abbrev pub IsTornBy : Bool → ℕ → List ℕ → Packet → Type 0
+IsTornBy true at bytes shown = IsDatagram true (at + 32) (drop 32 bytes) shown
+IsTornBy false at bytes shown = shown ≡ record { seen = []; own = good [] }
+
+abbrev pub IsTorn : ℕ → List ℕ → Packet → Type 0
+IsTorn at bytes = IsTornBy (is_route bytes) at bytes
+
+abbrev pub TellsTorn : Check → ℕ → List ℕ → Memory → Lines → Memory → Type 0
+TellsTorn check at bytes = TellsShown check (IsTorn at bytes)
+
+-- what is shown of the bytes at a stop, by all bytes, which end at this offset of the input
+abbrev pub HasTorn : ℕ → List ℕ → Stop → List Packet → Type 0
+HasTorn end bytes stop last =
+    (shown : Packet) × (last ≡ shown ∷ [])
+    × IsTorn stop.at (torn_by stop.cause (from_stop (end - length bytes) bytes stop)) shown
+
 -- packets, by the errors of payloads
 abbrev pub packets_of : Check → Order → Format Packet
 packets_of check order = record {
   starts = StartsPacket order;
   stops = IsPacketStop order;
+  parts = HasTorn;
   holds = HoldsPacket order;
   lines = packet_lines check;
   leaves = packet_leaves check;

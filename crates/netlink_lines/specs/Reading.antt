@@ -3,7 +3,7 @@ use Rattle.std.specs.Prelude.{◌≡◌, ◌≢◌, ◌≤◌, ◌<◌, ◌+◌,
 use Rattle.std.specs.Io.KnownBytes.{Consumes, IsAtEnd}
 use Rattle.netlink_packet_core.specs.FrameWalk.{IsWholeFrame}
 use Rattle.netlink_packet_core.specs.Header.{HoldsFrame}
-use Rattle.netlink_lines.specs.Packet.{HoldsPacket, IsPacketFault, IsWholePacket, captured_of}
+use Rattle.netlink_lines.specs.Packet.{HoldsPacket, IsPacketFault, IsWholePacket, captured_of, torn_of}
 use Rattle.netlink_lines.specs.Pcap.{is_pcap}
 use Rattle.netlink_lines.specs.Stream.{IsCause, longest}
 use Rattle.netlink_lines.specs.declared.packet.NextPacket.{NextPacket}
@@ -58,6 +58,11 @@ GivesPacket order old new bytes packet.Packet =
 GivesPacket order old new bytes packet.End = IsAtEnd old
 GivesPacket order old new bytes (packet.Stop why) =
     IfSome old (λ rest. (rest ≢ []) × IsPacketFault order rest why)
+
+-- of a packet that the bytes of the reader end in, these are all
+abbrev pub KeepsTorn : Option (List ℕ) → List ℕ → NextPacket → Type 0
+KeepsTorn old bytes (packet.Stop why) = IfSome old (λ rest. torn_of why bytes ≡ torn_of why rest)
+KeepsTorn old bytes other = ⊤
 
 -- the reader gave bytes that hold no whole packet
 abbrev pub TriesPacket : Order → Option (List ℕ) → Option (List ℕ) → Type 0

@@ -1,23 +1,26 @@
 -- What a run did.
-use Rattle.std.specs.Prelude.{◌≡◌, ℕ, Bool, true, false, ⊤, ◌-◌, List, [], ◌++◌, drop, length, take, Option, None, Some, Result, Ok, Err, codes}
+use Rattle.std.specs.Prelude.{◌≡◌, ◌≤◌, ◌⊎◌, ℕ, Bool, true, false, ⊤, ◌-◌, List, [], ◌++◌, drop, length, take, Option, None, Some, Result, Ok, Err, codes}
 use Rattle.std.specs.Io.KnownBytes.{Appends}
 use Rattle.netlink_packet_core.specs.Walks.{Passed}
 use Rattle.netlink_program.specs.declared.reading.ReadFault.{ReadFault}
 use Rattle.netlink_program.specs.declared.reading.ReadFault.TheVariants as read
-use Rattle.netlink_lines.specs.Format.{Format, ShowsAll, told_from}
-use Rattle.netlink_lines.specs.Messages.{Check, Memory, no_memory}
-use Rattle.netlink_lines.specs.Packet.{packets_of}
+use Rattle.netlink_lines.specs.Format.{Format, ShowsAll, StopsAs, told_from}
+use Rattle.netlink_lines.specs.Messages.{Check, Lines, Memory, no_memory}
+use Rattle.netlink_lines.specs.Packet.{TellsTorn, packets_of}
 use Rattle.netlink_lines.specs.Pcap.{layout_of}
 use Rattle.netlink_lines.specs.Stream.{messages_of, stop_text}
 use Rattle.netlink_lines.specs.declared.pcap.Layout.{Layout}
 use Rattle.netlink_lines.specs.declared.pcap.Layout.TheVariants.{Messages, Packets, Unread}
 use Rattle.netlink_lines.specs.declared.runs.Fault.{Fault}
 use Rattle.netlink_lines.specs.declared.runs.Fault.TheVariants as fault
+use Rattle.netlink_lines.specs.declared.runs.Outcome.{Outcome}
 use Rattle.netlink_lines.specs.declared.stream.Stop.{Stop}
 
--- the bytes, which end at this offset of the input, start with these messages or packets
+-- the bytes, which end at this offset of the input, start with these messages or packets, or are these up to a
+-- stop
 abbrev pub ShowsFirst : {A : Type 0} → Format A → ℕ → List ℕ → List A → Type 0
-ShowsFirst f end bytes all = (rest : List ℕ) × Passed (f.starts end) bytes all rest
+ShowsFirst f end bytes all =
+    ((rest : List ℕ) × Passed (f.starts end) bytes all rest) ⊎ ((stop : Stop) × StopsAs f end bytes all stop)
 
 -- of what follows them, the reader did not give a whole one before it failed
 abbrev pub NoneLost : {A : Type 0} → Format A → ℕ → List ℕ → List A → Option (List ℕ) → Type 0
@@ -34,7 +37,7 @@ Reads f end bytes left all malformed (Ok done) =
     ShowsAll f end bytes all None × (malformed ≡ false)
 Reads f end bytes left all malformed (Err fault.Malformed) =
     ShowsAll f end bytes all None × (malformed ≡ true)
-Reads f end bytes left all malformed (Err (fault.Stopped stop)) = ShowsAll f end bytes all (Some stop)
+Reads f end bytes left all malformed (Err (fault.Stopped stop)) = StopsAs f end bytes all stop
 Reads f end bytes left all malformed (Err fault.Read) = NoneLost f end bytes all left
 Reads f end bytes left all malformed (Err other) = ShowsFirst f end bytes all
 
@@ -44,6 +47,18 @@ abbrev pub Writes : {R : Type 0} → Option (List ℕ) → Option (List ℕ) →
 Writes old new lines (Err fault.Write) =
     (part more : List ℕ) × (lines ≡ part ++ more) × Appends old new part
 Writes old new lines other = Appends old new lines
+
+-- the writer was given the lines of what was read of a packet, which leaves this memory, or a part of them if it
+-- failed
+abbrev pub WritesTorn : {R : Type 0} → Check → ℕ → List ℕ → Memory → Memory → Option (List ℕ)
+    → Option (List ℕ) → Result R Fault → Type 0
+WritesTorn check at bytes memory after old new (Ok done) =
+    (lines : Lines) × TellsTorn check at bytes memory lines after × Appends old new lines.0
+WritesTorn check at bytes memory after old new (Err fault.Write) =
+    (lines : Lines) × TellsTorn check at bytes memory lines after
+    × (n : ℕ) × (n ≤ length lines.0) × Appends old new (take n lines.0)
+WritesTorn check at bytes memory after old new (Err fault.OutOfMemory) = new ≡ old
+WritesTorn check at bytes memory after old new (Err other) = ⊥
 
 -- the memory that is left, unless an allocation failed
 abbrev pub Leaves : {R : Type 0} → Memory → Memory → Result R Fault → Type 0
@@ -57,6 +72,16 @@ RunsOver {A} f memory end bytes left old new after result =
     (all : List A) × Reads f end bytes left all (told_from f memory all).malformed result
     × Writes old new (told_from f memory all).text result
     × Leaves (told_from f memory all).memory after result
+
+-- the same, with how the messages or packets ended, unless the run failed before
+abbrev pub EndsOver : {A : Type 0} → Format A → Memory → ℕ → List ℕ → Option (List ℕ)
+    → Option (List ℕ) → Option (List ℕ) → Memory → Result Outcome Fault → Type 0
+EndsOver {A} f memory end bytes left old new after (Ok outcome) =
+    (all : List A) × ShowsAll f end bytes all outcome.stop
+    × ((told_from f memory all).malformed ≡ outcome.is_malformed)
+    × Appends old new (told_from f memory all).text × (after ≡ (told_from f memory all).memory)
+EndsOver f memory end bytes left old new after (Err why) =
+    RunsOver {R = ⊤} f memory end bytes left old new after (Err why)
 
 -- the same over a whole input, or all of it from some bytes on
 abbrev pub RunsAll : {A R : Type 0} → Format A → ℕ → List ℕ → Option (List ℕ) → Option (List ℕ)
@@ -89,6 +114,14 @@ RunsAs check input = RunsIn check (layout_of input) input
 abbrev pub end_of : Bool → Result ⊤ Fault
 end_of true = Err fault.Malformed
 end_of false = Ok tt
+
+-- how it ends, by where its messages stopped
+abbrev pub end_by : Bool → Option Stop → Result ⊤ Fault
+end_by malformed None = end_of malformed
+end_by malformed (Some stop) = Err (fault.Stopped stop)
+
+abbrev pub end_with : Outcome → Result ⊤ Fault
+end_with outcome = end_by outcome.is_malformed outcome.stop
 
 -- the fault of a run whose input could not be read
 abbrev pub read_fault : ReadFault → Fault

@@ -1,5 +1,5 @@
 -- The messages of an input, and how it ends.
-use Rattle.std.specs.Prelude.{◌≡◌, ◌<◌, ◌≤◌, ◌+◌, ◌-◌, ℕ, true, List, ◌++◌, length, Option, codes, decimal}
+use Rattle.std.specs.Prelude.{◌≡◌, ◌<◌, ◌≤◌, ◌+◌, ◌-◌, ℕ, true, List, [], ◌++◌, length, Option, codes, decimal}
 use Rattle.netlink_packet_core.specs.Causes.{cause_text}
 use Rattle.netlink_packet_core.specs.FrameWalk.{StartsFrame}
 use Rattle.netlink_packet_core.specs.Header.{HoldsFrame, field}
@@ -44,6 +44,7 @@ abbrev pub messages_of : Check → Format Seen
 messages_of check = record {
   starts = StartsSeen;
   stops = IsStop;
+  parts = λ end bytes stop last. last ≡ [];
   holds = HoldsFrame;
   lines = seen_lines check;
   leaves = memory_after check;

@@ -1,14 +1,14 @@
 //! A run over the packets of a pcap file.
 
-ghost use Rattle.std.specs.Prelude.{◌+◌, IfSome, length};
+ghost use Rattle.std.specs.Prelude.{◌+◌, ◌<◌, ◌^◌, IfSome, length};
 ghost use Rattle.netlink_family.specs.Errors.{family_error};
 ghost use Rattle.netlink_lines.specs.Messages.{memory_of};
-ghost use Rattle.netlink_lines.specs.Packet.{packets_of};
-ghost use Rattle.netlink_lines.specs.Run.{RunsOver};
+ghost use Rattle.netlink_lines.specs.Packet.{packets_of, torn_of};
+ghost use Rattle.netlink_lines.specs.Run.{RunsOver, WritesTorn};
 
 use crate::line::Line;
-use crate::packet::{NextPacket, packet_lines, read_packet};
-use crate::pcap::{FILE_HEADER_LEN, Order};
+use crate::packet::{NextPacket, packet_lines, read_packet, torn_lines, torn_of};
+use crate::pcap::{FILE_HEADER_LEN, Order, PcapFault};
 use crate::runs::{Fault, end_of};
 use crate::state::State;
 use crate::stream::{Cause, Stop};
@@ -23,7 +23,8 @@ const LAST: u64 = 0xffff_ffff_ffe0_0000;
 /// Reads one packet after another of a pcap file, whose header was read, and writes the lines of each,
 /// and flushes the writer, before it reads another byte. Keeps one packet and its lines in memory.
 ///
-/// Ends as `run` does, at the end of the file or at a packet that cannot be read.
+/// Ends as `run` does, at the end of the file or at a packet that cannot be read. Of a packet that the
+/// end of the file cuts, the lines of the whole messages are written.
 pub(crate) fn packets<F: Line, R: Read, W: Write>(
     alloc: Global,
     state: &mut State,
@@ -48,6 +49,7 @@ pub(crate) fn packets<F: Line, R: Read, W: Write>(
             NextPacket::Packet => {}
             NextPacket::End => return end_of(is_malformed),
             NextPacket::Stop(why) => {
+                write_stopped::<F, W>(alloc, state, at, &why, &packet, writer)?;
                 let cause = Cause::Pcap(why);
                 return Err(Fault::Stopped(Stop { at, cause }));
             }
@@ -58,4 +60,24 @@ pub(crate) fn packets<F: Line, R: Read, W: Write>(
         at += packet.len() as u64;
     }
     Err(Fault::Read)
+}
+
+/// Writes the lines of what was read of a packet at this offset of the input, at which the packets stop
+/// for this cause. Returns `Write` if the writer fails, and `OutOfMemory` if an allocation does.
+fn write_stopped<F: Line, W: Write>(
+    alloc: Global,
+    state: &mut State,
+    at: u64,
+    why: &PcapFault,
+    packet: &[u8],
+    writer: &mut W,
+) -> Result<(), Fault>
+    requires room { at + 32 < 2 ^ 64 }
+    ensures writes { WritesTorn (family_error F.types F.short F.header_len F.rows) at (torn_of why.now packet.now)
+        (memory_of state.old) (memory_of state.new) (W.contents writer.old) (W.contents writer.new) result }
+{
+    let mut lines = Vec::new(alloc);
+    torn_lines::<F>(alloc, state, at, torn_of(why, packet), &mut lines)?;
+    write_through(writer, &lines)?;
+    Ok(())
 }

@@ -8,11 +8,13 @@ ghost use Rattle.netlink_packet_core.specs.Header.{header_of, payload_of};
 ghost use Rattle.netlink_replies.specs.Meaning.{shown_item};
 ghost use Rattle.netlink_lines.specs.Ack.{marked_if};
 ghost use Rattle.netlink_lines.specs.Lines.{known_by, route_line};
-ghost use Rattle.netlink_lines.specs.Messages.{HasLines, Lines, Tells, bad, error_lines, family_lines, good, is_named, item_lines, known_after, line_or_type, memory_of, own_lines, timed, type_line, wrong_time};
+ghost use Rattle.netlink_lines.specs.Messages.{HasLines, Lines, Tells, bad, error_lines, family_lines, good, is_named, item_lines, known_after, line_or_type, memory_of, own_lines, rejected_lines, timed, type_line, wrong_time};
 
 use crate::ack::{is_interrupted, kernel_text, meaning_of};
+use crate::families::is_foreign;
 use crate::line::{Line, done_line, error_line};
 use crate::name_table::{NameTable, Names};
+use crate::requests::{asked_line, is_dump, is_request};
 use crate::state::State;
 use crate::time::{NLMSG_TSTAMP, Time, time_in, time_text};
 use netlink_family::{FamilyError, MessageView};
@@ -80,42 +82,44 @@ fn family_shown<F: Line>(
     requires whole { IsWholeFrame frame.now }
     ensures names { OnOk result (known.new ≡ known_after (family_error F.types F.short F.header_len F.rows)
         frame.now known.old) }
-    ensures lines { IfOk result (λ s. (string_bytes s.text, s.is_malformed)
-        ≡ family_lines known.new at (header_of frame.now).message_type (length frame.now) (payload_of frame.now)
+    ensures lines { IfOk result (λ s. (string_bytes s.text, s.is_malformed) ≡ family_lines known.new at frame.now
         (family_error F.types F.short F.header_len F.rows (header_of frame.now).message_type (payload_of frame.now))) }
 {
     let view = NetlinkBuffer::new(frame);
+    let flags = view.flags();
     let message_type = view.message_type();
     match MessageView::<F>::new(message_type, view.payload()) {
         Ok(message) => {
-            learn::<F>(alloc, known, &message)?;
-            message_shown::<F>(alloc, &known.names(), frame.len(), &message)
+            learn::<F>(alloc, known, flags, &message)?;
+            message_shown::<F>(alloc, &known.names(), flags, frame.len(), &message)
         }
-        Err(error) => rejected(alloc, at, message_type, frame.len(), &error),
+        Err(error) => rejected(alloc, at, frame, &error),
     }
 }
 
-/// Updates the names of links by a message.
+/// Updates the names of links by a message with these flags. A request changes none.
 fn learn<F: Line>(
     alloc: Global,
     known: &mut NameTable,
+    flags: u16,
     message: &MessageView<'_, F>,
 ) -> Result<(), AllocError>
     ensures { OnOk result (known.new
-        ≡ (if is_named message.now.message_type
+        ≡ (if is_named flags message.now.message_type
         then known_by (message.now.message_type, message.now.payload.now) known.old else known.old)) }
 {
-    if !is_named(message.message_type) {
+    if !is_named(flags, message.message_type) {
         return Ok(());
     }
     F::learn_by(alloc, known, message)
 }
 
-/// Returns whether messages of this type have the names of links.
-fn is_named(message_type: u16) -> bool
-    ensures { result ≡ is_named message_type }
+/// Returns whether messages with these flags and of this type tell the names of links.
+fn is_named(flags: u16, message_type: u16) -> bool
+    ensures { result ≡ is_named flags message_type }
 {
-    (message_type == RTM_NEWLINK) | (message_type == RTM_DELLINK)
+    let is_of_link = (message_type == RTM_NEWLINK) | (message_type == RTM_DELLINK);
+    is_of_link & !is_request(flags, message_type)
 }
 
 /// Returns lines with a time before them, if there is one. Inline, since most lines have none.
@@ -220,31 +224,49 @@ fn own_shown<F: Line>(
         return wrong_time(alloc, at, view.payload());
     }
     match MessageView::<F>::new(message_type, view.payload()) {
-        Ok(message) => message_shown::<F>(alloc, known, frame.len(), &message),
-        Err(error) => rejected(alloc, at, message_type, frame.len(), &error),
+        Ok(message) => message_shown::<F>(alloc, known, view.flags(), frame.len(), &message),
+        Err(error) => rejected(alloc, at, frame, &error),
     }
 }
 
-/// Returns the line of a message without errors, whose frame has this size.
+/// Returns the line of a message without errors, whose frame has these flags and this size.
 fn message_shown<F: Line>(
     alloc: Global,
     known: &Names<'_>,
+    flags: u16,
     size: usize,
     message: &MessageView<'_, F>,
 ) -> Result<Shown, AllocError>
     ensures { IfOk result (λ s. (string_bytes s.text, s.is_malformed)
-        ≡ good (line_or_type message.now.message_type size
+        ≡ good (line_or_type flags message.now.message_type size
         (route_line known.now (message.now.message_type, message.now.payload.now)))) }
 {
     match F::line_by(alloc, known, message)? {
-        Some(line) => Ok(well_formed(line)),
+        Some(line) => Ok(well_formed(asked_line(alloc, flags, message.message_type, line)?)),
         None => Ok(well_formed(type_line(alloc, message.message_type, size)?)),
     }
 }
 
+/// Returns the line of a message whose family rejects its payload with this error: the error, or the
+/// line of its type if it asks for a dump, of which the kernel reads the family alone, or if no table
+/// describes its address family. Requires that the bytes are one frame.
+fn rejected(alloc: Global, at: u64, frame: &[u8], error: &FamilyError) -> Result<Shown, AllocError>
+    requires whole { IsWholeFrame frame.now }
+    ensures { IfOk result (λ s. (string_bytes s.text, s.is_malformed)
+        ≡ rejected_lines at frame.now error.now) }
+{
+    let view = NetlinkBuffer::new(frame);
+    let message_type = view.message_type();
+    let is_asked = is_dump(view.flags(), message_type);
+    if is_asked | is_foreign(message_type, view.payload()) {
+        return Ok(well_formed(type_line(alloc, message_type, frame.len())?));
+    }
+    error_shown(alloc, at, message_type, frame.len(), error)
+}
+
 /// Returns the line of a message whose payload has this error: the error, or the line of its type if
 /// no table has it.
-fn rejected(
+fn error_shown(
     alloc: Global,
     at: u64,
     message_type: u16,

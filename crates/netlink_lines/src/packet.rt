@@ -1,17 +1,18 @@
 //! The packets of a pcap file, and what each is shown as.
 
-ghost use Rattle.std.specs.Prelude.{◌≡◌, ◌<◌, ◌+◌, ◌-◌, ◌^◌, ◌⊎◌, [], IfErr, IfOk, string_bytes};
+ghost use Rattle.std.specs.Prelude.{◌≡◌, ◌<◌, ◌+◌, ◌-◌, ◌++◌, ◌^◌, ◌⊎◌, [], IfErr, IfOk, string_bytes};
 ghost use Rattle.netlink_family.specs.Errors.{family_error};
 ghost use Rattle.netlink_lines.specs.Messages.{memory_of};
-ghost use Rattle.netlink_lines.specs.Packet.{IsWholePacket, TellsDatagram, TellsPacket, content_lines, content_of, content_text};
-ghost use Rattle.netlink_lines.specs.Reading.{GivesPacket, TriesPacket};
+ghost use Rattle.netlink_lines.specs.Packet.{IsWholePacket, TellsDatagram, TellsPacket, TellsTorn, are_zeros, content_lines, content_of, content_text, from_stop, is_partial, is_route, is_silent, stop_lines, torn_of};
+ghost use Rattle.netlink_lines.specs.Reading.{GivesPacket, KeepsTorn, TriesPacket};
 
 use crate::line::Line;
 use crate::messages::{Shown, malformed, well_formed};
 use crate::pcap::{Order, PcapFault, u16_in, u32_in};
-use crate::runs::{Fault, messages};
+use crate::runs::{Fault, all_messages};
 use crate::state::State;
-use crate::stream::{LONGEST, read_up_to};
+use crate::stream::{LONGEST, Stop, read_up_to};
+use netlink_packet_core::{NETLINK_HEADER_LEN, u32_at};
 use std::alloc::{AllocError, Global};
 use std::io::Read;
 
@@ -40,9 +41,11 @@ pub(crate) enum NextPacket {
 pub(crate) enum Content {
     /// A datagram of route netlink.
     Messages,
+    /// The start of one, of which fewer bytes were captured, which is the first number, than it had.
+    CutMessages(u32, u32),
     /// One of this other netlink family.
     Family(u16),
-    /// One of which fewer bytes were captured, which is the first number, than it had.
+    /// Any other of which fewer bytes were captured, which is the first number, than it had.
     Cut(u32, u32),
     /// One of this number of bytes, fewer than its header.
     Short(u32),
@@ -53,7 +56,8 @@ pub(crate) enum Content {
 /// Reads the next packet of a pcap file with its header into a vector, whose old contents it drops,
 /// and no byte after it.
 ///
-/// Returns `Stop` if the file ends within the packet, or if its captured length is above 1048576.
+/// Returns `Stop` if the file ends within the packet, whose bytes the vector has then, or if its
+/// captured length is above 1048576.
 /// Returns `Read` if the reader fails; it has then not given a whole packet. Returns `OutOfMemory` if
 /// an allocation for the packet fails.
 pub(crate) fn read_packet<R: Read>(
@@ -62,6 +66,7 @@ pub(crate) fn read_packet<R: Read>(
     packet: &mut Vec<u8>,
 ) -> Result<NextPacket, Fault>
     ensures next { IfOk result (GivesPacket order (R.remaining reader.old) (R.remaining reader.new) packet.new.items) }
+    ensures torn { IfOk result (KeepsTorn (R.remaining reader.old) packet.new.items) }
     ensures fault { IfErr result (λ fault. (fault ≡ Fault.OutOfMemory) ⊎ ((fault ≡ Fault.Read)
         × TriesPacket order (R.remaining reader.old) (R.remaining reader.new))) }
 {
@@ -94,6 +99,9 @@ fn content_of(order: Order, packet: &[u8]) -> Content
     let captured = u32_in(order, packet, 8);
     let original = u32_in(order, packet, 12);
     if captured < original {
+        if is_route(packet) {
+            return Content::CutMessages(captured, original);
+        }
         return Content::Cut(captured, original);
     }
     if (captured as usize) < HEADER_LEN {
@@ -109,13 +117,25 @@ fn content_of(order: Order, packet: &[u8]) -> Content
     }
 }
 
+/// Returns whether a packet, or what there is of it, has the header of a datagram of route netlink.
+fn is_route(packet: &[u8]) -> bool
+    ensures { result ≡ is_route packet.now }
+{
+    if packet.len() < DATAGRAM {
+        return false;
+    }
+    let is_netlink = u16_in(Order::Big, packet, 18) == NETLINK_DEVICE;
+    is_netlink & (u16_in(Order::Big, packet, 30) == 0)
+}
+
 /// Writes the lines of a packet, whose header is at this offset of the input, into a vector, whose
 /// old contents it drops, and returns whether something in the packet is malformed. The messages
 /// before left this state, and it is updated.
 ///
 /// The lines of a datagram of route netlink are those of its messages; what ends it before its end is
-/// one more. The line of a datagram of another family is its family and size, and that of any other
-/// packet is its error. Returns `OutOfMemory` if an allocation fails.
+/// one more, unless it is zeros, which are padding. If it was cut, the line about that follows. The
+/// line of a datagram of another family is its family and size, and that of any other packet is its
+/// error. Returns `OutOfMemory` if an allocation fails.
 pub(crate) fn packet_lines<F: Line>(
     alloc: Global,
     state: &mut State,
@@ -134,7 +154,15 @@ pub(crate) fn packet_lines<F: Line>(
     match content_of(order, packet) {
         Content::Messages => {
             let at = at + DATAGRAM as u64;
-            datagram_lines::<F>(alloc, state, at, &packet[DATAGRAM..], lines)
+            datagram_lines::<F>(alloc, state, false, at, &packet[DATAGRAM..], lines)
+        }
+        Content::CutMessages(captured, original) => {
+            let start = at + DATAGRAM as u64;
+            datagram_lines::<F>(alloc, state, true, start, &packet[DATAGRAM..], lines)?;
+            let cut = Content::Cut(captured, original);
+            let shown = content_lines(alloc, at, packet.len(), cut)?;
+            lines.extend_from_slice(shown.text.as_bytes())?;
+            Ok(true)
         }
         other => {
             let shown = content_lines(alloc, at, packet.len(), other)?;
@@ -144,33 +172,130 @@ pub(crate) fn packet_lines<F: Line>(
     }
 }
 
-/// Writes the lines of a datagram at this offset of the input into an empty vector, and returns
-/// whether a message is malformed or the datagram ends early. Returns `OutOfMemory` if an allocation
-/// fails.
+/// Writes the lines of the messages in a packet that the end of the file cuts, whose header is at this
+/// offset of the input, into an empty vector. There are none if the packet is not one of route netlink
+/// whose datagram has started. Returns `OutOfMemory` if an allocation fails.
+pub(crate) fn torn_lines<F: Line>(
+    alloc: Global,
+    state: &mut State,
+    at: u64,
+    packet: &[u8],
+    lines: &mut Vec<u8>,
+) -> Result<bool, Fault>
+    requires empty { lines.old.items ≡ [] }
+    requires room { at + 32 < 2 ^ 64 }
+    ensures tells { IfOk result (λ malformed. TellsTorn (family_error F.types F.short F.header_len F.rows) at
+        packet.now (memory_of state.old) (lines.new.items, malformed) (memory_of state.new)) }
+    ensures fault { IfErr result (λ fault. fault ≡ Fault.OutOfMemory) }
+{
+    if !is_route(packet) {
+        return Ok(false);
+    }
+    let at = at + DATAGRAM as u64;
+    datagram_lines::<F>(alloc, state, true, at, &packet[DATAGRAM..], lines)
+}
+
+/// Returns the bytes of a packet at which the packets stop for this cause: all that were read, if the
+/// file ends in them, else none.
+pub(crate) fn torn_of<'a>(why: &PcapFault, packet: &'a [u8]) -> &'a [u8]
+    ensures { result.now ≡ torn_of why.now packet.now }
+{
+    match why {
+        PcapFault::PacketCut(_, _) => packet,
+        _ => &[],
+    }
+}
+
+/// Writes the lines of a datagram at this offset of the input, which may have been cut, into an empty
+/// vector, and returns whether a message is malformed or the datagram ends early. Returns `OutOfMemory`
+/// if an allocation fails.
 fn datagram_lines<F: Line>(
     alloc: Global,
     state: &mut State,
+    is_cut: bool,
     at: u64,
     datagram: &[u8],
     lines: &mut Vec<u8>,
 ) -> Result<bool, Fault>
     requires empty { lines.old.items ≡ [] }
-    ensures tells { IfOk result (λ malformed. TellsDatagram (family_error F.types F.short F.header_len F.rows) at
+    ensures tells { IfOk result (λ malformed. TellsDatagram (family_error F.types F.short F.header_len F.rows) is_cut at
         datagram.now (memory_of state.old) (lines.new.items, malformed) (memory_of state.new)) }
     ensures fault { IfErr result (λ fault. fault ≡ Fault.OutOfMemory) }
 {
     let mut reader = datagram;
-    match messages::<F, &[u8], Vec<u8>>(alloc, state, at, Vec::new(alloc), &mut reader, lines) {
-        Ok(()) => Ok(false),
-        Err(Fault::Malformed) => Ok(true),
-        Err(Fault::Stopped(stop)) => {
-            let line = format!(in alloc; "{stop}\n")?;
-            lines.extend_from_slice(line.as_bytes())?;
-            Ok(true)
+    match all_messages::<F, &[u8], Vec<u8>>(alloc, state, at, Vec::new(alloc), &mut reader, lines) {
+        Ok(outcome) => {
+            let is_stopped = push_stop(alloc, is_cut, at, datagram, &outcome.stop, lines)?;
+            Ok(outcome.is_malformed | is_stopped)
         }
         // A slice does not fail, and a vector fails only if an allocation does.
         Err(_) => Err(Fault::OutOfMemory),
     }
+}
+
+/// Appends the line of what ends a datagram at this offset of the input before its end, unless that is
+/// padding or a part of a message that was cut, and returns whether there is one. Returns `OutOfMemory`
+/// if an allocation fails.
+fn push_stop(
+    alloc: Global,
+    is_cut: bool,
+    at: u64,
+    datagram: &[u8],
+    stop: &Option<Stop>,
+    lines: &mut Vec<u8>,
+) -> Result<bool, Fault>
+    ensures line { IfOk result (λ _. lines.new.items ≡ lines.old.items ++ (stop_lines is_cut at datagram.now stop.now).0) }
+    ensures malformed { IfOk result (λ is_line. is_line ≡ (stop_lines is_cut at datagram.now stop.now).1) }
+    ensures fault { IfErr result (λ fault. fault ≡ Fault.OutOfMemory) }
+{
+    match stop {
+        None => Ok(false),
+        Some(stop) => {
+            if is_silent(is_cut, rest_from(at, datagram, stop)) {
+                return Ok(false);
+            }
+            let line = format!(in alloc; "{stop}\n")?;
+            lines.extend_from_slice(line.as_bytes())?;
+            Ok(true)
+        }
+    }
+}
+
+/// Returns the bytes of a datagram at this offset of the input from a stop on.
+#[tactic(auto, using(std::proofs::lemmas::List::drop_all))]
+fn rest_from<'a>(at: u64, datagram: &'a [u8], stop: &Stop) -> &'a [u8]
+    ensures { result.now ≡ from_stop at datagram.now stop.now }
+{
+    let passed = stop.at.saturating_sub(at);
+    match datagram.split_at_checked(passed as usize) {
+        Some((_, rest)) => rest,
+        None => &[],
+    }
+}
+
+/// Returns whether bytes that no message starts with have no line: zeros, which are padding, and a part
+/// of a message in a datagram that was cut.
+fn is_silent(is_cut: bool, bytes: &[u8]) -> bool
+    ensures { result ≡ is_silent is_cut bytes.now }
+{
+    are_zeros(bytes) | (is_cut & is_partial(bytes))
+}
+
+/// Returns whether bytes are fewer than the header of a message, or than its length field says.
+fn is_partial(bytes: &[u8]) -> bool
+    ensures { result ≡ is_partial bytes.now }
+{
+    if bytes.len() < NETLINK_HEADER_LEN {
+        return true;
+    }
+    bytes.len() < u32_at(bytes, 0) as usize
+}
+
+/// Returns whether each byte is 0.
+fn are_zeros(bytes: &[u8]) -> bool
+    ensures { result ≡ are_zeros bytes.now }
+{
+    bytes.iter().all(|byte| *byte == 0)
 }
 
 /// Returns the line of a packet that is no datagram of route netlink, by the packet's size with its

@@ -4,7 +4,7 @@ ghost use Rattle.std.specs.Prelude.{◌≡◌, ◌<◌, ◌+◌, Some, IfSome, l
 ghost use Rattle.std.specs.Io.KnownBytes.{prepend_known};
 ghost use Rattle.netlink_family.specs.Errors.{family_error};
 ghost use Rattle.netlink_lines.specs.Messages.{memory_of};
-ghost use Rattle.netlink_lines.specs.Run.{RunsAs, RunsOver, end_of, fault_text, read_fault};
+ghost use Rattle.netlink_lines.specs.Run.{EndsOver, RunsAs, RunsOver, end_of, end_with, fault_text, read_fault};
 ghost use Rattle.netlink_lines.specs.Stream.{messages_of};
 
 use crate::capture::packets;
@@ -79,12 +79,22 @@ impl From<AllocError> for Fault {
     }
 }
 
+/// How messages ended, unless the reader, the writer or an allocation failed.
+#[derive(Debug, Drop)]
+pub(crate) struct Outcome {
+    /// Whether a message was malformed.
+    pub(crate) is_malformed: bool,
+    /// Where the messages end before the end of the reader.
+    pub(crate) stop: Option<Stop>,
+}
+
 /// Reads one message after another, or one packet after another if the input starts as a pcap file,
 /// and writes the lines of each, and flushes the writer, before it reads another byte. Keeps one frame
 /// in memory, or one packet with its lines, and the names of at most 65,536 links.
 ///
 /// Reads to the end of the input, or up to a message or packet that cannot be read, and then returns
-/// `Stopped`; so it does at the start if the input is a pcap file that is not read. Returns
+/// `Stopped`, after it has written the lines of the whole messages in a packet that the end of the
+/// input cuts; so it does at the start if the input is a pcap file that is not read. Returns
 /// `Malformed` at the end if a message or packet was malformed. Returns `Read` if the reader fails, or
 /// does not reach its end within 2^64 - 1 messages or packets, calls for one of them, or bytes (in a
 /// pcap file, within 2^64 - 2^21 bytes and one packet); `Write` if the writer or its flush fails; and
@@ -109,12 +119,8 @@ pub fn run<F: Line, R: Read, W: Write>(
     }
 }
 
-/// Writes the lines of messages, of which the first is at offset `base` of the input, after the
-/// messages that left this state, and updates the state. The vector has the bytes of the first message
-/// that were read before, fewer than 16.
-///
-/// Ends as `run` does, at the end of the reader.
-pub(crate) fn messages<F: Line, R: Read, W: Write>(
+/// Writes the lines of messages as `all_messages` does, and ends as `run` does.
+fn messages<F: Line, R: Read, W: Write>(
     alloc: Global,
     state: &mut State,
     base: u64,
@@ -128,14 +134,43 @@ pub(crate) fn messages<F: Line, R: Read, W: Write>(
         (base + length bytes) bytes (R.remaining reader.new) (W.contents writer.old) (W.contents writer.new)
         (memory_of state.new) result) }
 {
+    let outcome = all_messages::<F, R, W>(alloc, state, base, first, reader, writer)?;
+    end_with(outcome)
+}
+
+/// Writes the lines of messages, of which the first is at offset `base` of the input, after the
+/// messages that left this state, and updates the state. The vector has the bytes of the first message
+/// that were read before, fewer than 16.
+///
+/// Reads to the end of the reader, or up to a message that cannot be read. Fails as `run` does.
+pub(crate) fn all_messages<F: Line, R: Read, W: Write>(
+    alloc: Global,
+    state: &mut State,
+    base: u64,
+    first: Vec<u8>,
+    reader: &mut R,
+    writer: &mut W,
+) -> Result<Outcome, Fault>
+    requires few { length first.items < 16 }
+    ensures runs { IfSome (prepend_known first.items (R.remaining reader.old)) (λ bytes.
+        EndsOver (messages_of (family_error F.types F.short F.header_len F.rows)) (memory_of state.old)
+        (base + length bytes) bytes (R.remaining reader.new) (W.contents writer.old) (W.contents writer.new)
+        (memory_of state.new) result) }
+{
     let mut frame = first;
     let mut at = base;
     let mut is_malformed = false;
     for _ in 0..u64::MAX {
         match read_frame(reader, &mut frame)? {
             Next::Frame => {}
-            Next::End => return end_of(is_malformed),
-            Next::Stop(cause) => return Err(Fault::Stopped(Stop { at, cause })),
+            Next::End => {
+                let stop = None;
+                return Ok(Outcome { is_malformed, stop });
+            }
+            Next::Stop(cause) => {
+                let stop = Some(Stop { at, cause });
+                return Ok(Outcome { is_malformed, stop });
+            }
         }
         let message = next_lines::<F>(alloc, state, at, &frame)?;
         write_through(writer, message.text.as_bytes())?;
@@ -148,6 +183,16 @@ pub(crate) fn messages<F: Line, R: Read, W: Write>(
         frame.clear();
     }
     Err(Fault::Read)
+}
+
+/// Returns how a run ends whose messages ended so.
+fn end_with(outcome: Outcome) -> Result<(), Fault>
+    ensures is { result ≡ end_with outcome }
+{
+    match outcome.stop {
+        None => end_of(outcome.is_malformed),
+        Some(stop) => Err(Fault::Stopped(stop)),
+    }
 }
 
 /// Returns how a run ends at the end of its input.

@@ -6,6 +6,8 @@ mod names;
 mod neighbour_lines;
 mod other_lines;
 mod pcap_files;
+mod rejected;
+mod requests;
 mod route_lines;
 mod rule_lines;
 mod runs;

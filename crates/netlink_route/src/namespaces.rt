@@ -1,8 +1,8 @@
 //! Ids of network namespaces (linux/rtnetlink.h, linux/net_namespace.h).
 
-ghost use Rattle.std.specs.Prelude.{false, refl};
+ghost use Rattle.std.specs.Prelude.{◌==◌, refl};
 ghost use Rattle.netlink_family.specs.Shapes.{named, named_fields};
-ghost use Rattle.netlink_route.specs.declared.namespaces.TheConstants.{FIELDS, ROWS, TYPES};
+ghost use Rattle.netlink_route.specs.declared.namespaces.TheConstants.{FIELDS, ROWS, RTM_GETNSID, TYPES};
 
 use netlink_family::{Family, Field, OwnedMessage, Row, Shape, TOP, Table, is_among};
 
@@ -47,7 +47,7 @@ impl Table for Namespaces {
 
     ghost header_len = { λ _. 4 };
 
-    ghost short = { λ _. false };
+    ghost short = { λ t. t == RTM_GETNSID };
 
     ghost rows = { λ _. named ROWS.now (λ name. name.now) };
 
@@ -61,8 +61,8 @@ impl Table for Namespaces {
         4
     }
 
-    fn allows_short(_message_type: u16) -> bool {
-        false
+    fn allows_short(message_type: u16) -> bool {
+        message_type == RTM_GETNSID
     }
 
     fn rows(_message_type: u16) -> &'static [Row] {

@@ -65,6 +65,100 @@ fn packets_have_lines(rt: HostRuntime) -> Result<(), Fail> {
     Ok(())
 }
 
+/// The request of `ip addr show` without the zeros after it, and its line.
+const REQUEST: [u8; 24] = [
+    24, 0, 0, 0, 22, 0, 1, 3, 1, 0, 0, 0, 0, 0, 0, 0, // length 24, RTM_GETADDR
+    0, 0, 0, 0, 0, 0, 0, 0, //
+];
+
+const REQUEST_LINE: &str = "Get 0: * family 0 scope global dynamic\n";
+
+/// An address whose payload is one byte short, and the byte of padding after it.
+const SHORT: [u8; 24] = [
+    23, 0, 0, 0, 20, 0, 0, 0, 0, 0, 0, 0, 0, 0, 0, 0, // length 23, RTM_NEWADDR
+    0, 0, 0, 0, 0, 0, 0, 0, //
+];
+
+const SHORT_LINE: &str =
+    "byte 56: Failed to parse message with type 20: the payload has 7 bytes, fewer than its header of 8\n";
+
+const NO_LENGTH: &str =
+    "byte 80: failed deserializing NetlinkMessage caused by invalid netlink buffer length caused by invalid netlink buffer: length field says 0 but netlink packets are at least 16 bytes\n";
+
+/// Sixteen bytes that are no padding.
+const ONE: [u8; 16] = [0, 0, 0, 0, 0, 0, 0, 0, 0, 0, 0, 0, 0, 0, 0, 1];
+
+/// Datagrams in two parts, the lines of each, and whether one is an error.
+const PADDED: [(&[u8], &[u8], &[&str], bool); 7] = [
+    (&REQUEST, &[0; 128], &[REQUEST_LINE], false),
+    (&REQUEST, &[0; 3], &[REQUEST_LINE], false),
+    (&[], &[0; 1], &[], false),
+    (&[], &[0; 16], &[], false),
+    (&[], &[0; 37], &[], false),
+    (&SHORT, &[0; 20], &[SHORT_LINE], true),
+    (&REQUEST, &ONE, &[REQUEST_LINE, NO_LENGTH], true),
+];
+
+/// Zeros after the last message of a packet, or alone, are padding. Other bytes are not.
+#[test]
+fn zeros_in_packets_are_padding(rt: HostRuntime) -> Result<(), Fail> {
+    let alloc = rt.alloc();
+    for (message, rest, lines, is_malformed) in PADDED {
+        let size = u8::try_from(message.len() + rest.len()).unwrap_or(0);
+        let header = packet_header(size.wrapping_add(16), size.wrapping_add(16), false);
+        let of_route = datagram_header(56, 0);
+        let input = joined(alloc, &[&LITTLE, &header, &of_route, message, rest])?;
+        let wanted = joined_text(alloc, lines)?;
+        assert!(rt;
+            has_line(alloc, &input, wanted.as_str(), is_malformed),
+            "{wanted}"
+        );
+    }
+    Ok(())
+}
+
+/// Captured parts of datagrams, and the lines of each: those of the whole messages alone.
+const CAPTURED: [(&[u8], &[&str]); 7] = [
+    (&ADDRESS, &[LINE]),
+    (&REQUEST, &[REQUEST_LINE]),
+    (&[], &[]),
+    (&[0; 20], &[]),
+    (&[60, 0], &[]),
+    (&[60, 0, 0, 0, 20, 0, 0, 0, 0, 0, 0, 0, 0, 0, 0, 0, 2], &[]),
+    (&ONE, &[ZERO_LENGTH]),
+];
+
+const ZERO_LENGTH: &str =
+    "byte 116: failed deserializing NetlinkMessage caused by invalid netlink buffer length caused by invalid netlink buffer: length field says 0 but netlink packets are at least 16 bytes\n";
+
+const CUT_LINE: &str = "byte 24: of a packet of 250 bytes, ";
+
+/// A packet that the capture cut has the lines of its whole messages, and then that of the cut. If the
+/// end of the file cuts it, the cut is the error of the run. A name of a link in it is known later.
+#[test]
+fn cut_packets_have_their_whole_messages(rt: HostRuntime) -> Result<(), Fail> {
+    let alloc = rt.alloc();
+    for (rest, lines) in CAPTURED {
+        let captured = u8::try_from(ADDRESS.len() + rest.len())
+            .unwrap_or(0)
+            .wrapping_add(16);
+        let of_route = datagram_header(56, 0);
+        let header = packet_header(captured, 250, false);
+        let input = joined(alloc, &[&LITTLE, &header, &of_route, &ADDRESS, rest])?;
+        let parts = joined_text(alloc, lines)?;
+        let cut = format!(in alloc; "{LINE}{parts}{CUT_LINE}{captured} were captured\n")?;
+        assert!(rt; has_line(alloc, &input, cut.as_str(), true), "{cut}");
+        let header = packet_header(250, 250, false);
+        let input = joined(alloc, &[&LITTLE, &header, &of_route, &ADDRESS, rest])?;
+        let (output, ended) = shown(alloc, &input);
+        let wanted = format!(in alloc; "{LINE}{parts}")?;
+        assert_eq!(rt; output.as_slice(), wanted.as_bytes());
+        let error = format!(in alloc; "byte 24: a packet is cut to {captured} of 250 bytes")?;
+        assert!(rt; ends_with(alloc, ended, error.as_str())?);
+    }
+    Ok(())
+}
+
 /// Packets that are no datagrams of route netlink: the size of each, the end of its device type, its
 /// family, its line, and whether that is an error.
 const OTHERS: [(u8, u8, u8, &str, bool); 3] = [
@@ -79,7 +173,7 @@ const OTHERS: [(u8, u8, u8, &str, bool); 3] = [
     (
         77,
         56,
-        0,
+        16,
         "byte 24: of a packet of 77 bytes, 76 were captured\n",
         true,
     ),

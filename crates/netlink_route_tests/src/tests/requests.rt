@@ -7,7 +7,7 @@ use std::alloc::Global;
 use std::test::Fail;
 
 // A message type, a payload, and the size of the header if the payload is rejected, else 0.
-const PAYLOADS: [(u16, &[u8], usize); 20] = [
+const PAYLOADS: [(u16, &[u8], usize); 23] = [
     (18, &[17, 0, 0, 0], 0),
     (22, &[0, 7, 8, 9], 0),
     (26, &[10], 0),
@@ -27,7 +27,10 @@ const PAYLOADS: [(u16, &[u8], usize); 20] = [
     (32, &[0; 4], 12),
     (64, &[0; 3], 4),
     (67, &[0; 3], 4),
-    (90, &[0; 3], 4),
+    (90, &[2], 0),
+    (90, &[0; 3], 0),
+    (90, &[], 4),
+    (88, &[0; 3], 4),
 ];
 
 #[test]

@@ -6,8 +6,7 @@ use Rattle.std.specs.Prelude.{◌||◌}
 use Rattle.netlink_family.specs.Errors.{family_error}
 use Rattle.netlink_lines.specs.Messages.{Check, memory_of}
 use Rattle.netlink_lines.specs.Packet.{packets_of}
-use Rattle.netlink_lines.proofs.Running.{at_a_stop, at_the_end, failed_read, keeps_one, no_one, no_write, packet_shown, without_memory}
-use Rattle.netlink_lines.proofs.Steps.{packet_stop}
+use Rattle.netlink_lines.proofs.Running.{at_the_end, at_torn_stop, failed_read, keeps_one, left_here, no_one, no_write, packet_shown, torn_fails, without_memory}
 use Rattle.netlink_lines.proofs.capture.packets.Goals as goal
 use Rattle.netlink_lines.proofs.capture.packets.Goals.{then-is_malformed, else-is_malformed}
 
@@ -40,10 +39,28 @@ returns-in-End g c =
 pub returns-in-Stop : goal.returns-in-Stop
 returns-in-Stop g c =
     let check : Check = family_error g.F.Table.types g.F.Table.short g.F.Table.header_len g.F.Table.rows in
+    let kept = c.read_packet.new.packet.items in
+    let left = left_here c.args.order c.in-Stop.why kept _ (rw c.in-Stop.is at c.in_ok-read_packet.ensures.next)
+    (rw c.in-Stop.is at c.in_ok-read_packet.ensures.torn) in
+    let (lines, tells, wrote) = rw c.deref.ensures.value at c.in_ok-write_stopped-in-Stop.ensures.writes in
     record {
       runs =
-          at_a_stop (packets_of check c.args.order) _ _ _ _ (g.R.Read.remaining c.read_packet.new.reader) _ _ _ _ _ _ c.loop.invariant
-          (packet_stop check c.args.order _ _ _ (rw c.in-Stop.is at c.in_ok-read_packet.ensures.next));
+          at_torn_stop check c.args.order _ _ _ _ (g.R.Read.remaining c.read_packet.new.reader) _ _ _ _ _ _ c.in-Stop.why kept lines _
+          c.loop.invariant left tells wrote;
+    }
+
+pub returns-in_err-write_stopped-in-Stop : goal.returns-in_err-write_stopped-in-Stop
+returns-in_err-write_stopped-in-Stop g c =
+    let check : Check = family_error g.F.Table.types g.F.Table.short g.F.Table.header_len g.F.Table.rows in
+    let kept = c.read_packet.new.packet.items in
+    let left = left_here c.args.order c.in-Stop.why kept _ (rw c.in-Stop.is at c.in_ok-read_packet.ensures.next)
+    (rw c.in-Stop.is at c.in_ok-read_packet.ensures.torn) in
+    let p = err_from_is_err_and c.from_residual-in_err-write_stopped-in-Stop.result c.from_residual-in_err-write_stopped-in-Stop.ensures.1 in
+    record {
+      runs =
+          rw (p.1, p.2) (torn_fails check c.args.order _ _ _ _ (g.R.Read.remaining c.read_packet.new.reader) _ _ _ _ _ _ c.in-Stop.why kept
+          c.deref.result.now (memory_of c.write_stopped.new.state) _ c.loop.invariant left c.deref.ensures.value
+          c.in_err-write_stopped-in-Stop.ensures.writes);
     }
 
 pub returns-in_err-is_bad : goal.returns-in_err-is_bad
@@ -61,15 +78,15 @@ returns-in_err-write_through g c =
     let check : Check = family_error g.F.Table.types g.F.Table.short g.F.Table.header_len g.F.Table.rows in
     let shown =
     packet_shown check c.args.order (g.R.Read.remaining c.loop.reader) (g.R.Read.remaining c.read_packet.new.reader) c.loop.at
-    c.read_packet.new.packet.items c.deref.result.now c.in_ok-read_packet.field-0 (memory_of c.loop.state)
+    c.read_packet.new.packet.items c.deref-in-loop.result.now c.in_ok-read_packet.field-0 (memory_of c.loop.state)
     (c.packet_lines.new.lines.items, c.in_ok-is_bad.is_bad) (memory_of c.packet_lines.new.state) c.in_ok-read_packet.ensures.next
-    c.in-Packet.is c.deref.ensures.value c.in_ok-is_bad.ensures.tells in
+    c.in-Packet.is c.deref-in-loop.ensures.value c.in_ok-is_bad.ensures.tells in
     let p = err_from_is_err_and c.from_residual-in_err-write_through.result c.from_residual-in_err-write_through.ensures.1 in
     record {
       runs =
           rw (p.1, p.2) (no_write (packets_of check c.args.order) _ _ _ _ _ (g.R.Read.remaining c.read_packet.new.reader) _ _
           (g.W.Write.contents c.write_through.new.writer) _ _ _ _ _ _ _ c.loop.invariant shown
-          (rw c.deref-in-loop.ensures.value at c.in_err-write_through.ensures.part));
+          (rw c.deref-in-loop-2.ensures.value at c.in_err-write_through.ensures.part));
     }
 
 pub loop-preserved : goal.loop-preserved
@@ -77,9 +94,9 @@ loop-preserved g c =
     let check : Check = family_error g.F.Table.types g.F.Table.short g.F.Table.header_len g.F.Table.rows in
     let shown =
     packet_shown check c.args.order (g.R.Read.remaining c.loop.reader) (g.R.Read.remaining c.read_packet.new.reader) c.loop.at
-    c.read_packet.new.packet.items c.deref.result.now c.in_ok-read_packet.field-0 (memory_of c.loop.state)
+    c.read_packet.new.packet.items c.deref-in-loop.result.now c.in_ok-read_packet.field-0 (memory_of c.loop.state)
     (c.packet_lines.new.lines.items, c.in_ok-is_bad.is_bad) (memory_of c.packet_lines.new.state) c.in_ok-read_packet.ensures.next
-    c.in-Packet.is c.deref.ensures.value c.in_ok-is_bad.ensures.tells in
+    c.in-Packet.is c.deref-in-loop.ensures.value c.in_ok-is_bad.ensures.tells in
     let size : c.len.result ≡ length c.read_packet.new.packet.items = search rules in
     let after : c.if-is_malformed.is_malformed ≡ (c.loop.is_malformed || c.in_ok-is_bad.is_bad) =
     elim c.if-is_malformed.branch [
@@ -87,7 +104,7 @@ loop-preserved g c =
       | else-is_malformed w ↦ rw (w.is_malformed-is, w.if-is_malformed.false) refl
     ] in
     let wrote : Appends (g.W.Write.contents c.loop.writer) (g.W.Write.contents c.write_through.new.writer) c.packet_lines.new.lines.items =
-    rw c.deref-in-loop.ensures.value at c.in_ok-write_through.ensures.whole in
+    rw c.deref-in-loop-2.ensures.value at c.in_ok-write_through.ensures.whole in
     let kept =
     keeps_one (packets_of check c.args.order) (memory_of c.args.state.now) 24 (g.R.Read.remaining c.args.reader.now)
     (g.R.Read.remaining c.loop.reader) (g.R.Read.remaining c.read_packet.new.reader) (g.W.Write.contents c.args.writer.now)

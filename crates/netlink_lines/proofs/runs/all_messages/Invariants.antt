@@ -4,7 +4,7 @@ use Rattle.netlink_family.specs.Errors.{family_error}
 use Rattle.netlink_lines.specs.Messages.{memory_of}
 use Rattle.netlink_lines.specs.Stream.{messages_of}
 use Rattle.netlink_lines.proofs.Running.{Kept}
-use Rattle.netlink_lines.proofs.runs.messages.Given as goal
+use Rattle.netlink_lines.proofs.runs.all_messages.Given as goal
 
 -- the messages so far are shown, and their lines are written; the frame has what was read of the next one
 abbrev pub invariant-loop : goal.invariant-loop

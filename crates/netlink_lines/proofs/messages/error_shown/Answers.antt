@@ -4,7 +4,7 @@ use Rattle.netlink_family.specs.declared.error.FamilyError.TheVariants.{UnknownT
 use Rattle.netlink_packet_core.specs.Refusal.{refusal_text}
 use Rattle.netlink_lines.specs.Messages.{bad, error_lines}
 use Rattle.netlink_lines.proofs.Shown.{malformed_lines}
-use Rattle.netlink_lines.proofs.messages.rejected.Goals as goal
+use Rattle.netlink_lines.proofs.messages.error_shown.Goals as goal
 
 pub returns-in_ok-why-in_default : goal.returns-in_ok-why-in_default
 returns-in_ok-why-in_default c =
