@@ -1,10 +1,10 @@
 -- Where an answer ends, and what comes before and after the end.
-use Rattle.std.proofs.Common.{◌≡◌, ℕ, Bool, true, false, List, [], ◌∷◌, ◌++◌, refl, ap, sym, subst, ◌∙◌, inl, inr, Option, Some, None, Result, Ok, Err}
-use Rattle.std.specs.Prelude.{not, ◌&&◌, ◌||◌, if◌then◌else◌, nat_eq, nat_lt, pos, drop, length}
+use Rattle.std.proofs.Common.{◌≡◌, ℕ, Bool, true, false, List, [], ◌∷◌, ◌++◌, refl, ap, sym, ◌∙◌, inl, inr, Option, Some, None, Ok}
+use Rattle.std.specs.Prelude.{not, ◌&&◌, ◌||◌, if◌then◌else◌, nat_eq, nat_lt, length}
 use Rattle.std.specs.List.{cons_option, filter, filter_map, list_any}
 use Rattle.std.proofs.lemmas.Bool.{and_right, cases_Bool}
 use Rattle.netlink_packet_core.specs.Header.{field, header_of, payload_of}
-use Rattle.netlink_replies.specs.Answers.{after, after_all, answers_in, belongs, concerns, ends, item_of, waiting}
+use Rattle.netlink_replies.specs.Answers.{after, after_all, answers_in, belongs, concerns, ends, item_of}
 use Rattle.netlink_replies.specs.Endings.{answer_of, has_interruption, is_end, is_own, open_item}
 use Rattle.netlink_replies.specs.Meaning.{Item, done_item, error_item, meaning, other}
 use Rattle.netlink_replies.specs.declared.replies.Replies.{Replies}

@@ -1,5 +1,5 @@
 -- The items do not depend on which datagram holds a frame.
-use Rattle.std.proofs.Common.{◌≡◌, ℕ, List, [], ◌∷◌, ◌++◌, refl, ap, sym, subst, ◌∙◌, Option, Some, None, append_assoc}
+use Rattle.std.proofs.Common.{◌≡◌, ℕ, List, [], ◌∷◌, ◌++◌, refl, ap, sym, ◌∙◌, Option, Some, None}
 use Rattle.std.specs.List.{cons_option}
 use Rattle.netlink_packet_core.specs.FrameWalkLaws.{frames_once}
 use Rattle.netlink_replies.specs.Answers.{after, after_all, answers_in, item_of, items_of}

@@ -5,11 +5,10 @@ use Rattle.std.specs.Iterator.{YieldsThen}
 use Rattle.std.specs.Prelude.{is_some, nat_lt, if◌then◌else◌, option_and_then}
 use Rattle.netlink_packet_core.specs.Attribute.{Attribute, padded_size, padding}
 use Rattle.netlink_packet_core.specs.DecodeError.{DecodeError}
-use Rattle.netlink_packet_core.specs.Reading.{attributes_in}
 use Rattle.netlink_packet_core.specs.ReadingLaws.{attributes_in-fault, attributes_in-walk}
 use Rattle.netlink_packet_core.specs.Walk.{IsFault, Starts, Walk}
 use Rattle.netlink_packet_core.specs.WalkLaws.{walk_once}
-use Rattle.netlink_replies.specs.Paths.{IsPath, attribute_at, bytes_inside, containing, offset_inside}
+use Rattle.netlink_replies.specs.Paths.{IsPath, attribute_at, bytes_inside, containing}
 use Rattle.netlink_replies.specs.PathSteps.{GivesPath, block_of, offset_of, path_steps}
 use Rattle.netlink_replies.specs.declared.path.Path.{Path}
 use Rattle.netlink_replies.proofs.Values.{walk_after}

@@ -1,5 +1,5 @@
 -- Where the value of an attribute is in its block.
-use Rattle.std.proofs.Common.{◌≡◌, ℕ, ◌+◌, ◌-◌, ◌≤◌, List, length, take, drop, refl, ap, sym, ◌∙◌, arith, length-drop}
+use Rattle.std.proofs.Common.{◌≡◌, ℕ, ◌+◌, ◌-◌, ◌≤◌, List, length, take, drop, ap, sym, ◌∙◌, arith, length-drop}
 use Rattle.std.proofs.lemmas.List.{drop-drop, drop_min}
 use Rattle.std.specs.Prelude.{min, slice_range}
 use Rattle.netlink_packet_core.specs.Attribute.{Attribute, padded_size}

@@ -1,5 +1,5 @@
 -- Calls of `next` on an iterator give the reading of the bytes.
-use Rattle.std.proofs.Common.{◌≡◌, ℕ, List, [], ◌∷◌, refl, ap, sym, subst, ◌∙◌, Option, Some, None, Result, Ok, Err, Bor}
+use Rattle.std.proofs.Common.{◌≡◌, ℕ, List, [], ◌∷◌, refl, ap, sym, subst, ◌∙◌, None, Result, Bor}
 use Rattle.std.specs.Prelude.{map}
 use Rattle.std.specs.Iterator.{YieldsThen}
 use Rattle.netlink_packet_core.specs.DecodeError.{DecodeError}

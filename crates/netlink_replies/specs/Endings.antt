@@ -1,5 +1,5 @@
 -- The end of an answer, the frames up to it, and the items that are not of other answers.
-use Rattle.std.specs.Prelude.{ℕ, Bool, true, false, ◌&&◌, if◌then◌else◌, List, [], ◌∷◌, Option, Some, None, Ok}
+use Rattle.std.specs.Prelude.{ℕ, Bool, true, ◌&&◌, if◌then◌else◌, List, [], ◌∷◌, Option, Ok}
 use Rattle.netlink_packet_core.specs.Header.{header_of}
 use Rattle.netlink_packet_core.specs.declared.constants.TheConstants.{NLM_F_DUMP_INTR}
 use Rattle.netlink_replies.specs.Answers.{belongs, ends}

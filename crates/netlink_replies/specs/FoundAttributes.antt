@@ -1,6 +1,5 @@
 -- An attribute that was found by an offset.
 use Rattle.std.specs.Prelude.{ℕ, ◌+◌, ◌≡◌, ◌≤◌, List, length, Some}
-use denote.Ref.{Bor}
 use Rattle.netlink_packet_core.specs.Attribute.{Attribute}
 use Rattle.netlink_packet_core.specs.Views.{masked}
 use Rattle.netlink_replies.specs.Paths.{attribute_at}

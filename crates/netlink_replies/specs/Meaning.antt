@@ -1,5 +1,5 @@
 -- What one frame means, by the type in its header (NLMSG_NOOP to NLMSG_OVERRUN of linux/netlink.h).
-use Rattle.std.specs.Prelude.{ℕ, ◌≤◌, nat_eq, nat_lt, true, if◌then◌else◌, List, [], length, drop, Option, Some, None, Result, Ok, Err, pos}
+use Rattle.std.specs.Prelude.{ℕ, nat_eq, nat_lt, true, if◌then◌else◌, List, [], length, drop, Option, Some, None, Result, Ok, Err, pos}
 use denote.Ref.{Bor}
 use Rattle.netlink_packet_core.specs.DecodeError.{DecodeError}
 use Rattle.netlink_packet_core.specs.Header.{field, header_of, payload_of}

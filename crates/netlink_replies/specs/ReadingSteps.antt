@@ -1,5 +1,5 @@
 -- What calls of `next` on an iterator over the items of a datagram do.
-use Rattle.std.specs.Prelude.{ℕ, ◌≡◌, ◌-◌, List, [], ◌∷◌, drop, length, map, Option, None, Result}
+use Rattle.std.specs.Prelude.{ℕ, ◌≡◌, ◌-◌, List, drop, length, map, Option, None, Result}
 use Rattle.std.specs.Iterator.{YieldsThen}
 use denote.Ref.{Bor}
 use Rattle.netlink_packet_core.specs.DecodeError.{DecodeError}

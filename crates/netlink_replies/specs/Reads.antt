@@ -1,5 +1,5 @@
 -- What reading the bytes of a datagram gives.
-use Rattle.std.specs.Prelude.{ℕ, ◌≡◌, ◌⊎◌, false, List, [], ◌∷◌, Option, Some, None, Result, Ok, Err}
+use Rattle.std.specs.Prelude.{ℕ, ◌≡◌, ◌⊎◌, false, List, [], ◌∷◌, Option, Some, None, Result, Err}
 use denote.Ref.{Bor}
 use Rattle.netlink_packet_core.specs.DecodeError.{DecodeError}
 use Rattle.netlink_packet_core.specs.FrameWalk.{FrameWalk, frame_of}

@@ -1,11 +1,10 @@
-use Rattle.std.proofs.Common.{◌≡◌, ◌≢◌, ◌-◌, ◌≤◌, ℕ, List, length, ap, sym, ◌∙◌, arith, rules, Bor}
+use Rattle.std.proofs.Common.{◌≡◌, ◌≢◌, ◌-◌, ℕ, List, length, ap, sym, ◌∙◌, rules, Bor}
 use Rattle.std.specs.Prelude.{slice_range}
 use Rattle.netlink_packet_core.specs.Attribute.{Attribute}
 use Rattle.netlink_packet_core.specs.Steps.{unread}
 use Rattle.netlink_packet_core.specs.Views.{attribute_of, length_field, masked, raw_kind}
 use Rattle.netlink_replies.proofs.PlaceLemmas.{rest_all, rest_on, rest_part}
 use Rattle.netlink_replies.proofs.Values.{searches_all, searches_end, searches_fault, searches_found, searches_on}
-use Rattle.netlink_replies.specs.AckValues.{bytes_at}
 use Rattle.netlink_replies.proofs.extended_ack.ExtendedAck.place.Goals as goal
 
 pub loop-item-init : goal.loop-item-init

@@ -1,4 +1,4 @@
-use Rattle.std.proofs.Common.{ℕ, List, drop, length, arith}
+use Rattle.std.proofs.Common.{ℕ, List, drop}
 use Rattle.std.proofs.lemmas.List.{drop_all}
 use Rattle.netlink_replies.proofs.ReadLemmas.{skip_end, skip_item}
 use Rattle.netlink_replies.specs.Meaning.{shown_result}

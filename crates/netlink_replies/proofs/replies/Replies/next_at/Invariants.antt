@@ -1,4 +1,4 @@
-use Rattle.std.proofs.Common.{ℕ, ◌-◌, length}
+use Rattle.std.proofs.Common.{◌-◌, length}
 use Rattle.netlink_replies.proofs.ReadLemmas.{Progress}
 use Rattle.netlink_replies.proofs.replies.Replies.next_at.Given as goal
 

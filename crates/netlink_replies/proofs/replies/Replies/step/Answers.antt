@@ -1,4 +1,4 @@
-use Rattle.std.proofs.Common.{◌≡◌, ◌≢◌, ℕ, List, [], drop, length, subst, sym, ◌∙◌, ap, arith}
+use Rattle.std.proofs.Common.{◌≢◌, ℕ, List, [], drop, length, subst, sym, ◌∙◌, ap, arith}
 use Rattle.std.proofs.lemmas.List.{drop_all, length-drop, take_rest}
 use Rattle.std.specs.Prelude.{false}
 use Rattle.netlink_packet_core.specs.FrameWalk.{StartsFrame}
