@@ -6,7 +6,9 @@ ghost use Rattle.netlink_family.specs.Policies.{IsPart};
 ghost use Rattle.netlink_family.specs.Shapes.{CachesOther, choice_at, choice_by, resolved, rows_in, shape_among, shape_in, within, are_sorted};
 
 use crate::find::first_value;
-use crate::shape::{Row, Shape, TOP, cached_shape, near_row, row_shape, rows_after, searched_shape};
+use crate::shape::{
+    Row, Shape, TOP, cached_shape, near_row, row_shape, rows_after, searched_shape,
+};
 use crate::value::bytes_until_nul;
 use netlink_packet_core::NLA_TYPE_MASK;
 
