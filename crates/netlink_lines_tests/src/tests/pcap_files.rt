@@ -99,20 +99,40 @@ const PADDED: [(&[u8], &[u8], &[&str], bool); 7] = [
     (&REQUEST, &ONE, &[REQUEST_LINE, NO_LENGTH], true),
 ];
 
+/// Returns a file with a packet of this size, of which some bytes were captured: a datagram of route
+/// netlink in two parts.
+fn in_parts(
+    alloc: Global,
+    captured: u8,
+    original: u8,
+    message: &[u8],
+    rest: &[u8],
+) -> Result<Vec<u8>, AllocError> {
+    let header = packet_header(captured, original, false);
+    let of_route = datagram_header(56, 0);
+    let parts: [&[u8]; 5] = [&LITTLE, &header, &of_route, message, rest];
+    joined(alloc, &parts)
+}
+
+/// Returns whether a whole datagram in two parts has these lines, and ends with an error or without.
+fn has_lines(
+    alloc: Global,
+    message: &[u8],
+    rest: &[u8],
+    lines: &[&str],
+    is_malformed: bool,
+) -> Result<bool, AllocError> {
+    let size = u8::try_from(16 + message.len() + rest.len()).unwrap_or(0);
+    let input = in_parts(alloc, size, size, message, rest)?;
+    let wanted = joined_text(alloc, lines)?;
+    Ok(has_line(alloc, &input, wanted.as_str(), is_malformed))
+}
+
 /// Zeros after the last message of a packet, or alone, are padding. Other bytes are not.
 #[test]
 fn zeros_in_packets_are_padding(rt: HostRuntime) -> Result<(), Fail> {
-    let alloc = rt.alloc();
     for (message, rest, lines, is_malformed) in PADDED {
-        let size = u8::try_from(message.len() + rest.len()).unwrap_or(0);
-        let header = packet_header(size.wrapping_add(16), size.wrapping_add(16), false);
-        let of_route = datagram_header(56, 0);
-        let input = joined(alloc, &[&LITTLE, &header, &of_route, message, rest])?;
-        let wanted = joined_text(alloc, lines)?;
-        assert!(rt;
-            has_line(alloc, &input, wanted.as_str(), is_malformed),
-            "{wanted}"
-        );
+        assert!(rt; has_lines(rt.alloc(), message, rest, lines, is_malformed)?);
     }
     Ok(())
 }
@@ -133,28 +153,44 @@ const ZERO_LENGTH: &str =
 
 const CUT_LINE: &str = "byte 24: of a packet of 250 bytes, ";
 
+/// Returns whether a packet of 250 bytes of which these were captured has these lines, and then that
+/// of the cut.
+fn is_cut_by_capture(
+    alloc: Global,
+    captured: u8,
+    rest: &[u8],
+    lines: &[&str],
+) -> Result<bool, AllocError> {
+    let input = in_parts(alloc, captured, 250, &ADDRESS, rest)?;
+    let parts = joined_text(alloc, lines)?;
+    let wanted = format!(in alloc; "{LINE}{parts}{CUT_LINE}{captured} were captured\n")?;
+    Ok(has_line(alloc, &input, wanted.as_str(), true))
+}
+
+/// Returns whether a packet of 250 bytes in which the file ends has these lines, and whether the run
+/// then ends with the error of the cut.
+fn is_cut_by_the_end(
+    alloc: Global,
+    captured: u8,
+    rest: &[u8],
+    lines: &[&str],
+) -> Result<bool, AllocError> {
+    let input = in_parts(alloc, 250, 250, &ADDRESS, rest)?;
+    let parts = joined_text(alloc, lines)?;
+    let wanted = format!(in alloc; "{LINE}{parts}")?;
+    let error = format!(in alloc; "byte 24: a packet is cut to {captured} of 250 bytes")?;
+    let (output, ended) = shown(alloc, &input);
+    Ok(output.as_slice() == wanted.as_bytes() && ends_with(alloc, ended, error.as_str())?)
+}
+
 /// A packet that the capture cut has the lines of its whole messages, and then that of the cut. If the
-/// end of the file cuts it, the cut is the error of the run. A name of a link in it is known later.
+/// end of the file cuts it, the cut is the error of the run.
 #[test]
 fn cut_packets_have_their_whole_messages(rt: HostRuntime) -> Result<(), Fail> {
-    let alloc = rt.alloc();
     for (rest, lines) in CAPTURED {
-        let captured = u8::try_from(ADDRESS.len() + rest.len())
-            .unwrap_or(0)
-            .wrapping_add(16);
-        let of_route = datagram_header(56, 0);
-        let header = packet_header(captured, 250, false);
-        let input = joined(alloc, &[&LITTLE, &header, &of_route, &ADDRESS, rest])?;
-        let parts = joined_text(alloc, lines)?;
-        let cut = format!(in alloc; "{LINE}{parts}{CUT_LINE}{captured} were captured\n")?;
-        assert!(rt; has_line(alloc, &input, cut.as_str(), true), "{cut}");
-        let header = packet_header(250, 250, false);
-        let input = joined(alloc, &[&LITTLE, &header, &of_route, &ADDRESS, rest])?;
-        let (output, ended) = shown(alloc, &input);
-        let wanted = format!(in alloc; "{LINE}{parts}")?;
-        assert_eq!(rt; output.as_slice(), wanted.as_bytes());
-        let error = format!(in alloc; "byte 24: a packet is cut to {captured} of 250 bytes")?;
-        assert!(rt; ends_with(alloc, ended, error.as_str())?);
+        let captured = u8::try_from(16 + ADDRESS.len() + rest.len()).unwrap_or(0);
+        assert!(rt; is_cut_by_capture(rt.alloc(), captured, rest, lines)?);
+        assert!(rt; is_cut_by_the_end(rt.alloc(), captured, rest, lines)?);
     }
     Ok(())
 }
