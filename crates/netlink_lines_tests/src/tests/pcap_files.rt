@@ -122,7 +122,9 @@ fn has_lines(
     lines: &[&str],
     is_malformed: bool,
 ) -> Result<bool, AllocError> {
-    let size = u8::try_from(16 + message.len() + rest.len()).unwrap_or(0);
+    let size = u8::try_from(message.len() + rest.len())
+        .unwrap_or(0)
+        .wrapping_add(16);
     let input = in_parts(alloc, size, size, message, rest)?;
     let wanted = joined_text(alloc, lines)?;
     Ok(has_line(alloc, &input, wanted.as_str(), is_malformed))
