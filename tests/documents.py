@@ -12,8 +12,7 @@ console                Each line `$ COMMAND` is followed by exactly the lines th
 text                   The block is not checked.
 
 Any other language, a fence that is not closed, and indented code are failures. A link must lead to a file or folder of
-the repository, and an anchor to a heading of that Markdown file. ./check runs this script on a copy of the repository
-that has no folders `must-fail`, so documents cannot link to these.
+the repository, and an anchor to a heading of that Markdown file.
 """
 
 import os
