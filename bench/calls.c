@@ -20,6 +20,9 @@ call route_read, route_look, route_view_read, route_view_look, route_pass_look;
 call message_read, message_normalize, message_is_canonical, raw_read, ethernet_convert;
 call attributes_walk, attributes_append, attributes_are_canonical, attributes_normalize;
 call frames_append, trees_read, trees_rewrite;
+call attributes_find, attributes_place, attributes_fault, frames_walk, frames_error, replies_read, ack_text;
+call path_count, family_find, family_count;
+call route_error, route_show, route_first, route_indexed, route_hops, link_push;
 size_t message_rewrite(const uint8_t *frame, size_t len, uint8_t *buffer, size_t size);
 output attributes_walk_output, attributes_append_output, attributes_normalize_output;
 output raw_read_output, frames_append_output, trees_output, route_output;
@@ -62,6 +65,22 @@ static const struct {
     { "frames_append", frames_append, frames_append_output },
     { "trees_read", trees_read, trees_output },
     { "trees_rewrite", trees_rewrite, trees_output },
+    { "attributes_find", attributes_find, NULL },
+    { "attributes_place", attributes_place, NULL },
+    { "attributes_fault", attributes_fault, NULL },
+    { "frames_walk", frames_walk, NULL },
+    { "frames_error", frames_error, NULL },
+    { "replies_read", replies_read, NULL },
+    { "ack_text", ack_text, NULL },
+    { "path_count", path_count, NULL },
+    { "family_find", family_find, NULL },
+    { "family_count", family_count, NULL },
+    { "route_error", route_error, NULL },
+    { "route_show", route_show, NULL },
+    { "route_first", route_first, NULL },
+    { "route_indexed", route_indexed, NULL },
+    { "route_hops", route_hops, NULL },
+    { "link_push", link_push, NULL },
     { "libmnl_look", libmnl_look, NULL },
     { "libmnl_walk", libmnl_walk, libmnl_walk_output },
     { "libmnl_append", libmnl_append, libmnl_append_output },

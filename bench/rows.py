@@ -102,3 +102,98 @@ COMPARED = [
     ("read a link message", "route_read", LINK, ("netlink-packet-route", "netlink_packet_route_read")),
     ("read a dump of 16 links", "route_read", LINK * 16, ("netlink-packet-route", "netlink_packet_route_read")),
 ]
+
+
+# How calls grow: a call, its case, what its input is, and its bytes by the number of attributes or frames.
+SIZES, LAST = (500, 2000, 8000), 0x3FFE
+KIND, DATA, SLAVE_KIND, SLAVE_DATA, LINKINFO, MULTIPATH = 1, 2, 4, 5, 18, 9
+
+
+def link(info):
+    """Returns a message about a new link with these attributes in IFLA_LINKINFO."""
+    return frame(16, bytes(16) + attribute(LINKINFO, info))
+
+
+def by_turns(count):
+    """Returns data of two kinds by turns, and the kinds at the end."""
+    data = count // 2 * (attribute(DATA, b"") + attribute(SLAVE_DATA, b""))
+    return data + attribute(KIND, b"vlan\0") + attribute(SLAVE_KIND, b"bond\0")
+
+
+def last(count):
+    """Returns empty attributes, the last of which has another kind."""
+    return count * attribute(1, b"") + attribute(LAST, b"text")
+
+
+def family(name):
+    """Returns a message of the controller that describes a family."""
+    return frame(16, b"\1\1\0\0" + attribute(2, name + b"\0"))
+
+
+def nested(count):
+    """Returns nests, each in the one before, and in the innermost one byte."""
+    inner = b"\1"
+    for _ in range(count):
+        inner = attribute(1, inner)
+    return inner
+
+
+GROWTH = [
+    ("`NlasIterator`", "attributes_walk", "attributes of 1 byte", lambda n: attributes(n, (1,))),
+    ("`nla_find`", "attributes_find", "the kind is the last", last),
+    ("`nla_place`", "attributes_place", "the last attribute", lambda n: attributes(n, (4,))),
+    ("`nlas_fault`", "attributes_fault", "an error at the end", lambda n: n * attribute(1, b"") + b"\3\0\0\0"),
+    ("`is_canonical_nlas`", "attributes_are_canonical", "canonical", lambda n: attributes(n, (1,))),
+    ("`normalize_nlas`", "attributes_normalize", "dirty padding", lambda n: attributes(n, (1,), b"\xee")),
+    ("`append_nla`, each attribute", "attributes_append", "empty attributes", lambda n: n * attribute(1, b"")),
+    ("`Frames`", "frames_walk", "empty frames", lambda n: n * frame(18, b"")),
+    ("`frames_fault`", "frames_error", "an error at the end", lambda n: n * frame(18, b"") + bytes(4)),
+    ("`append_frame`, each frame", "frames_append", "empty frames", lambda n: n * frame(18, b"")),
+    ("`read_tree`", "trees_read", "empty leaves", lambda n: n * attribute(1, b"")),
+    ("`read_tree`, `write_tree`", "trees_rewrite", "empty leaves", lambda n: n * attribute(1, b"")),
+    ("`Replies::read`", "replies_read", "frames of another answer", lambda n: n * frame(18, b"")),
+    ("`ExtendedAck::text`", "ack_text", "the text is the last",
+        lambda n: n * attribute(9, b"") + attribute(1, b"text\0")),
+    ("`Path`", "path_count", "nests in nests", nested),
+    ("`family_named`", "family_find", "the family is the last", lambda n: n * family(b"first") + family(b"last")),
+    ("`family_groups`", "family_count", "empty groups",
+        lambda n: frame(16, b"\1\1\0\0" + attribute(7, n * attribute(1, b"")))),
+    ("`deserialize`", "route_read", "shapes chosen by turns", lambda n: link(by_turns(n))),
+    ("`MessageView::new`", "route_view_read", "shapes chosen by turns", lambda n: link(by_turns(n))),
+    ("the same", "route_view_read", "no kind", lambda n: link(n * attribute(DATA, b""))),
+    ("its error", "route_error", "an error after shapes chosen by turns",
+        lambda n: link(by_turns(n) + attribute(KIND, b""))),
+    ("and an iteration", "route_view_look", "shapes chosen by turns", lambda n: link(by_turns(n))),
+    ("and `show`", "route_show", "shapes chosen by turns", lambda n: link(by_turns(n))),
+    ("and `first`", "route_first", "the kind is the last", lambda n: frame(16, bytes(16) + last(n))),
+    ("and `indexed`, `first`", "route_indexed", "the kind is the last", lambda n: frame(16, bytes(16) + last(n))),
+    ("and `NextHops`", "route_hops", "empty next hops",
+        lambda n: frame(24, bytes(12) + attribute(MULTIPATH, n * pack("<HBBi", 8, 0, 0, 0)))),
+    ("`CheckedAttributes`", "route_pass_look", "shapes chosen by turns", lambda n: link(by_turns(n))),
+    ("`try_push` of a nest", "link_push", "shapes chosen by turns", by_turns),
+]
+
+
+# How a message of netlink_show grows with the links whose names are known: what some messages do, and they themselves.
+LINKS, CHANGES = (1000, 8000, 65536), 500
+
+
+def named(index, name):
+    """Returns a message that a link has a name."""
+    return frame(16, pack("<BxHiII", 0, 1, index, 0, 0) + attribute(3, name.encode() + b"\0"))
+
+
+def deleted(index):
+    return frame(17, pack("<BxHiII", 0, 1, index, 0, 0))
+
+
+def known(count):
+    """Returns messages after which this number of links is known."""
+    return b"".join(named(it, f"link{it}") for it in range(1, count + 1))
+
+
+NAMES = [
+    ("the oldest link is renamed", lambda count: b"".join(named(it, f"new{it}") for it in range(1, CHANGES + 1))),
+    ("the oldest link is deleted", lambda count: b"".join(deleted(it) for it in range(1, CHANGES + 1))),
+    ("a link is new", lambda count: b"".join(named(count + it, f"new{it}") for it in range(1, CHANGES + 1))),
+]

@@ -16,6 +16,7 @@ CI, EDITS, OWN_EDITS = "rt ci", "tests/edits.py", "tests/edits"
 POSITIVE = r"[1-9]\d*"
 FORMS = {
     "edits": rf"(\S+) ({POSITIVE})",
+    "mistakes": rf"(\S+) ({POSITIVE})",
     "measures": r"(\w+)()",
     "tests": rf"(\w+) ({POSITIVE})",
     "passes": rf"(\S.*) ({POSITIVE})",
@@ -34,6 +35,12 @@ def digest_of(path):
     """Returns the sha256 digest of a file, in hexadecimal."""
     with open(path, "rb") as file:
         return hashlib.sha256(file.read()).hexdigest()
+
+
+def lines_of(path):
+    """Returns the lines of a file."""
+    with open(path, encoding="utf-8") as file:
+        return file.readlines()
 
 
 def differs(what, number, stated, is_exact=True):
@@ -93,6 +100,18 @@ class Expected:
         for name in sorted({*stated, *self.lines["measures"]} - {*names}):
             yield f"{FILE} names the crate {name}, which does not exist"
 
+    def mistakes_of(self, name):
+        """Returns how many mistakes the edits of a crate make: their pairs of old and new text."""
+        paths = glob.glob(os.path.join(glob.escape(self.top), "crates", name, "must-fail", "*.edit"))
+        return sum(line.startswith("old:") for path in paths for line in lines_of(path))
+
+    def wrong_mistakes(self):
+        """Yields each difference in the numbers of mistakes."""
+        stated = self.lines["mistakes"]
+        for name in sorted({*stated, *self.crates()}):
+            if why := differs(f"mistakes of {name}", self.mistakes_of(name), stated.get(name, 0)):
+                yield why
+
     def edits(self):
         """Returns the names of all edits, as CRATE/EDIT."""
         paths = glob.glob(os.path.join(glob.escape(self.top), "crates", "*", "must-fail", "*.edit"))
@@ -126,8 +145,9 @@ class Expected:
         return None if found == stated else f"{path} has the sha256 digest {found}; {FILE} states {stated}"
 
     def wrong_files(self):
-        """Returns the differences that are known before any step runs: those of edits and digests."""
-        return [*self.wrong_edits(), *filter(None, map(self.wrong_digest, self.lines["digest"]))]
+        """Returns the differences that are known before any step runs: those of edits, mistakes and digests."""
+        digests = filter(None, map(self.wrong_digest, self.lines["digest"]))
+        return [*self.wrong_edits(), *self.wrong_mistakes(), *digests]
 
     def wrong_names(self, steps):
         """Yields each line that names a step other than these, and each of these steps that no line names."""

@@ -6,6 +6,7 @@
 #![tactic(auto)]
 
 mod attributes;
+mod growth;
 mod look;
 mod messages;
 mod output;

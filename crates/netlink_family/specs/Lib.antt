@@ -1,6 +1,7 @@
 pub mod Blocks
 pub mod BlocksLaws
 pub mod CanonicalPayloadLaws
+pub mod Choices
 pub mod ErrorLaws
 pub mod ErrorOffsets
 pub mod ErrorTexts

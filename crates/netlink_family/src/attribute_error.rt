@@ -6,7 +6,7 @@ ghost use Rattle.netlink_family.specs.Errors.{reason_of, decode_reason, error_at
 ghost use Rattle.netlink_family.specs.Policies.{IsPart};
 ghost use Rattle.netlink_family.specs.Shapes.{has_shape, nest_of, rows_in, shape_among, within, are_sorted};
 
-use crate::choice::{own_shape_among, shape_among};
+use crate::choice::{NO_CHOICES, own_shape_among, shape_among};
 use crate::shape::{Row, Shape, TOP, has_shape, nest_block, policy_of, policy_rows};
 use netlink_packet_core::{DecodeError, NlasIterator, nla_align};
 use std::fmt;
@@ -304,13 +304,14 @@ pub(crate) fn error_in(
 {
     // Rows among which are all of the policy.
     let own = rows_for(rows, policy, block);
+    let mut choices = NO_CHOICES;
     let mut left = block.len();
     for item in NlasIterator::new(block) {
         let offset = end - left;
         match item {
             Ok(nla) => {
                 let kind = nla.raw_kind();
-                let shape = own_shape_among(rows, own, policy, block, kind);
+                let shape = own_shape_among(rows, own, policy, block, kind, &mut choices);
                 let error = shape_error(levels, rows, policy, shape, offset, kind, nla.value());
                 if error.is_some() {
                     return error;

@@ -4,9 +4,10 @@ ghost use Rattle.std.specs.Prelude.{◌≡◌, true};
 ghost use Rattle.std.specs.Iterator.{at_most};
 ghost use Rattle.netlink_packet_core.specs.Steps.{item_bound, unread};
 ghost use Rattle.netlink_family.specs.Shapes.{CachesOther, rows_in, within, are_sorted};
+ghost use Rattle.netlink_family.specs.Choices.{AreChoices};
 ghost use Rattle.netlink_family.specs.Iteration.{AreShaped, YieldsValue};
 
-use crate::choice::cached_shape_among;
+use crate::choice::{Choices, cached_shape_among};
 use crate::shape::{Row, Shape};
 use crate::value::{Value, value_in};
 use netlink_packet_core::NlasIterator;
@@ -25,9 +26,12 @@ pub struct Attributes<'a> {
     pub block: &'a [u8],
     /// The shape of the kinds without a row, once it has been looked up.
     pub other: Option<Shape>,
+    /// The last shapes that were chosen by a value.
+    pub choices: Choices,
     pub ghost sorted: { are_sorted (rows_in rows.now) ≡ true },
     pub ghost shaped: { ∥ AreShaped (within (rows_in rows.now) block.now) policy (unread walk) ∥₁ },
     pub ghost kept: { CachesOther (rows_in rows.now) policy other },
+    pub ghost chosen: { AreChoices (within (rows_in rows.now) block.now) choices },
 }
 
 impl<'a> Iterator for Attributes<'a> {
@@ -52,6 +56,7 @@ impl<'a> Iterator for Attributes<'a> {
                     self.block,
                     kind,
                     &mut self.other,
+                    &mut self.choices,
                 );
                 return Some((kind, value_in(self.rows, shape, nla.value())));
             }

@@ -8,12 +8,13 @@ ghost use Rattle.netlink_packet_core.specs.DecodeError.{DecodeError};
 ghost use Rattle.netlink_packet_core.specs.Steps.{unread};
 ghost use Rattle.netlink_packet_core.specs.Walk.{Walk};
 ghost use Rattle.netlink_family.specs.Blocks.{all_normalized};
+ghost use Rattle.netlink_family.specs.Choices.{AreChoices};
 ghost use Rattle.netlink_family.specs.ErrorTexts.{wants_memory};
 ghost use Rattle.netlink_family.specs.Errors.{block_error};
 ghost use Rattle.netlink_family.specs.Shapes.{CachesOther, are_shaped, fits_kind, is_block_shaped, nest_levels, reading_by, rows_in, shape_among, within, are_sorted};
 
 use crate::attribute_error::{AttributeError, error_in};
-use crate::choice::{cached_shape_among, shape_among};
+use crate::choice::{Choices, NO_CHOICES, cached_shape_among};
 use crate::error::FamilyError;
 use crate::nest::is_shaped;
 use crate::shape::{NEST_LEVELS, Row, Shape, TOP, has_shape, policy_of};
@@ -62,10 +63,12 @@ fn check_block(rows: &[Row], block: &[u8]) -> Option<bool>
 {
     let mut canonical = true;
     let mut other = None;
+    let mut choices = NO_CHOICES;
     for item in NlasIterator::new(block) {
         match item {
             Ok(nla) => {
-                if !fits_kind(rows, &mut other, block, nla.raw_kind(), nla.value()) {
+                let kind = nla.raw_kind();
+                if !fits_kind(rows, &mut other, &mut choices, block, kind, nla.value()) {
                     return None;
                 }
                 let size = nla.length() as usize;
@@ -79,16 +82,25 @@ fn check_block(rows: &[Row], block: &[u8]) -> Option<bool>
 }
 
 /// Returns whether a value of a message's block has the shape of its kind in the policy `TOP`. Keeps
-/// the shape of the kinds without a row in `other`.
+/// the shape of the kinds without a row in `other`, and the shapes that were chosen in `choices`.
 #[inline(always)]
-fn fits_kind(rows: &[Row], other: &mut Option<Shape>, block: &[u8], kind: u16, value: &[u8]) -> bool
+fn fits_kind(
+    rows: &[Row],
+    other: &mut Option<Shape>,
+    choices: &mut Choices,
+    block: &[u8],
+    kind: u16,
+    value: &[u8],
+) -> bool
     requires sorted { are_sorted (rows_in rows.now) ≡ true }
     requires other { CachesOther (rows_in rows.now) 0 other.old }
+    requires choices { AreChoices (within (rows_in rows.now) block.now) choices.old }
     requires fits { length value.now ≤ value_max }
     ensures fits { result ≡ fits_kind (within (rows_in rows.now) block.now) kind value.now }
     ensures other { CachesOther (rows_in rows.now) 0 other.new }
+    ensures choices { AreChoices (within (rows_in rows.now) block.now) choices.new }
 {
-    let shape = cached_shape_among(rows, TOP, block, kind, other);
+    let shape = cached_shape_among(rows, TOP, block, kind, other, choices);
     fits_shape(rows, block, shape, kind, value)
 }
 
@@ -103,18 +115,18 @@ pub(crate) fn fits_shape(rows: &[Row], block: &[u8], shape: Shape, kind: u16, va
 {
     match policy_of(shape) {
         None => has_shape(shape, value),
-        Some(_) => fits_nest(rows, block, kind, value),
+        Some(_) => fits_nest(rows, block, shape, kind, value),
     }
 }
 
 /// The same for a nest. It is a separate function so that the loop over a block stays small.
 #[inline(never)]
-fn fits_nest(rows: &[Row], block: &[u8], kind: u16, value: &[u8]) -> bool
+fn fits_nest(rows: &[Row], block: &[u8], shape: Shape, kind: u16, value: &[u8]) -> bool
     requires sorted { are_sorted (rows_in rows.now) ≡ true }
+    requires shape { shape ≡ shape_among (within (rows_in rows.now) block.now) 0 kind }
     requires fits { length value.now ≤ value_max }
     ensures { result ≡ fits_kind (within (rows_in rows.now) block.now) kind value.now }
 {
-    let shape = shape_among(rows, TOP, block, kind);
     is_shaped(NEST_LEVELS, rows, shape, value)
 }
 
@@ -125,10 +137,12 @@ pub(crate) fn has_shapes(rows: &[Row], block: &[u8], walk: NlasIterator<&[u8]>) 
     ensures { result ≡ are_shaped nest_levels (within (rows_in rows.now) block.now) 0 (unread walk.entry) }
 {
     let mut other = None;
+    let mut choices = NO_CHOICES;
     for item in walk {
         match item {
             Ok(nla) => {
-                if !fits_kind(rows, &mut other, block, nla.raw_kind(), nla.value()) {
+                let kind = nla.raw_kind();
+                if !fits_kind(rows, &mut other, &mut choices, block, kind, nla.value()) {
                     return false;
                 }
             }

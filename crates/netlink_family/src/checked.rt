@@ -7,13 +7,14 @@ ghost use Rattle.netlink_packet_core.specs.Attribute.{Attribute};
 ghost use Rattle.netlink_packet_core.specs.Reading.{attributes_in};
 ghost use Rattle.netlink_packet_core.specs.Steps.{item_bound, unread};
 ghost use Rattle.netlink_family.specs.Blocks.{block_fits};
+ghost use Rattle.netlink_family.specs.Choices.{AreChoices};
 ghost use Rattle.netlink_family.specs.Iteration.{YieldsChecked};
 ghost use Rattle.netlink_family.specs.Errors.{block_error, family_error, rest_error, too_long_error};
 ghost use Rattle.netlink_family.specs.Shapes.{or_first, rows_in, within, are_sorted};
 
 use crate::attribute_error::{AttributeError, error_in};
 use crate::block::{block_error, fits_shape};
-use crate::choice::shape_among;
+use crate::choice::{Choices, NO_CHOICES, kept_shape_among};
 use crate::error::{FamilyError, header_short};
 use crate::family::{Table, is_short, rows_of};
 use crate::shape::{NEST_LEVELS, Row, TOP};
@@ -35,6 +36,8 @@ pub struct CheckedAttributes<'a, F: Table> {
     pub message_type: u16,
     /// The rows of the family's table.
     pub rows: &'static [Row],
+    /// The last shapes that were chosen by a value.
+    pub choices: Choices,
     /// The family of the message.
     pub family: PhantomData<F>,
     pub ghost table: { rows_in rows.now ≡ F.rows message_type },
@@ -43,6 +46,7 @@ pub struct CheckedAttributes<'a, F: Table> {
     pub ghost passed: { is_none (rest_error (within (F.rows message_type) block.now) end (unread walk)) ≡ false
         → block_error (F.rows message_type) end block.now
         ≡ rest_error (within (F.rows message_type) block.now) end (unread walk) },
+    pub ghost chosen: { AreChoices (within (rows_in rows.now) block.now) choices },
 }
 
 impl<'a, F: Table> CheckedAttributes<'a, F> {
@@ -73,6 +77,7 @@ impl<'a, F: Table> CheckedAttributes<'a, F> {
                     end,
                     message_type,
                     rows,
+                    choices: NO_CHOICES,
                     family: PhantomData,
                 });
             }
@@ -88,6 +93,7 @@ impl<'a, F: Table> CheckedAttributes<'a, F> {
             end,
             message_type,
             rows,
+            choices: NO_CHOICES,
             family: PhantomData,
         })
     }
@@ -170,7 +176,7 @@ impl<'a, F: Table> Iterator for CheckedAttributes<'a, F> {
             Ok(nla) => {
                 let kind = nla.raw_kind();
                 let value = nla.value();
-                let shape = shape_among(self.rows, TOP, self.block, kind);
+                let shape = kept_shape_among(self.rows, TOP, self.block, kind, &mut self.choices);
                 if fits_shape(self.rows, self.block, shape, kind, value) {
                     self.walk = walk;
                     return Some(Ok((kind, value_in(self.rows, shape, value))));

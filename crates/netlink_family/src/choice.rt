@@ -1,6 +1,7 @@
 //! Shapes that are chosen by the value of another attribute.
 
 ghost use Rattle.std.specs.Prelude.{ℕ, ◌≡◌, ◌==◌, ◌&&◌, IfNone, IfSome, List, None, Some, bytes_eq, true};
+ghost use Rattle.netlink_family.specs.Choices.{AreChoices};
 ghost use Rattle.netlink_family.specs.Listing.{first_of, listed};
 ghost use Rattle.netlink_family.specs.Policies.{IsPart};
 ghost use Rattle.netlink_family.specs.Shapes.{CachesOther, choice_at, choice_by, resolved, rows_in, shape_among, shape_in, within, are_sorted};
@@ -53,7 +54,24 @@ pub(crate) fn far_row_shape(rows: &[Row], policy: u16, kind: u16) -> Shape
     searched_shape(rows, policy, kind)
 }
 
-/// Like `shape_among`, for a kind that is looked up among `own`, rows among which are all of the policy.
+/// Like `shape_among`, with the shapes that were chosen kept in `choices`.
+#[inline(always)]
+pub(crate) fn kept_shape_among(
+    rows: &[Row],
+    policy: u16,
+    block: &[u8],
+    kind: u16,
+    choices: &mut Choices,
+) -> Shape
+    requires sorted { are_sorted (rows_in rows.now) ≡ true }
+    requires choices { AreChoices (within (rows_in rows.now) block.now) choices.old }
+    ensures shape { result ≡ shape_among (within (rows_in rows.now) block.now) policy kind }
+    ensures choices { AreChoices (within (rows_in rows.now) block.now) choices.new }
+{
+    kept(rows, block, row_shape(rows, policy, kind), choices)
+}
+
+/// The same for a kind that is looked up among `own`, rows among which are all of the policy.
 #[inline(always)]
 pub(crate) fn own_shape_among(
     rows: &[Row],
@@ -61,12 +79,15 @@ pub(crate) fn own_shape_among(
     policy: u16,
     block: &[u8],
     kind: u16,
+    choices: &mut Choices,
 ) -> Shape
     requires sorted { are_sorted (rows_in rows.now) ≡ true }
     requires own { IsPart policy (rows_in rows.now) (rows_in own.now) }
-    ensures { result ≡ shape_among (within (rows_in rows.now) block.now) policy kind }
+    requires choices { AreChoices (within (rows_in rows.now) block.now) choices.old }
+    ensures shape { result ≡ shape_among (within (rows_in rows.now) block.now) policy kind }
+    ensures choices { AreChoices (within (rows_in rows.now) block.now) choices.new }
 {
-    resolved(rows, block, row_shape(own, policy, kind))
+    kept(rows, block, row_shape(own, policy, kind), choices)
 }
 
 /// The same, with the shape of the kinds without a row kept in `other`.
@@ -78,14 +99,17 @@ pub(crate) fn cached_own_shape(
     block: &[u8],
     kind: u16,
     other: &mut Option<Shape>,
+    choices: &mut Choices,
 ) -> Shape
     requires sorted { are_sorted (rows_in rows.now) ≡ true }
     requires own { IsPart policy (rows_in rows.now) (rows_in own.now) }
     requires other { CachesOther (rows_in own.now) policy other.old }
+    requires choices { AreChoices (within (rows_in rows.now) block.now) choices.old }
     ensures shape { result ≡ shape_among (within (rows_in rows.now) block.now) policy kind }
     ensures other { CachesOther (rows_in own.now) policy other.new }
+    ensures choices { AreChoices (within (rows_in rows.now) block.now) choices.new }
 {
-    resolved(rows, block, cached_shape(own, policy, kind, other))
+    kept(rows, block, cached_shape(own, policy, kind, other), choices)
 }
 
 /// Like `shape_among`, with the shape of the kinds without a row kept in `other`.
@@ -96,13 +120,105 @@ pub(crate) fn cached_shape_among(
     block: &[u8],
     kind: u16,
     other: &mut Option<Shape>,
+    choices: &mut Choices,
 ) -> Shape
     requires sorted { are_sorted (rows_in rows.now) ≡ true }
     requires other { CachesOther (rows_in rows.now) policy other.old }
+    requires choices { AreChoices (within (rows_in rows.now) block.now) choices.old }
     ensures shape { result ≡ shape_among (within (rows_in rows.now) block.now) policy kind }
     ensures other { CachesOther (rows_in rows.now) policy other.new }
+    ensures choices { AreChoices (within (rows_in rows.now) block.now) choices.new }
 {
-    resolved(rows, block, cached_shape(rows, policy, kind, other))
+    kept(
+        rows,
+        block,
+        cached_shape(rows, policy, kind, other),
+        choices,
+    )
+}
+
+/// A shape that the first attribute of a kind chooses in a policy.
+#[derive(Clone, Copy, Debug, PartialEq, Eq)]
+pub struct Choice {
+    /// The kind of the attribute that chooses.
+    pub by: u16,
+    /// The policy with a row for each value.
+    pub policy: u16,
+    /// The shape.
+    pub shape: Shape,
+}
+
+/// The last two shapes that attributes of a block chose, from the second time on that one is asked for.
+/// So a block of many attributes is walked for the first and once for each kind that chooses, even if
+/// they ask by turns, and a block with one costs no more than without.
+#[derive(Clone, Copy, Debug, PartialEq, Eq)]
+pub struct Choices {
+    /// Whether one was asked for.
+    pub is_asked: bool,
+    /// The one that was asked for last.
+    pub last: Option<Choice>,
+    /// The one before it.
+    pub before: Option<Choice>,
+}
+
+/// Before any was asked for.
+pub(crate) const NO_CHOICES: Choices = Choices {
+    is_asked: false,
+    last: None,
+    before: None,
+};
+
+/// Returns the chosen shape, or the shape itself if it is not chosen by a value. Keeps what was chosen.
+#[inline(always)]
+fn kept(rows: &[Row], block: &[u8], shape: Shape, choices: &mut Choices) -> Shape
+    requires sorted { are_sorted (rows_in rows.now) ≡ true }
+    requires choices { AreChoices (within (rows_in rows.now) block.now) choices.old }
+    ensures shape { result ≡ resolved (within (rows_in rows.now) block.now) shape }
+    ensures choices { AreChoices (within (rows_in rows.now) block.now) choices.new }
+{
+    match shape {
+        Shape::Chosen { by, policy } => {
+            if choices.is_asked {
+                return kept_choice(rows, policy, block, by, choices);
+            }
+            choices.is_asked = true;
+            chosen_shape(rows, policy, block, by)
+        }
+        _ => shape,
+    }
+}
+
+/// Returns the shape that the first attribute of a kind chooses. Walks the block only if it is not one
+/// of the last two that were asked for.
+#[inline(never)]
+fn kept_choice(rows: &[Row], policy: u16, block: &[u8], by: u16, choices: &mut Choices) -> Shape
+    requires sorted { are_sorted (rows_in rows.now) ≡ true }
+    requires choices { AreChoices (within (rows_in rows.now) block.now) choices.old }
+    ensures shape { result ≡ choice_by (rows_in rows.now) policy (first_of by (listed block.now)) }
+    ensures choices { AreChoices (within (rows_in rows.now) block.now) choices.new }
+{
+    if let Some(shape) = shape_of(choices.last, by, policy) {
+        return shape;
+    }
+    let shape = match shape_of(choices.before, by, policy) {
+        Some(shape) => shape,
+        None => chosen_shape(rows, policy, block, by),
+    };
+    choices.before = choices.last;
+    choices.last = Some(Choice { by, policy, shape });
+    shape
+}
+
+/// Returns the shape of a choice, if it is that of this kind and policy.
+#[inline(always)]
+fn shape_of(choice: Option<Choice>, by: u16, policy: u16) -> Option<Shape>
+    ensures { IfSome result (λ shape. choice ≡ Some (record { by = by; policy = policy; shape = shape })) }
+{
+    let choice = choice?;
+    if choice.by == by && choice.policy == policy {
+        return Some(choice.shape);
+    }
+    None
 }
 
 /// Returns the chosen shape, or the shape itself if it is not chosen by a value.

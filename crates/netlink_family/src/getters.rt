@@ -10,7 +10,7 @@ ghost use Rattle.netlink_family.specs.Values.{NestHasRows, IsValueOf, value_shap
 
 use crate::attributes::Attributes;
 use crate::block_view::BlockView;
-use crate::choice::{chosen_by, far_row_shape, near_shape};
+use crate::choice::{NO_CHOICES, chosen_by, far_row_shape, near_shape};
 use crate::find::first_whole;
 use crate::header_view::HeaderView;
 use crate::shape::{Shape, nest_block, policy_of};
@@ -277,6 +277,7 @@ impl<'a> BlockView<'a> {
             policy: self.policy,
             block: self.block,
             other: None,
+            choices: NO_CHOICES,
         }
     }
 }

@@ -1,8 +1,9 @@
 //! Whether an attribute that is appended changes the shapes of those before it.
 
-ghost use Rattle.std.specs.Prelude.{◌≡◌, ◌&&◌, IfNone, None, true};
+ghost use Rattle.std.specs.Prelude.{◌≡◌, ◌&&◌, IfNone, None, is_some, true};
 ghost use Rattle.std.specs.List.{list_all};
-ghost use Rattle.netlink_family.specs.Listing.{listed};
+ghost use Rattle.netlink_packet_core.specs.Views.{masked};
+ghost use Rattle.netlink_family.specs.Listing.{first_of, listed};
 ghost use Rattle.netlink_family.specs.Pushing.{added_error, chooses, is_chosen_by, is_late, keeps_shape, late_error};
 ghost use Rattle.netlink_family.specs.Shapes.{fits_kind, rows_in, within, are_sorted};
 
@@ -68,7 +69,8 @@ fn keeps_shapes(rows: &[Row], block: &[u8], kind: u16) -> bool
     ensures { result ≡ (keeps_shape (within (rows_in rows.now) block.now) kind kind
         && list_all (λ a. keeps_shape (within (rows_in rows.now) block.now) kind a.kind) (listed block.now)) }
 {
-    keeps_shape(rows, block, kind, kind) && keeps_all(rows, block, kind)
+    let is_there = first_value(block, kind & NLA_TYPE_MASK).is_some();
+    keeps_shape(rows, block, kind, kind, is_there) && keeps_all(rows, block, kind, is_there)
 }
 
 /// Returns whether a kind chooses the shape of some kind of a message's own attributes. Their rows
@@ -102,15 +104,17 @@ fn is_chosen_by(kind: u16, shape: Shape) -> bool
     }
 }
 
-/// Returns whether one more attribute of a kind keeps the shapes of the attributes of a block.
-fn keeps_all(rows: &[Row], block: &[u8], kind: u16) -> bool
+/// Returns whether one more attribute of a kind keeps the shapes of the attributes of a block, in which
+/// an attribute of this kind may be already.
+fn keeps_all(rows: &[Row], block: &[u8], kind: u16, is_there: bool) -> bool
     requires sorted { are_sorted (rows_in rows.now) ≡ true }
+    requires there { is_there ≡ is_some (first_of (masked kind) (listed block.now)) }
     ensures { result ≡ list_all (λ a. keeps_shape (within (rows_in rows.now) block.now) kind a.kind) (listed block.now) }
 {
     for item in NlasIterator::new(block) {
         match item {
             Ok(nla) => {
-                if !keeps_shape(rows, block, kind, nla.raw_kind()) {
+                if !keeps_shape(rows, block, kind, nla.raw_kind(), is_there) {
                     return false;
                 }
             }
@@ -120,11 +124,12 @@ fn keeps_all(rows: &[Row], block: &[u8], kind: u16) -> bool
     true
 }
 
-/// Returns whether one more attribute of a kind keeps the shape of a kind.
-fn keeps_shape(rows: &[Row], block: &[u8], kind: u16, other: u16) -> bool
+/// Returns whether one more attribute of a kind keeps the shape of a kind, in a block in which an
+/// attribute of that kind may be already.
+fn keeps_shape(rows: &[Row], block: &[u8], kind: u16, other: u16, is_there: bool) -> bool
     requires sorted { are_sorted (rows_in rows.now) ≡ true }
+    requires there { is_there ≡ is_some (first_of (masked kind) (listed block.now)) }
     ensures { result ≡ keeps_shape (within (rows_in rows.now) block.now) kind other }
 {
-    !is_chosen_by(kind, row_shape(rows, TOP, other))
-        || first_value(block, kind & NLA_TYPE_MASK).is_some()
+    !is_chosen_by(kind, row_shape(rows, TOP, other)) || is_there
 }

@@ -35,6 +35,7 @@ pub use crate::block_index::BlockIndex;
 pub use crate::block_view::BlockView;
 pub use crate::both::{Both, Join, Joined};
 pub use crate::checked::CheckedAttributes;
+pub use crate::choice::{Choice, Choices};
 pub use crate::error::FamilyError;
 pub use crate::family::{Family, Table, is_among, is_short, shape_of};
 pub use crate::header_view::{Field, HeaderView};

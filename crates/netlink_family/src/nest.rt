@@ -4,7 +4,7 @@ ghost use Rattle.std.specs.Prelude.{◌≡◌, true};
 ghost use Rattle.netlink_family.specs.Shapes.{is_block_shaped, is_shaped, rows_in, are_sorted};
 
 use crate::attribute_error::rows_for;
-use crate::choice::cached_own_shape;
+use crate::choice::{NO_CHOICES, cached_own_shape};
 use crate::shape::{Row, Shape, has_shape, nest_block, policy_of};
 use netlink_packet_core::NlasIterator;
 
@@ -39,10 +39,19 @@ fn is_block_shaped(levels: u8, rows: &[Row], policy: u16, block: &[u8]) -> bool
     // Rows among which are all of the policy.
     let own = rows_for(rows, policy, block);
     let mut other = None;
+    let mut choices = NO_CHOICES;
     for item in NlasIterator::new(block) {
         match item {
             Ok(nla) => {
-                let shape = cached_own_shape(rows, own, policy, block, nla.raw_kind(), &mut other);
+                let shape = cached_own_shape(
+                    rows,
+                    own,
+                    policy,
+                    block,
+                    nla.raw_kind(),
+                    &mut other,
+                    &mut choices,
+                );
                 if !is_shaped(levels, rows, shape, nla.value()) {
                     return false;
                 }

@@ -2,10 +2,10 @@
 
 ghost use Rattle.std.specs.Prelude.{◌≡◌, ◌+◌, ◌<◌, ◌++◌, [], ◌∷◌, IfOk, OnOk, decimal, drop, string_bytes, take, true};
 ghost use Rattle.std.specs.Fmt.{signed_decimal};
-ghost use Rattle.netlink_family.specs.Shapes.{fields_in, rows_in, within, are_sorted};
+ghost use Rattle.netlink_family.specs.Shapes.{fields_in, rows_in, shape_among, within, are_sorted};
 ghost use Rattle.netlink_family.specs.Show.{value_line, block_lines, each_of, field_lines, fixed_size, label_text, nest_line, indent, escaped, message_text, name_in, value_lines, value_text};
 
-use crate::choice::shape_among;
+use crate::choice::{NO_CHOICES, kept_shape_among};
 use crate::family::{Table, rows_of};
 use crate::header_view::Field;
 use crate::shape::{
@@ -109,19 +109,14 @@ fn push_block(
     ensures { OnOk result (string_bytes text.new ≡ string_bytes text.old
         ++ block_lines levels (rows_in rows.now) policy depth block.now) }
 {
+    let mut choices = NO_CHOICES;
     for item in NlasIterator::new(block) {
         match item {
             Ok(nla) => {
-                push_attribute(
-                    text,
-                    levels,
-                    rows,
-                    policy,
-                    depth,
-                    block,
-                    nla.raw_kind(),
-                    nla.value(),
-                )?;
+                let kind = nla.raw_kind();
+                let shape = kept_shape_among(rows, policy, block, kind, &mut choices);
+                let value = nla.value();
+                push_attribute(text, levels, rows, policy, depth, block, shape, kind, value)?;
             }
             Err(_) => return Ok(()),
         }
@@ -129,7 +124,7 @@ fn push_block(
     Ok(())
 }
 
-/// Appends the lines of an attribute of the block `around`.
+/// Appends the lines of an attribute, whose kind has this shape in the block around it.
 #[cycle(lines)]
 fn push_attribute(
     text: &mut String,
@@ -137,17 +132,18 @@ fn push_attribute(
     rows: &[Row],
     policy: u16,
     depth: u8,
-    around: &[u8],
+    _around: &[u8],
+    shape: Shape,
     kind: u16,
     value: &[u8],
 ) -> Result<(), AllocError>
     requires sorted { are_sorted (rows_in rows.now) ≡ true }
     requires room { depth + levels < 256 }
+    requires shape { shape ≡ shape_among (within (rows_in rows.now) _around.now) policy kind }
     ensures { OnOk result (string_bytes text.new ≡ string_bytes text.old
-        ++ value_lines levels (within (rows_in rows.now) around.now) policy depth kind value.now) }
+        ++ value_lines levels (within (rows_in rows.now) _around.now) policy depth kind value.now) }
 {
     push_label(text, rows, policy, depth, kind)?;
-    let shape = shape_among(rows, policy, around, kind);
     match policy_of(shape) {
         None => {
             push_value_line(text, shape, value)?;

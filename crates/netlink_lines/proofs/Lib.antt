@@ -1,7 +1,6 @@
 pub mod Datagrams
 pub mod Frames
 pub mod Hops
-pub mod Index
 pub mod Joined
 pub mod Layouts
 pub mod Listed
@@ -10,6 +9,7 @@ pub mod OncePackets
 pub mod Packets
 pub mod Pieces
 pub mod Properties
+pub mod Queue
 pub mod Reading
 pub mod Running
 pub mod Shown

@@ -13,6 +13,7 @@ pub mod LinkAddress
 pub mod LinkNames
 pub mod LinkParts
 pub mod Messages
+pub mod NameQueue
 pub mod NameTable
 pub mod Names
 pub mod Namespace

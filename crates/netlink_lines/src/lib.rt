@@ -21,6 +21,7 @@ mod link_names;
 mod link_parts;
 mod messages;
 mod name;
+mod name_queue;
 mod name_table;
 mod names;
 mod namespace;

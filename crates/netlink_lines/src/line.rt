@@ -41,7 +41,8 @@ pub trait Line: Family {
         ensures learned { OnOk result (known.new.items
             ≡ known_by (message.now.message_type, message.now.payload.now) known.old.items) };
 
-    /// Returns the line of a message as `line` does, by names that may have an index.
+    /// Returns the line of a message as `line` does, by names that may be in a queue. Without another
+    /// body, those are copied to a list.
     fn line_by(
         alloc: Global,
         known: &Names<'_>,
@@ -50,12 +51,14 @@ pub trait Line: Family {
         ensures line { IfOk result (λ text. option_map string_bytes text
             ≡ route_line known.now (message.now.message_type, message.now.payload.now)) }
     {
-        Self::line(alloc, known.list(), message)
+        match known.queue {
+            Some(queue) => Self::line(alloc, &queue.list(alloc)?, message),
+            None => Self::line(alloc, known.list, message),
+        }
     }
 
-    /// Updates the names of links by a message as `learn` does, and the index of the names, if they
-    /// have one. Without another body, `learn` may change any name, so that the names have no index
-    /// from then on.
+    /// Updates the names of links by a message as `learn` does. Without another body, the names are a
+    /// list from then on, which `learn` may change in any way.
     fn learn_by(
         alloc: Global,
         known: &mut NameTable,
@@ -64,8 +67,10 @@ pub trait Line: Family {
         ensures learned { OnOk result (known.new
             ≡ known_by (message.now.message_type, message.now.payload.now) known.old) }
     {
-        known.index = None;
-        Self::learn(alloc, &mut known.known, message)
+        let mut list = known.take_list(alloc)?;
+        let learned = Self::learn(alloc, &mut list, message);
+        known.set_list(list);
+        learned
     }
 }
 

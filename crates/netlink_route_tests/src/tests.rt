@@ -6,6 +6,7 @@ mod calls;
 mod captured;
 mod errors;
 mod getters;
+mod growth;
 mod mark;
 mod memory_not_asked;
 mod memory_refused;

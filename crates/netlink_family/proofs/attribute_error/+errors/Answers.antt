@@ -47,6 +47,9 @@ shape_error-returns-then-is_fine t c = λ around same.
     sym (value_flat c.args.levels (within (rows_in c.args.rows.now) around) c.args.policy c.args.at c.args.kind c.args.value.now c.args.shape
     same (is_nothing (nest_of c.args.shape) fine.0) fine.1)
 
+pub error_in-loop-item-init : goal.error_in-loop-item-init
+error_in-loop-item-init t c = (search rules, ((λ choice none. absurd (cc)), (λ choice none. absurd (cc))))
+
 pub error_in-returns-then-is_some : goal.error_in-returns-then-is_some
 error_in-returns-then-is_some t c =
     let step = rw c.in-Ok.is at c.in-Some.ensures.steps in
@@ -55,8 +58,8 @@ error_in-returns-then-is_some t c =
     let value : c.value.result.now ≡ (attribute_of bytes).value = c.value.ensures.bytes ∙ ap (λ (b : List ℕ). (attribute_of b).value) step.0 in
     let is : is_some c.shape_error-error.result ≡ true = search rules in
     sym (at_attribute c.args.levels (within (rows_in c.args.rows.now) c.args.block.now) c.args.policy c.args.end c.args.block.now c.loop-item.left bytes (unread c.next.new.self)
-    (c.args.end - c.loop-item.left) c.raw_kind-kind.result c.value.result.now c.shape_error-error.result c.loop-item.invariant step.2 refl kind value
-    (c.shape_error-error.ensures c.args.block.now c.own_shape_among-shape.ensures)
+    (c.args.end - c.loop-item.left) c.raw_kind-kind.result c.value.result.now c.shape_error-error.result c.loop-item.invariant.0 step.2 refl kind value
+    (c.shape_error-error.ensures c.args.block.now c.own_shape_among-shape.ensures.shape)
     ∙ first_found c.shape_error-error.result (error_in c.args.levels (within (rows_in c.args.rows.now) c.args.block.now) c.args.policy c.args.end (unread c.next.new.self)) is)
 
 pub error_in-loop-item-preserved : goal.error_in-loop-item-preserved
@@ -65,11 +68,13 @@ error_in-loop-item-preserved t c =
     let bytes : List ℕ = unread c.loop-item.item-iterator in
     let kind : c.raw_kind-kind.result ≡ (attribute_of bytes).kind = c.raw_kind-kind.ensures.number ∙ ap (λ (b : List ℕ). (attribute_of b).kind) step.0 in
     let value : c.value.result.now ≡ (attribute_of bytes).value = c.value.ensures.bytes ∙ ap (λ (b : List ℕ). (attribute_of b).value) step.0 in
-    let is : is_some c.shape_error-error.result ≡ false = search rules in
-    fine_later c.args.levels (within (rows_in c.args.rows.now) c.args.block.now) c.args.policy c.args.end c.args.block.now c.loop-item.left bytes (unread c.next.new.self)
-    (c.args.end - c.loop-item.left) c.raw_kind-kind.result c.value.result.now c.shape_error-error.result c.length.result c.left_after-left.result
-    c.loop-item.invariant step.2 refl kind value (c.shape_error-error.ensures c.args.block.now c.own_shape_among-shape.ensures) (none_found c.shape_error-error.result is)
-    (c.length.ensures.number ∙ ap length_field step.0) c.left_after-left.ensures
+    let is : is_some c.shape_error-error.result ≡ false = search rules in (
+      fine_later c.args.levels (within (rows_in c.args.rows.now) c.args.block.now) c.args.policy c.args.end c.args.block.now c.loop-item.left bytes (unread c.next.new.self)
+          (c.args.end - c.loop-item.left) c.raw_kind-kind.result c.value.result.now c.shape_error-error.result c.length.result c.left_after-left.result
+          c.loop-item.invariant.0 step.2 refl kind value (c.shape_error-error.ensures c.args.block.now c.own_shape_among-shape.ensures.shape) (none_found c.shape_error-error.result is)
+          (c.length.ensures.number ∙ ap length_field step.0) c.left_after-left.ensures,
+      c.own_shape_among-shape.ensures.choices,
+    )
 
 pub error_in-returns-in-Err : goal.error_in-returns-in-Err
 error_in-returns-in-Err t c =
@@ -77,9 +82,9 @@ error_in-returns-in-Err t c =
     let why = c.decode_reason.ensures in
     ap (λ (w : Reason). Some (error_at c.args.policy (c.args.end - c.loop-item.left) w)) why
     ∙ sym (malformed_here c.args.levels (within (rows_in c.args.rows.now) c.args.block.now) c.args.policy c.args.end c.args.block.now c.loop-item.left
-    (unread c.loop-item.item-iterator) (c.args.end - c.loop-item.left) c.in-Err.malformed c.loop-item.invariant refl step.0 step.1)
+    (unread c.loop-item.item-iterator) (c.args.end - c.loop-item.left) c.in-Err.malformed c.loop-item.invariant.0 refl step.0 step.1)
 
 pub error_in-returns : goal.error_in-returns
 error_in-returns t c =
     sym (fine_ends c.args.levels (within (rows_in c.args.rows.now) c.args.block.now) c.args.policy c.args.end c.args.block.now c.loop-item.left
-    (unread c.loop-item.item-iterator) c.loop-item.invariant c.in-None.ensures.steps.0)
+    (unread c.loop-item.item-iterator) c.loop-item.invariant.0 c.in-None.ensures.steps.0)

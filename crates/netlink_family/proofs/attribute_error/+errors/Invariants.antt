@@ -1,5 +1,6 @@
 use Rattle.std.proofs.Common.{◌+◌, ◌*◌}
 use Rattle.netlink_packet_core.specs.Steps.{unread}
+use Rattle.netlink_family.specs.Choices.{AreChoices}
 use Rattle.netlink_family.specs.Shapes.{rows_in, within}
 use Rattle.netlink_family.proofs.FirstErrors.{AreFine}
 use Rattle.netlink_family.proofs.attribute_error.+errors.Given as goal
@@ -16,3 +17,4 @@ decreases-error_in l = 3 * l.levels + 2
 abbrev pub invariant-error_in-loop-item : goal.invariant-error_in-loop-item
 invariant-error_in-loop-item l =
     AreFine l.levels (within (rows_in l.rows) l.block) l.policy l.end l.block l.left (unread l.item-iterator)
+    × AreChoices (within (rows_in l.rows) l.block) l.choices

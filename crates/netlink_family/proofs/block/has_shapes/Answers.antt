@@ -13,29 +13,31 @@ loop-item-init c =
         whole = λ yes is. absurd (cc);
       },
       λ shape none. absurd (cc),
+      ((λ choice none. absurd (cc)), (λ choice none. absurd (cc))),
     )
 
 pub returns-then-not-fits_kind : goal.returns-then-not-fits_kind
 returns-then-not-fits_kind c =
     let step = rw c.in-Ok.is at c.in-Some.ensures.steps in
     let bytes : List ℕ = unread c.loop-item.item-iterator in
-    let kind : c.raw_kind.result ≡ (attribute_of bytes).kind = c.raw_kind.ensures.number ∙ ap (λ (b : List ℕ). (attribute_of b).kind) step.0 in
+    let kind : c.raw_kind-kind.result ≡ (attribute_of bytes).kind = c.raw_kind-kind.ensures.number ∙ ap (λ (b : List ℕ). (attribute_of b).kind) step.0 in
     let value : c.value.result.now ≡ (attribute_of bytes).value = c.value.ensures.bytes ∙ ap (λ (b : List ℕ). (attribute_of b).value) step.0 in
     let other : c.fits_kind.result ≡ false = search rules in
     sym (misfit_next (within (rows_in c.args.rows.now) c.args.block.now) (unread c.args.walk) bytes (unread c.next.new.self) false
-    c.raw_kind.result c.value.result.now c.fits_kind.result c.loop-item.invariant.0 step.2 kind value c.fits_kind.ensures.fits other)
+    c.raw_kind-kind.result c.value.result.now c.fits_kind.result c.loop-item.invariant.0 step.2 kind value c.fits_kind.ensures.fits other)
 
 pub loop-item-preserved : goal.loop-item-preserved
 loop-item-preserved c =
     let step = rw c.in-Ok.is at c.in-Some.ensures.steps in
     let bytes : List ℕ = unread c.loop-item.item-iterator in
-    let kind : c.raw_kind.result ≡ (attribute_of bytes).kind = c.raw_kind.ensures.number ∙ ap (λ (b : List ℕ). (attribute_of b).kind) step.0 in
+    let kind : c.raw_kind-kind.result ≡ (attribute_of bytes).kind = c.raw_kind-kind.ensures.number ∙ ap (λ (b : List ℕ). (attribute_of b).kind) step.0 in
     let value : c.value.result.now ≡ (attribute_of bytes).value = c.value.ensures.bytes ∙ ap (λ (b : List ℕ). (attribute_of b).value) step.0 in
     let fit : c.fits_kind.result ≡ true = search rules in (
       more_checked (within (rows_in c.args.rows.now) c.args.block.now) (unread c.args.walk) bytes (unread c.next.new.self) false
-          false false c.raw_kind.result c.value.result.now c.fits_kind.result
+          false false c.raw_kind-kind.result c.value.result.now c.fits_kind.result
           c.loop-item.invariant.0 step.2 kind value c.fits_kind.ensures.fits fit refl (λ padded. absurd (cc)),
       c.fits_kind.ensures.other,
+      c.fits_kind.ensures.choices,
     )
 
 pub returns-in-Err : goal.returns-in-Err

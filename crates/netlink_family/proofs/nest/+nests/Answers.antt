@@ -32,8 +32,11 @@ is_shaped-returns-else-levels-eq0 t c =
 
 pub is_block_shaped-loop-item-init : goal.is_block_shaped-loop-item-init
 is_block_shaped-loop-item-init t c =
-    let same : unread c.into_iter-item-iterator.result ≡ c.args.block.now = search rules in
-    (ap (are_shaped c.args.levels (within (rows_in c.args.rows.now) c.args.block.now) c.args.policy) (sym same), λ shape none. absurd (cc))
+    let same : unread c.into_iter-item-iterator.result ≡ c.args.block.now = search rules in (
+      ap (are_shaped c.args.levels (within (rows_in c.args.rows.now) c.args.block.now) c.args.policy) (sym same),
+      λ shape none. absurd (cc),
+      ((λ choice none. absurd (cc)), (λ choice none. absurd (cc))),
+    )
 
 pub is_block_shaped-returns-then-not-is_shaped : goal.is_block_shaped-returns-then-not-is_shaped
 is_block_shaped-returns-then-not-is_shaped t c =
@@ -57,6 +60,7 @@ is_block_shaped-loop-item-preserved t c =
           c.raw_kind.result c.value.result.now c.cached_own_shape-shape.result c.is_shaped.result true
           c.loop-item.invariant.0 step.2 kind value c.cached_own_shape-shape.ensures.shape c.is_shaped.ensures is,
       c.cached_own_shape-shape.ensures.other,
+      c.cached_own_shape-shape.ensures.choices,
     )
 
 pub is_block_shaped-returns-in-Err : goal.is_block_shaped-returns-in-Err

@@ -1,5 +1,6 @@
 use Rattle.std.proofs.Common.{◌+◌, ◌*◌, ◌≡◌}
 use Rattle.netlink_packet_core.specs.Steps.{unread}
+use Rattle.netlink_family.specs.Choices.{AreChoices}
 use Rattle.netlink_family.specs.Shapes.{CachesOther, are_shaped, rows_in, within}
 use Rattle.netlink_family.proofs.nest.+nests.Given as goal
 
@@ -14,3 +15,4 @@ invariant-is_block_shaped-loop-item l =
     (are_shaped l.levels (within (rows_in l.rows) l.block) l.policy l.block
     ≡ are_shaped l.levels (within (rows_in l.rows) l.block) l.policy (unread l.item-iterator))
     × CachesOther (rows_in l.own) l.policy l.other
+    × AreChoices (within (rows_in l.rows) l.block) l.choices

@@ -1,5 +1,6 @@
 use Rattle.std.proofs.Common.{◌≡◌, ◌+◌, ◌*◌, ◌++◌, string_bytes}
 use Rattle.netlink_packet_core.specs.Steps.{unread}
+use Rattle.netlink_family.specs.Choices.{AreChoices}
 use Rattle.netlink_family.specs.Shapes.{rows_in, within}
 use Rattle.netlink_family.specs.Show.{lines_in, value_lines}
 use Rattle.netlink_family.proofs.show.+lines.Given as goal
@@ -13,5 +14,6 @@ decreases-push_block l = 2 * l.levels + 1
 -- the text still to be appended is that of the unread attributes
 abbrev pub invariant-push_block-loop-item : goal.invariant-push_block-loop-item
 invariant-push_block-loop-item l =
-    string_bytes l.fn.text ++ lines_in (value_lines l.levels (within (rows_in l.rows) l.block) l.policy l.depth) l.block
-    ≡ string_bytes l.text ++ lines_in (value_lines l.levels (within (rows_in l.rows) l.block) l.policy l.depth) (unread l.item-iterator)
+    (string_bytes l.fn.text ++ lines_in (value_lines l.levels (within (rows_in l.rows) l.block) l.policy l.depth) l.block
+    ≡ string_bytes l.text ++ lines_in (value_lines l.levels (within (rows_in l.rows) l.block) l.policy l.depth) (unread l.item-iterator))
+    × AreChoices (within (rows_in l.rows) l.block) l.choices

@@ -1,7 +1,7 @@
 use Rattle.std.proofs.Common.{◌≡◌, ◌∙◌, ap, arith, inl, inr, length, rules}
 use Rattle.std.proofs.lemmas.Fn.{filter_same}
 use Rattle.netlink_lines.specs.Known.{without}
-use Rattle.netlink_lines.proofs.Index.{without_or_less}
+use Rattle.netlink_lines.proofs.Queue.{without_or_less}
 use Rattle.netlink_lines.proofs.known.forget.Goals as goal
 
 pub returns-clause-list : goal.returns-clause-list

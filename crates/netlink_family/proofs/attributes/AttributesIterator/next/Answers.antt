@@ -15,6 +15,7 @@ invariant_of-self c =
       shaped =
           shaped_rest (within (rows_in all.rows.now) all.block.now) all.policy (unread all.walk) c.next.result (unread c.next.new.self) c.next.ensures.steps all.shaped;
       kept = all.kept;
+      chosen = all.chosen;
     }
 
 pub invariant_of-self-in-Ok-clause-shaped : goal.invariant_of-self-in-Ok-clause-shaped

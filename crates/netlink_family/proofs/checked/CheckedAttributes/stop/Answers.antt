@@ -19,4 +19,5 @@ invariant_of-self g c =
       passed =
           λ some. absurd (none_left (within (g.F.Table.rows all.message_type) all.block.now) all.end
           (unread c.new-self.result) c.new-self.ensures.keeps some);
+      chosen = all.chosen;
     }

@@ -35,6 +35,7 @@ invariant_of-self g c =
           (rest_error (within (g.F.Table.rows all.message_type) all.block.now) all.end (unread c.next.new.self))
           (fit_next (within (g.F.Table.rows all.message_type) all.block.now) all.end bytes (unread c.next.new.self) c.raw_kind-kind.result c.value-value.result.now
           c.fits_shape.result step.2 kind value tested fit) all.passed;
+      chosen = c.kept_shape_among-shape.ensures.choices;
     }
 
 pub value_in-requires : goal.value_in-requires
@@ -42,12 +43,12 @@ value_in-requires g c =
     let all = c.args.self.now in
     let fit : c.fits_shape.result ≡ true = search rules in
     let fits =
-    ap (λ (s : Shape). is_shaped nest_levels (rows_in all.rows.now) s c.value-value.result.now) c.shape_among-shape.ensures
+    ap (λ (s : Shape). is_shaped nest_levels (rows_in all.rows.now) s c.value-value.result.now) c.kept_shape_among-shape.ensures.shape
     ∙ sym c.fits_shape.ensures ∙ fit in
     record {
       sorted = ap are_sorted all.table ∙ g.met.F.Table.sorted all.message_type;
-      shape = shaped_has nest_levels (rows_in all.rows.now) c.shape_among-shape.result c.value-value.result.now fits;
-      nest = shaped_nests (rows_in all.rows.now) c.shape_among-shape.result c.value-value.result.now fits;
+      shape = shaped_has nest_levels (rows_in all.rows.now) c.kept_shape_among-shape.result c.value-value.result.now fits;
+      nest = shaped_nests (rows_in all.rows.now) c.kept_shape_among-shape.result c.value-value.result.now fits;
     }
 
 pub last-requires : goal.last-requires
@@ -87,7 +88,7 @@ returns-then-fits_shape-clause-steps g c =
           step.2,
           kind,
           rw value at c.value_in.ensures.value_is,
-          c.value_in.ensures.shape ∙ c.shape_among-shape.ensures
+          c.value_in.ensures.shape ∙ c.kept_shape_among-shape.ensures.shape
               ∙ ap (λ (r : List Row). shape_among (within r all.block.now) 0 c.raw_kind-kind.result) all.table
               ∙ ap (λ (k : ℕ). shape_among (within (g.F.Table.rows all.message_type) all.block.now) 0 k) kind,
           subst (λ (r : List Row). NestHasRows r c.value_in.result) all.table c.value_in.ensures.nest,
