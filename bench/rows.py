@@ -162,7 +162,7 @@ GROWTH = [
     ("`MessageView::new`", "route_view_read", "shapes chosen by turns", lambda n: link(by_turns(n))),
     ("the same", "route_view_read", "no kind", lambda n: link(n * attribute(DATA, b""))),
     ("its error", "route_error", "an error after shapes chosen by turns",
-        lambda n: link(by_turns(n) + attribute(KIND, b""))),
+        lambda n: link(by_turns(n) + b"\3\0\0\0")),
     ("and an iteration", "route_view_look", "shapes chosen by turns", lambda n: link(by_turns(n))),
     ("and `show`", "route_show", "shapes chosen by turns", lambda n: link(by_turns(n))),
     ("and `first`", "route_first", "the kind is the last", lambda n: frame(16, bytes(16) + last(n))),

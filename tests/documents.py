@@ -11,6 +11,8 @@ console                Each line `$ COMMAND` is followed by exactly the lines th
                        `./netlink_NAME` in it runs the built program and ignores `--quick` and `--verbose`.
 text                   The block is not checked.
 
+The table of sizes in docs/CONTRIBUTING.md, and docs/crates.svg, are what tests/layers.py makes.
+
 Any other language, a fence that is not closed, and indented code are failures. A link must lead to a file or folder of
 the repository, and an anchor to a heading of that Markdown file.
 """
@@ -23,6 +25,7 @@ from itertools import zip_longest
 from textwrap import dedent
 from urllib.parse import unquote
 
+import layers
 from built import TOP, run, tally
 
 # The documents that are not checked yet.
@@ -150,9 +153,18 @@ def checks_of(document):
             yield number, f"the fence must name rattle, antt, c, rust, console or text, and has `{part[0]}`"
 
 
+def wrong_sizes():
+    """Yields for what tests/layers.py makes the document and the line, and how they differ, or None."""
+    text, table = text_of("docs/CONTRIBUTING.md"), "\n".join(layers.table())
+    line = text.count("\n", 0, text.find("| crate | lines |")) + 1
+    yield "docs/CONTRIBUTING.md", line, None if table in text else "the table is not that of `tests/layers.py table`"
+    is_same = text_of("docs/crates.svg") == "\n".join(layers.picture()) + "\n"
+    yield "docs/crates.svg", 1, None if is_same else "it is not the output of `tests/layers.py picture`"
+
+
 def main():
     documents = {"README.md", *(f"docs/{it}" for it in os.listdir(os.path.join(TOP, "docs")) if it.endswith(".md"))}
-    checks = [(it, *check) for it in sorted(documents - EXEMPT) for check in checks_of(it)]
+    checks = [(it, *check) for it in sorted(documents - EXEMPT) for check in checks_of(it)] + [*wrong_sizes()]
     failures = [f"{document}, line {number}: {wrong}" for document, number, wrong in checks if wrong]
     tally("documents", failures, len(checks) - len(failures))
 

@@ -116,10 +116,13 @@ fn route_view<'a>(frame: &'a [u8]) -> Option<MessageView<'a, Joined<RouteTables>
     MessageView::new(frame.message_type(), frame.payload()).ok()
 }
 
-/// Returns 1 if a message of route netlink is rejected.
+/// Returns 1 if a message of route netlink is rejected, and else the policy of its block, which is 0.
 #[unsafe(no_mangle)]
 pub extern "C" fn route_error(_alloc: Global, frame: &[u8]) -> usize {
-    route_view(frame).is_none() as usize
+    match route_view(frame) {
+        Some(view) => view.view().policy as usize,
+        None => 1,
+    }
 }
 
 /// Returns the number of bytes of a message of route netlink as text.

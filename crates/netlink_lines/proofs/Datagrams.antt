@@ -10,10 +10,10 @@ use Rattle.netlink_lines.specs.Run.{EndsOver}
 use Rattle.netlink_lines.specs.Stream.{ShowsMessages, messages_of}
 use Rattle.netlink_lines.specs.declared.packet.Content.{Content}
 use Rattle.netlink_lines.specs.declared.packet.Content.TheVariants as content
-use Rattle.netlink_lines.specs.declared.pcap.Order.{Order}
-use Rattle.netlink_lines.specs.declared.runs.Fault.{Fault}
+use Rattle.netlink_input.specs.declared.pcap.Order.{Order}
+use Rattle.netlink_input.specs.declared.fault.Fault.{Fault}
 use Rattle.netlink_lines.specs.declared.runs.Outcome.{Outcome}
-use Rattle.netlink_lines.specs.declared.stream.Stop.{Stop}
+use Rattle.netlink_input.specs.declared.stream.Stop.{Stop}
 
 -- ---- a datagram
 

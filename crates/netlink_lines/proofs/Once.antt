@@ -14,10 +14,11 @@ use Rattle.netlink_replies.specs.AckValues.{first_value, without_nul}
 use Rattle.netlink_replies.specs.Meaning.{meaning}
 use Rattle.netlink_lines.specs.Ack.{IsText, ack_attributes}
 use Rattle.netlink_lines.specs.Messages.{Seen}
-use Rattle.netlink_lines.specs.Stream.{IsCause, IsStop, ShowsMessages, StartsSeen}
-use Rattle.netlink_lines.specs.declared.stream.Cause.{Cause}
-use Rattle.netlink_lines.specs.declared.stream.Cause.TheVariants.{Damaged, TooLong, Pcap}
-use Rattle.netlink_lines.specs.declared.stream.Stop.{Stop}
+use Rattle.netlink_lines.specs.Stream.{ShowsMessages, StartsSeen}
+use Rattle.netlink_input.specs.Stream.{IsCause, IsStop}
+use Rattle.netlink_input.specs.declared.stream.Cause.{Cause}
+use Rattle.netlink_input.specs.declared.stream.Cause.TheVariants.{Damaged, TooLong, Pcap}
+use Rattle.netlink_input.specs.declared.stream.Stop.{Stop}
 
 -- ---- bytes start with one message
 

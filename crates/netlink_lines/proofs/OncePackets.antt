@@ -4,17 +4,18 @@ use Rattle.std.proofs.lemmas.List.{append_cancel_left, take_at}
 use Rattle.std.specs.Prelude.{Bool, true, false}
 use Rattle.netlink_packet_core.specs.Walks.{StepLaws, walks_once}
 use Rattle.netlink_lines.specs.Messages.{Lines, Seen}
-use Rattle.netlink_lines.specs.Packet.{HasContent, HasTorn, IsDatagram, IsPacketCause, IsPacketFault, IsPacketStop, IsTornBy, IsWholePacket, Packet, ShowsPackets, StartsPacket, captured_of, content_lines, content_of, from_stop, is_route, stop_lines, torn_by, with_line}
+use Rattle.netlink_lines.specs.Packet.{HasContent, HasTorn, IsDatagram, IsTornBy, Packet, ShowsPackets, StartsPacket, content_lines, content_of, from_stop, is_route, stop_lines, torn_by, with_line}
+use Rattle.netlink_input.specs.Packet.{IsPacketCause, IsPacketFault, IsPacketStop, IsWholePacket, captured_of}
 use Rattle.netlink_lines.specs.declared.packet.Content.{Content}
 use Rattle.netlink_lines.specs.declared.packet.Content.TheVariants as content
-use Rattle.netlink_lines.specs.declared.pcap.Order.{Order}
-use Rattle.netlink_lines.specs.declared.pcap.PcapFault.{PcapFault}
-use Rattle.netlink_lines.specs.declared.pcap.PcapFault.TheVariants.{PacketShort, PacketLong, PacketCut}
-use Rattle.netlink_lines.specs.declared.stream.Cause.{Cause}
-use Rattle.netlink_lines.specs.declared.stream.Cause.TheVariants.{Pcap}
-use Rattle.netlink_lines.specs.declared.stream.Stop.{Stop}
+use Rattle.netlink_input.specs.declared.pcap.Order.{Order}
+use Rattle.netlink_input.specs.declared.pcap.PcapFault.{PcapFault}
+use Rattle.netlink_input.specs.declared.pcap.PcapFault.TheVariants.{PacketShort, PacketLong, PacketCut}
+use Rattle.netlink_input.specs.declared.stream.Cause.{Cause}
+use Rattle.netlink_input.specs.declared.stream.Cause.TheVariants.{Pcap}
+use Rattle.netlink_input.specs.declared.stream.Stop.{Stop}
 use Rattle.netlink_lines.proofs.Once.{messages_once}
-use Rattle.netlink_lines.proofs.Packets.{captured_in}
+use Rattle.netlink_input.specs.PacketLaws.{captured_in}
 
 -- ---- a packet is shown in one way
 

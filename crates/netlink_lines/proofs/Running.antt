@@ -7,22 +7,23 @@ use Rattle.std.specs.Prelude.{Bool, true, false, ◌||◌, ◌⊎◌, ⊤}
 use Rattle.netlink_packet_core.specs.Attribute.{padding}
 use Rattle.netlink_lines.specs.Format.{Format, Told, told_from}
 use Rattle.netlink_lines.specs.Messages.{Check, Lines, Memory, Tells}
-use Rattle.netlink_lines.specs.Packet.{IsPacketFault, Packet, TellsPacket, TellsTorn, packets_of, torn_of}
-use Rattle.netlink_lines.specs.Reading.{GivesNext, GivesPacket, Skips, SkipsPart}
+use Rattle.netlink_lines.specs.Packet.{Packet, TellsPacket, TellsTorn, packets_of}
+use Rattle.netlink_input.specs.Packet.{IsPacketFault, torn_of}
+use Rattle.netlink_input.specs.Reading.{GivesNext, GivesPacket, Skips, SkipsPart}
 use Rattle.netlink_lines.specs.Run.{EndsOver, Leaves, Reads, RunsOver, Writes, WritesTorn, end_by, end_of, end_with}
 use Rattle.netlink_lines.specs.Stream.{messages_of}
-use Rattle.netlink_lines.specs.declared.packet.NextPacket.{NextPacket}
-use Rattle.netlink_lines.specs.declared.packet.NextPacket.TheVariants as packet_next
-use Rattle.netlink_lines.specs.declared.pcap.Order.{Order}
-use Rattle.netlink_lines.specs.declared.pcap.PcapFault.{PcapFault}
-use Rattle.netlink_lines.specs.declared.runs.Fault.{Fault}
-use Rattle.netlink_lines.specs.declared.runs.Fault.TheVariants as fault
+use Rattle.netlink_input.specs.declared.packet.NextPacket.{NextPacket}
+use Rattle.netlink_input.specs.declared.packet.NextPacket.TheVariants as packet_next
+use Rattle.netlink_input.specs.declared.pcap.Order.{Order}
+use Rattle.netlink_input.specs.declared.pcap.PcapFault.{PcapFault}
+use Rattle.netlink_input.specs.declared.fault.Fault.{Fault}
+use Rattle.netlink_input.specs.declared.fault.Fault.TheVariants as fault
 use Rattle.netlink_lines.specs.declared.runs.Outcome.{Outcome}
-use Rattle.netlink_lines.specs.declared.stream.Cause.{Cause}
-use Rattle.netlink_lines.specs.declared.stream.Cause.TheVariants.{Pcap}
-use Rattle.netlink_lines.specs.declared.stream.Next.{Next}
-use Rattle.netlink_lines.specs.declared.stream.Next.TheVariants.{Frame}
-use Rattle.netlink_lines.specs.declared.stream.Stop.{Stop}
+use Rattle.netlink_input.specs.declared.stream.Cause.{Cause}
+use Rattle.netlink_input.specs.declared.stream.Cause.TheVariants.{Pcap}
+use Rattle.netlink_input.specs.declared.stream.Next.{Next}
+use Rattle.netlink_input.specs.declared.stream.Next.TheVariants.{Frame}
+use Rattle.netlink_input.specs.declared.stream.Stop.{Stop}
 use Rattle.netlink_lines.proofs.Steps.{IsOne, PassedKnown, StopsAt, TriesOne, ends_here, first_shown, is_message, is_packet, none_lost, none_lost_between, passed_nothing, passes, passes_padding, stops_here, stops_torn, told_push}
 
 -- ---- what the loops keep

@@ -14,7 +14,7 @@ use Rattle.netlink_lines.specs.Ack.{IsText, ack_attributes, marked_if}
 use Rattle.netlink_lines.specs.Messages.{Check, HasLines, Lines, Memory, Tells, bad, error_lines, family_lines, frame_lines, good, item_lines, is_named, known_after, timed, unless_time}
 use Rattle.netlink_lines.specs.Lines.{known_by}
 use Rattle.netlink_lines.specs.Time.{time_in, time_of}
-use Rattle.netlink_lines.specs.declared.device.Known.{Known}
+use Rattle.netlink_names.specs.declared.device.Known.{Known}
 use Rattle.netlink_lines.specs.declared.messages.Shown.{Shown}
 use Rattle.netlink_lines.specs.declared.time.Time.{Time}
 

@@ -1,44 +1,23 @@
 -- How a run starts, by the first bytes of its input, and how it goes on.
 use Rattle.std.proofs.Common.{◌≡◌, ◌≤◌, ◌<◌, ◌+◌, ◌-◌, ◌++◌, ◌∙◌, refl, ap, arith, sym, subst, ℕ, List, [], Option, Some, None, IfSome, Result, Err, drop, length, append-nil, length-append, length-drop, length-take, inl, inr}
-use Rattle.std.proofs.KnownBytes.{Appends-nil, Consumes-trans}
+use Rattle.std.proofs.KnownBytes.{Appends-nil}
 use Rattle.std.proofs.lemmas.Bool.{cases_lt}
 use Rattle.std.proofs.lemmas.List.{drop_at}
-use Rattle.std.specs.Io.KnownBytes.{Consumes, prepend_known}
+use Rattle.std.specs.Io.KnownBytes.{prepend_known}
 use Rattle.std.specs.Prelude.{Bool, true, false, ⊤, if◌then◌else◌, ◌⊎◌}
 use Rattle.netlink_lines.specs.Messages.{Check, Memory, no_memory}
 use Rattle.netlink_lines.specs.Packet.{packets_of}
-use Rattle.netlink_lines.specs.Pcap.{is_pcap, layout_of}
-use Rattle.netlink_lines.specs.Reading.{Starts, TriesStart, TriesUpTo, start_size}
+use Rattle.netlink_input.specs.Pcap.{is_pcap, layout_of}
+use Rattle.netlink_input.specs.Reading.{Starts, TriesStart, start_size}
 use Rattle.netlink_lines.specs.Run.{RunsAs, RunsIn, RunsOver}
 use Rattle.netlink_lines.specs.Stream.{messages_of}
-use Rattle.netlink_lines.specs.declared.pcap.Layout.{Layout}
-use Rattle.netlink_lines.specs.declared.pcap.Layout.TheVariants.{Messages, Packets, Unread}
-use Rattle.netlink_lines.specs.declared.pcap.Order.{Order}
-use Rattle.netlink_lines.specs.declared.runs.Fault.{Fault}
-use Rattle.netlink_lines.specs.declared.runs.Fault.TheVariants as fault
-use Rattle.netlink_lines.specs.declared.stream.Stop.{Stop}
-use Rattle.netlink_lines.proofs.Layouts.{layout_in, messages_magic, packets_size, pcap_in, pcap_long}
-
--- ---- the first bytes
-
--- the reader failed in the header of a pcap file
-tries_header : (old middle new : Option (List ℕ)) (head more : List ℕ) → Consumes old middle head → Consumes middle new more
-    → is_pcap head ≡ true → length (head ++ more) < 24 → TriesStart old new
-tries_header old middle new head more took after is short =
-    let magic : is_pcap (head ++ more) ≡ true = pcap_in head more (pcap_long head is) ∙ is in (
-      head ++ more,
-      Consumes-trans old middle new head more took after,
-      subst (λ (b : Bool). length (head ++ more) < (if b then 24 else 4)) (sym magic) short,
-    )
-
-pub fails_start : (old middle new : Option (List ℕ)) (head : List ℕ) (why : Fault) → Consumes old middle head
-    → is_pcap head ≡ true → (why ≡ fault.OutOfMemory) ⊎ ((why ≡ fault.Read) × TriesUpTo middle new head 24)
-    → (why ≡ fault.OutOfMemory) ⊎ ((why ≡ fault.Read) × TriesStart old new)
-fails_start old middle new head why took is (inl none) = inl none
-fails_start old middle new head why took is (inr tries) =
-    let (read, given) = tries in
-    let (more, after, short) = given in
-    inr (read, tries_header old middle new head more took after is short)
+use Rattle.netlink_input.specs.declared.pcap.Layout.{Layout}
+use Rattle.netlink_input.specs.declared.pcap.Layout.TheVariants.{Messages, Packets, Unread}
+use Rattle.netlink_input.specs.declared.pcap.Order.{Order}
+use Rattle.netlink_input.specs.declared.fault.Fault.{Fault}
+use Rattle.netlink_input.specs.declared.fault.Fault.TheVariants as fault
+use Rattle.netlink_input.specs.declared.stream.Stop.{Stop}
+use Rattle.netlink_input.specs.LayoutLaws.{layout_in, messages_magic, packets_size, pcap_in}
 
 -- ---- what they tell
 

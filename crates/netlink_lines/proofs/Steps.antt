@@ -11,15 +11,17 @@ use Rattle.netlink_replies.specs.Meaning.{meaning}
 use Rattle.netlink_lines.specs.Ack.{IsText, ack_attributes}
 use Rattle.netlink_lines.specs.Format.{Format, ShowsAll, StopsAs, tell, told_from, told_nothing}
 use Rattle.netlink_lines.specs.Messages.{Check, Memory, Seen}
-use Rattle.netlink_lines.specs.Packet.{HasContent, IsPacketFault, IsTorn, IsWholePacket, Packet, StartsPacket, captured_of, content_of, packets_of, torn_of}
-use Rattle.netlink_lines.specs.Reading.{Skips, SkipsPart}
+use Rattle.netlink_lines.specs.Packet.{HasContent, IsTorn, Packet, StartsPacket, content_of, packets_of}
+use Rattle.netlink_input.specs.Packet.{IsPacketFault, IsWholePacket, captured_of, torn_of}
+use Rattle.netlink_input.specs.Reading.{Skips, SkipsPart}
 use Rattle.netlink_lines.specs.Run.{NoneLost, ShowsFirst}
-use Rattle.netlink_lines.specs.Stream.{IsCause, longest, messages_of}
-use Rattle.netlink_lines.specs.declared.pcap.Order.{Order}
-use Rattle.netlink_lines.specs.declared.pcap.PcapFault.{PcapFault}
-use Rattle.netlink_lines.specs.declared.stream.Cause.{Cause}
-use Rattle.netlink_lines.specs.declared.stream.Cause.TheVariants.{Pcap}
-use Rattle.netlink_lines.proofs.Reading.{no_header}
+use Rattle.netlink_lines.specs.Stream.{messages_of}
+use Rattle.netlink_input.specs.Stream.{IsCause, longest}
+use Rattle.netlink_input.specs.declared.pcap.Order.{Order}
+use Rattle.netlink_input.specs.declared.pcap.PcapFault.{PcapFault}
+use Rattle.netlink_input.specs.declared.stream.Cause.{Cause}
+use Rattle.netlink_input.specs.declared.stream.Cause.TheVariants.{Pcap}
+use Rattle.netlink_input.specs.ReadingLaws.{no_header}
 
 -- ---- the messages or packets so far
 

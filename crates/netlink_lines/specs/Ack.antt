@@ -9,7 +9,7 @@ use Rattle.netlink_replies.specs.AckValues.{first_value, without_nul}
 use Rattle.netlink_replies.specs.Headers.{has_flag}
 use Rattle.netlink_replies.specs.Meaning.{Item}
 use Rattle.netlink_replies.specs.declared.reply.Reply.TheVariants.{Done, Acknowledged, Rejected}
-use Rattle.netlink_lines.specs.Text.{sentence_text}
+use Rattle.netlink_words.specs.Text.{sentence_text}
 
 -- the attributes of an extended acknowledgement in what a frame means; other frames have none
 abbrev pub ack_attributes : Option Item → List ℕ

@@ -3,7 +3,7 @@ use Rattle.std.specs.Prelude.{ℕ, ◌≡◌, Bool, false, ◌||◌, List, [], �
 use Rattle.std.specs.List.{fold}
 use Rattle.netlink_packet_core.specs.Walks.{WalksAs}
 use Rattle.netlink_lines.specs.Messages.{Lines, Memory}
-use Rattle.netlink_lines.specs.declared.stream.Stop.{Stop}
+use Rattle.netlink_input.specs.declared.stream.Stop.{Stop}
 
 -- how messages or packets follow one another, and what is shown of each
 pub record Format (A : Type 0) : Type 1 where

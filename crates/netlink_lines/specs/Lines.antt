@@ -4,15 +4,15 @@ use Rattle.std.specs.Fmt.{signed_decimal}
 use Rattle.std.specs.Ordering.{int_eq}
 use Rattle.netlink_family.specs.Shapes.{has_type}
 use Rattle.netlink_lines.specs.Ack.{text_words}
-use Rattle.netlink_lines.specs.Address.{address_line}
-use Rattle.netlink_lines.specs.Known.{link_known}
-use Rattle.netlink_lines.specs.Link.{link_line}
-use Rattle.netlink_lines.specs.Namespace.{namespace_line}
-use Rattle.netlink_lines.specs.Neighbour.{neighbour_line}
-use Rattle.netlink_lines.specs.NeighbourTable.{neighbour_table_line}
-use Rattle.netlink_lines.specs.Route.{route_entry_line}
-use Rattle.netlink_lines.specs.Rule.{rule_line}
-use Rattle.netlink_lines.specs.declared.device.Known.{Known}
+use Rattle.netlink_address_lines.specs.Address.{address_line}
+use Rattle.netlink_names.specs.Known.{link_known}
+use Rattle.netlink_link_lines.specs.Link.{link_line}
+use Rattle.netlink_route_lines.specs.Namespace.{namespace_line}
+use Rattle.netlink_address_lines.specs.Neighbour.{neighbour_line}
+use Rattle.netlink_address_lines.specs.NeighbourTable.{neighbour_table_line}
+use Rattle.netlink_route_lines.specs.Route.{route_entry_line}
+use Rattle.netlink_route_lines.specs.Rule.{rule_line}
+use Rattle.netlink_names.specs.declared.device.Known.{Known}
 
 -- a code other than 0
 abbrev pub code_words : ℤ → List ℕ

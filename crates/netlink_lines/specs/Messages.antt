@@ -13,7 +13,7 @@ use Rattle.netlink_lines.specs.Families.{is_foreign}
 use Rattle.netlink_lines.specs.Lines.{done_line, error_line, known_by, route_line}
 use Rattle.netlink_lines.specs.Requests.{asked_line, is_dump, is_request}
 use Rattle.netlink_lines.specs.Time.{time_in, time_text}
-use Rattle.netlink_lines.specs.declared.device.Known.{Known}
+use Rattle.netlink_names.specs.declared.device.Known.{Known}
 use Rattle.netlink_lines.specs.declared.state.State.{State}
 use Rattle.netlink_lines.specs.declared.time.Time.{Time}
 

@@ -3,40 +3,23 @@
 -- header of 16 comes first (LINKTYPE_NETLINK), whose numbers are big-endian: the type of the packet in 2
 -- bytes, the device type (ARPHRD_NETLINK, 824) in 2, 10 that are not used, and the netlink family in 2.
 -- A datagram follows.
-use Rattle.std.specs.Prelude.{◌≡◌, ◌<◌, ◌≤◌, ◌+◌, ◌-◌, ◌==◌, ◌||◌, ◌&&◌, ℕ, Bool, true, false, List, [], ◌∷◌, ◌++◌, drop, length, Option, None, Some, codes, decimal, nat_le, nat_lt, if◌then◌else◌}
+use Rattle.std.specs.Prelude.{◌≡◌, ◌≤◌, ◌+◌, ◌-◌, ◌==◌, ◌||◌, ◌&&◌, ℕ, Bool, true, false, List, [], ◌∷◌, ◌++◌, drop, length, Option, None, Some, codes, decimal, nat_le, nat_lt, if◌then◌else◌}
 use Rattle.std.specs.List.{list_all}
 use Rattle.netlink_packet_core.specs.Header.{field}
 use Rattle.netlink_packet_core.specs.Walks.{WalksAs}
 use Rattle.netlink_lines.specs.Format.{Format, told_from}
 use Rattle.netlink_lines.specs.Messages.{Check, Lines, Memory, Seen, bad, good}
-use Rattle.netlink_lines.specs.Pcap.{number_in}
-use Rattle.netlink_lines.specs.Stream.{ShowsMessages, longest, messages_of, stop_text}
+use Rattle.netlink_input.specs.Packet.{HoldsPacket, IsPacketStop, IsWholePacket, captured_of, original_of, torn_of}
+use Rattle.netlink_input.specs.Pcap.{number_in}
+use Rattle.netlink_lines.specs.Stream.{ShowsMessages, messages_of}
+use Rattle.netlink_input.specs.Stream.{longest, stop_text}
 use Rattle.netlink_lines.specs.declared.packet.Content.{Content}
 use Rattle.netlink_lines.specs.declared.packet.Content.TheVariants.{Messages, Family, CutMessages, Cut, Short, Device}
-use Rattle.netlink_lines.specs.declared.pcap.Order.{Order}
-use Rattle.netlink_lines.specs.declared.pcap.Order.TheVariants.{Big}
-use Rattle.netlink_lines.specs.declared.pcap.PcapFault.{PcapFault}
-use Rattle.netlink_lines.specs.declared.pcap.PcapFault.TheVariants.{PacketShort, PacketLong, PacketCut}
-use Rattle.netlink_lines.specs.declared.stream.Cause.{Cause}
-use Rattle.netlink_lines.specs.declared.stream.Cause.TheVariants.{Pcap}
-use Rattle.netlink_lines.specs.declared.stream.Stop.{Stop}
-
--- the captured length in the header of a packet, and its original length
-abbrev pub captured_of : Order → List ℕ → ℕ
-captured_of order bytes = number_in order 8 4 bytes
-
-abbrev pub original_of : Order → List ℕ → ℕ
-original_of order bytes = number_in order 12 4 bytes
-
--- the bytes are one packet with its header, and nothing else
-abbrev pub IsWholePacket : Order → List ℕ → Type 0
-IsWholePacket order packet =
-    (16 ≤ length packet) × (length packet ≡ 16 + captured_of order packet)
-
--- the bytes hold a whole packet at their start
-abbrev pub HoldsPacket : Order → List ℕ → Type 0
-HoldsPacket order bytes =
-    (16 ≤ length bytes) × (16 + captured_of order bytes ≤ length bytes)
+use Rattle.netlink_input.specs.declared.pcap.Order.{Order}
+use Rattle.netlink_input.specs.declared.pcap.Order.TheVariants.{Big}
+use Rattle.netlink_input.specs.declared.stream.Cause.{Cause}
+use Rattle.netlink_input.specs.declared.stream.Cause.TheVariants.{Pcap}
+use Rattle.netlink_input.specs.declared.stream.Stop.{Stop}
 
 -- a packet, or what there is of it, has the header of a datagram of route netlink
 abbrev pub is_route : List ℕ → Bool
@@ -160,32 +143,7 @@ pub record StartsPacket (order : Order) (end : ℕ) (bytes : List ℕ) (shown : 
   pub most : captured_of order packet ≤ longest
   pub content : HasContent (end - length bytes) packet (content_of order packet) shown
 
--- the bytes start with no packet that can be read
-abbrev pub IsPacketFault : Order → List ℕ → PcapFault → Type 0
-IsPacketFault order bytes (PacketShort size) = (length bytes < 16) × (size ≡ length bytes)
-IsPacketFault order bytes (PacketLong said) =
-    (16 ≤ length bytes) × (said ≡ captured_of order bytes) × (longest < said)
-IsPacketFault order bytes (PacketCut said size) =
-    (16 ≤ length bytes) × (said ≡ captured_of order bytes) × (said ≤ longest)
-    × (length bytes ≡ 16 + size) × (size < said)
-IsPacketFault order bytes _ = ⊥
-
-abbrev pub IsPacketCause : Order → List ℕ → Cause → Type 0
-IsPacketCause order bytes (Pcap why) = IsPacketFault order bytes why
-IsPacketCause order bytes _ = ⊥
-
--- the bytes start at this offset of the input and end at another, and the packets end there for this
--- cause
-pub record IsPacketStop (order : Order) (end : ℕ) (bytes : List ℕ) (stop : Stop) : Type 0 where
-  pub place : stop.at + length bytes ≡ end
-  pub cause : IsPacketCause order bytes stop.cause
-
 -- ---- a packet that the end of the file cuts
-
--- the bytes of a packet at whose header, at this offset of the input, the packets stop
-abbrev pub torn_of : PcapFault → List ℕ → List ℕ
-torn_of (PacketCut said size) bytes = bytes
-torn_of _ bytes = []
 
 abbrev pub torn_by : Cause → List ℕ → List ℕ
 torn_by (Pcap why) bytes = torn_of why bytes

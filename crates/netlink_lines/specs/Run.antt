@@ -1,20 +1,18 @@
 -- What a run did.
-use Rattle.std.specs.Prelude.{◌≡◌, ◌≤◌, ◌⊎◌, ℕ, Bool, true, false, ⊤, ◌-◌, List, [], ◌++◌, drop, length, take, Option, None, Some, Result, Ok, Err, codes}
+use Rattle.std.specs.Prelude.{◌≡◌, ◌≤◌, ◌⊎◌, ℕ, Bool, true, false, ⊤, ◌-◌, List, [], ◌++◌, drop, length, take, Option, None, Some, Result, Ok, Err}
 use Rattle.std.specs.Io.KnownBytes.{Appends}
 use Rattle.netlink_packet_core.specs.Walks.{Passed}
-use Rattle.netlink_program.specs.declared.reading.ReadFault.{ReadFault}
-use Rattle.netlink_program.specs.declared.reading.ReadFault.TheVariants as read
 use Rattle.netlink_lines.specs.Format.{Format, ShowsAll, StopsAs, told_from}
 use Rattle.netlink_lines.specs.Messages.{Check, Lines, Memory, no_memory}
 use Rattle.netlink_lines.specs.Packet.{TellsTorn, packets_of}
-use Rattle.netlink_lines.specs.Pcap.{layout_of}
-use Rattle.netlink_lines.specs.Stream.{messages_of, stop_text}
-use Rattle.netlink_lines.specs.declared.pcap.Layout.{Layout}
-use Rattle.netlink_lines.specs.declared.pcap.Layout.TheVariants.{Messages, Packets, Unread}
-use Rattle.netlink_lines.specs.declared.runs.Fault.{Fault}
-use Rattle.netlink_lines.specs.declared.runs.Fault.TheVariants as fault
+use Rattle.netlink_input.specs.Pcap.{layout_of}
+use Rattle.netlink_lines.specs.Stream.{messages_of}
+use Rattle.netlink_input.specs.declared.pcap.Layout.{Layout}
+use Rattle.netlink_input.specs.declared.pcap.Layout.TheVariants.{Messages, Packets, Unread}
+use Rattle.netlink_input.specs.declared.fault.Fault.{Fault}
+use Rattle.netlink_input.specs.declared.fault.Fault.TheVariants as fault
 use Rattle.netlink_lines.specs.declared.runs.Outcome.{Outcome}
-use Rattle.netlink_lines.specs.declared.stream.Stop.{Stop}
+use Rattle.netlink_input.specs.declared.stream.Stop.{Stop}
 
 -- the bytes, which end at this offset of the input, start with these messages or packets, or are these up to a
 -- stop
@@ -122,16 +120,3 @@ end_by malformed (Some stop) = Err (fault.Stopped stop)
 
 abbrev pub end_with : Outcome → Result ⊤ Fault
 end_with outcome = end_by outcome.is_malformed outcome.stop
-
--- the fault of a run whose input could not be read
-abbrev pub read_fault : ReadFault → Fault
-read_fault read.Read = fault.Read
-read_fault read.OutOfMemory = fault.OutOfMemory
-
--- the text of a fault
-abbrev pub fault_text : Fault → List ℕ
-fault_text fault.Read = codes "read failed"
-fault_text fault.Write = codes "write failed"
-fault_text fault.OutOfMemory = codes "out of memory"
-fault_text fault.Malformed = codes "a message is malformed"
-fault_text (fault.Stopped stop) = stop_text stop

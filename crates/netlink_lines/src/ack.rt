@@ -6,9 +6,9 @@ ghost use Rattle.netlink_packet_core.specs.FrameWalk.{IsWholeFrame};
 ghost use Rattle.netlink_replies.specs.Meaning.{meaning, shown_item};
 ghost use Rattle.netlink_lines.specs.Ack.{IsText, ack_attributes, is_interrupted, text_words};
 
-use crate::text::sentence_text;
 use netlink_packet_core::{DecodeError, NLM_F_DUMP_INTR, NetlinkBuffer};
 use netlink_replies::{ExtendedAck, Replies, Reply, Request};
+use netlink_words::text::sentence_text;
 use std::alloc::{AllocError, Global};
 
 /// Returns what a frame means by itself. Requires that the bytes are one frame.

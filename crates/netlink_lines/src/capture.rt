@@ -3,15 +3,18 @@
 ghost use Rattle.std.specs.Prelude.{◌+◌, ◌<◌, ◌^◌, IfSome, length};
 ghost use Rattle.netlink_family.specs.Errors.{family_error};
 ghost use Rattle.netlink_lines.specs.Messages.{memory_of};
-ghost use Rattle.netlink_lines.specs.Packet.{packets_of, torn_of};
+ghost use Rattle.netlink_lines.specs.Packet.{packets_of};
+ghost use Rattle.netlink_input.specs.Packet.{torn_of};
 ghost use Rattle.netlink_lines.specs.Run.{RunsOver, WritesTorn};
 
 use crate::line::Line;
-use crate::packet::{NextPacket, packet_lines, read_packet, torn_lines, torn_of};
-use crate::pcap::{FILE_HEADER_LEN, Order, PcapFault};
-use crate::runs::{Fault, end_of};
+use crate::packet::{packet_lines, torn_lines, torn_of};
+use crate::runs::end_of;
 use crate::state::State;
-use crate::stream::{Cause, Stop};
+use netlink_input::fault::Fault;
+use netlink_input::packet::{NextPacket, read_packet};
+use netlink_input::pcap::{FILE_HEADER_LEN, Order, PcapFault};
+use netlink_input::stream::{Cause, Stop};
 use netlink_program::write_through;
 use std::alloc::Global;
 use std::io::{Read, Write};

@@ -4,8 +4,8 @@ ghost use Rattle.std.specs.Prelude.{◌≡◌, ℕ, List, Option};
 ghost use Rattle.netlink_lines.specs.Messages.{Seen};
 ghost use Rattle.netlink_lines.specs.Packet.{HasTorn, Packet, ShowsPackets};
 ghost use Rattle.netlink_lines.specs.Stream.{ShowsMessages};
-ghost use Rattle.netlink_lines.specs.declared.pcap.Order.{Order};
-ghost use Rattle.netlink_lines.specs.declared.stream.Stop.{Stop};
+ghost use Rattle.netlink_input.specs.declared.pcap.Order.{Order};
+ghost use Rattle.netlink_input.specs.declared.stream.Stop.{Stop};
 
 /// Bytes are one list of messages, and of packets, and end in one way, and what is left of a packet
 /// there is shown in one way. So an input has one output, which `told_from` gives.

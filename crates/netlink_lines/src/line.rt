@@ -5,20 +5,20 @@ ghost use Rattle.std.specs.Option.{option_copied, option_map};
 ghost use Rattle.netlink_lines.specs.Lines.{code_words, done_line, error_line, known_by, later_line, other_line, route_line};
 
 use crate::ack::text_words;
-use crate::address::address_line;
-use crate::device::Known;
-use crate::known::learn_link;
-use crate::link::link_line;
-use crate::name_table::{NameTable, Names};
-use crate::namespace::namespace_text;
-use crate::neighbour::neighbour_line;
-use crate::neighbour_table::neighbour_table_line;
-use crate::route::route_entry_line;
-use crate::rule::rule_text;
+use netlink_address_lines::address::address_line;
+use netlink_address_lines::neighbour::neighbour_line;
+use netlink_address_lines::neighbour_table::neighbour_table_line;
 use netlink_family::{Both, Family, Joined, MessageView};
+use netlink_link_lines::link::link_line;
+use netlink_names::device::Known;
+use netlink_names::known::learn_link;
+use netlink_names::name_table::{NameTable, Names};
 use netlink_route::{
     Addresses, Links, Namespaces, NeighbourTables, Neighbours, RouteTables, Routes, Rules,
 };
+use netlink_route_lines::namespace::namespace_text;
+use netlink_route_lines::route::route_entry_line;
+use netlink_route_lines::rule::rule_text;
 use std::alloc::{AllocError, Global};
 
 /// A family whose messages may have lines.
@@ -51,10 +51,8 @@ pub trait Line: Family {
         ensures line { IfOk result (λ text. option_map string_bytes text
             ≡ route_line known.now (message.now.message_type, message.now.payload.now)) }
     {
-        match known.queue {
-            Some(queue) => Self::line(alloc, &queue.list(alloc)?, message),
-            None => Self::line(alloc, known.list, message),
-        }
+        let mut room = Vec::new(alloc);
+        Self::line(alloc, known.listed(alloc, &mut room)?, message)
     }
 
     /// Updates the names of links by a message as `learn` does. Without another body, the names are a

@@ -13,11 +13,11 @@ ghost use Rattle.netlink_lines.specs.Messages.{HasLines, Lines, Tells, bad, erro
 use crate::ack::{is_interrupted, kernel_text, meaning_of};
 use crate::families::is_foreign;
 use crate::line::{Line, done_line, error_line};
-use crate::name_table::{NameTable, Names};
 use crate::requests::{asked_line, is_dump, is_request};
 use crate::state::State;
 use crate::time::{NLMSG_TSTAMP, Time, time_in, time_text};
 use netlink_family::{FamilyError, MessageView};
+use netlink_names::name_table::{NameTable, Names};
 use netlink_packet_core::{DecodeError, NetlinkBuffer};
 use netlink_replies::Reply;
 use netlink_route::links::{RTM_DELLINK, RTM_NEWLINK};

@@ -3,38 +3,25 @@
 ghost use Rattle.std.specs.Prelude.{◌≡◌, ◌<◌, ◌+◌, ◌-◌, ◌++◌, ◌^◌, ◌⊎◌, [], IfErr, IfOk, string_bytes};
 ghost use Rattle.netlink_family.specs.Errors.{family_error};
 ghost use Rattle.netlink_lines.specs.Messages.{memory_of};
-ghost use Rattle.netlink_lines.specs.Packet.{IsWholePacket, TellsDatagram, TellsPacket, TellsTorn, are_zeros, content_lines, content_of, content_text, from_stop, is_partial, is_route, is_silent, stop_lines, torn_of};
-ghost use Rattle.netlink_lines.specs.Reading.{GivesPacket, KeepsTorn, TriesPacket};
+ghost use Rattle.netlink_lines.specs.Packet.{TellsDatagram, TellsPacket, TellsTorn, are_zeros, content_lines, content_of, content_text, from_stop, is_partial, is_route, is_silent, stop_lines};
+ghost use Rattle.netlink_input.specs.Packet.{IsWholePacket, torn_of};
 
 use crate::line::Line;
 use crate::messages::{Shown, malformed, well_formed};
-use crate::pcap::{Order, PcapFault, u16_in, u32_in};
-use crate::runs::{Fault, all_messages};
+use crate::runs::all_messages;
 use crate::state::State;
-use crate::stream::{LONGEST, Stop, read_up_to};
+use netlink_input::fault::Fault;
+use netlink_input::packet::HEADER_LEN;
+use netlink_input::pcap::{Order, PcapFault, u16_in, u32_in};
+use netlink_input::stream::Stop;
 use netlink_packet_core::{NETLINK_HEADER_LEN, u32_at};
 use std::alloc::{AllocError, Global};
-use std::io::Read;
-
-/// The size in bytes of the header of a packet, and of that of its datagram.
-const HEADER_LEN: usize = 16;
 
 /// The offset in bytes of a packet's datagram.
 const DATAGRAM: usize = 32;
 
 /// `ARPHRD_NETLINK` of linux/if_arp.h.
 const NETLINK_DEVICE: u16 = 824;
-
-/// What follows in a pcap file.
-#[derive(Debug)]
-pub(crate) enum NextPacket {
-    /// A packet.
-    Packet,
-    /// Nothing: the file ends.
-    End,
-    /// Bytes that no packet starts with that can be read.
-    Stop(PcapFault),
-}
 
 /// What a packet is.
 #[derive(Clone, Copy, Debug, PartialEq, Eq)]
@@ -51,44 +38,6 @@ pub(crate) enum Content {
     Short(u32),
     /// One of a device of this type, which is not netlink.
     Device(u16),
-}
-
-/// Reads the next packet of a pcap file with its header into a vector, whose old contents it drops,
-/// and no byte after it.
-///
-/// Returns `Stop` if the file ends within the packet, whose bytes the vector has then, or if its
-/// captured length is above 1048576.
-/// Returns `Read` if the reader fails; it has then not given a whole packet. Returns `OutOfMemory` if
-/// an allocation for the packet fails.
-pub(crate) fn read_packet<R: Read>(
-    order: Order,
-    reader: &mut R,
-    packet: &mut Vec<u8>,
-) -> Result<NextPacket, Fault>
-    ensures next { IfOk result (GivesPacket order (R.remaining reader.old) (R.remaining reader.new) packet.new.items) }
-    ensures torn { IfOk result (KeepsTorn (R.remaining reader.old) packet.new.items) }
-    ensures fault { IfErr result (λ fault. (fault ≡ Fault.OutOfMemory) ⊎ ((fault ≡ Fault.Read)
-        × TriesPacket order (R.remaining reader.old) (R.remaining reader.new))) }
-{
-    packet.clear();
-    read_up_to(reader, packet, HEADER_LEN)?;
-    let size = packet.len();
-    if size == 0 {
-        return Ok(NextPacket::End);
-    }
-    if size < HEADER_LEN {
-        return Ok(NextPacket::Stop(PcapFault::PacketShort(size)));
-    }
-    let captured = u32_in(order, packet, 8);
-    if captured as usize > LONGEST {
-        return Ok(NextPacket::Stop(PcapFault::PacketLong(captured)));
-    }
-    read_up_to(reader, packet, HEADER_LEN + captured as usize)?;
-    let size = packet.len() - HEADER_LEN;
-    if size < captured as usize {
-        return Ok(NextPacket::Stop(PcapFault::PacketCut(captured, size)));
-    }
-    Ok(NextPacket::Packet)
 }
 
 /// Returns what a packet is.

@@ -4,80 +4,20 @@ ghost use Rattle.std.specs.Prelude.{◌≡◌, ◌<◌, ◌+◌, Some, IfSome, l
 ghost use Rattle.std.specs.Io.KnownBytes.{prepend_known};
 ghost use Rattle.netlink_family.specs.Errors.{family_error};
 ghost use Rattle.netlink_lines.specs.Messages.{memory_of};
-ghost use Rattle.netlink_lines.specs.Run.{EndsOver, RunsAs, RunsOver, end_of, end_with, fault_text, read_fault};
+ghost use Rattle.netlink_lines.specs.Run.{EndsOver, RunsAs, RunsOver, end_of, end_with};
 ghost use Rattle.netlink_lines.specs.Stream.{messages_of};
 
 use crate::capture::packets;
 use crate::line::Line;
 use crate::messages::next_lines;
-use crate::pcap::{FILE_HEADER_LEN, Layout, layout_of};
-use crate::start::read_start;
 use crate::state::State;
-use crate::stream::{Next, Stop, read_frame, skip_padding};
-use netlink_program::{ReadFault, WriteFault, write_through};
-use std::alloc::{AllocError, Global};
-use std::fmt;
+use netlink_input::fault::Fault;
+use netlink_input::pcap::{FILE_HEADER_LEN, Layout, layout_of};
+use netlink_input::start::read_start;
+use netlink_input::stream::{Next, Stop, read_frame, skip_padding};
+use netlink_program::write_through;
+use std::alloc::Global;
 use std::io::{Read, Write};
-
-/// Why a run failed.
-#[derive(Debug, Drop, PartialEq, Eq)]
-pub enum Fault {
-    /// The reader failed, or did not reach its end within 2^64 - 1 calls or bytes.
-    Read,
-    /// The writer failed. It may have written a part of what it was given.
-    Write,
-    /// An allocation failed.
-    OutOfMemory,
-    /// The whole input was shown, and a message or packet in it is malformed.
-    Malformed,
-    /// A message or packet of the input cannot be read, or the input as a whole.
-    Stopped(Stop),
-}
-
-impl fmt::Display for Fault {
-    ghost output = { λ fault. Some (fault_text fault) };
-
-    fn fmt<W: fmt::Write>(&self, f: &mut fmt::Formatter<W>) -> fmt::Result {
-        match self {
-            Fault::Read => f.write_str("read failed"),
-            Fault::Write => f.write_str("write failed"),
-            Fault::OutOfMemory => f.write_str("out of memory"),
-            Fault::Malformed => f.write_str("a message is malformed"),
-            Fault::Stopped(stop) => write!(f, "{stop}"),
-        }
-    }
-}
-
-impl From<ReadFault> for Fault {
-    ghost from_gives = { λ cause fault. fault ≡ read_fault cause };
-
-    fn from(cause: ReadFault) -> Fault {
-        match cause {
-            ReadFault::Read => Fault::Read,
-            ReadFault::OutOfMemory => Fault::OutOfMemory,
-        }
-    }
-}
-
-impl From<WriteFault> for Fault {
-    ghost use Rattle.netlink_lines.specs.declared.runs.Fault.TheVariants.{Write};
-
-    ghost from_gives = { λ _ fault. fault ≡ Write };
-
-    fn from(_failed: WriteFault) -> Fault {
-        Fault::Write
-    }
-}
-
-impl From<AllocError> for Fault {
-    ghost use Rattle.netlink_lines.specs.declared.runs.Fault.TheVariants.{OutOfMemory};
-
-    ghost from_gives = { λ _ fault. fault ≡ OutOfMemory };
-
-    fn from(_failed: AllocError) -> Fault {
-        Fault::OutOfMemory
-    }
-}
 
 /// How messages ended, unless the reader, the writer or an allocation failed.
 #[derive(Debug, Drop)]

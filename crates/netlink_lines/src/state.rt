@@ -3,8 +3,8 @@
 ghost use Rattle.std.specs.Prelude.{◌≡◌};
 ghost use Rattle.netlink_lines.specs.Messages.{memory_of, no_memory};
 
-use crate::name_table::NameTable;
 use crate::time::Time;
+use netlink_names::name_table::NameTable;
 use std::alloc::Global;
 
 /// What the lines of the next message depend on.

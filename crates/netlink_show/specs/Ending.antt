@@ -6,7 +6,7 @@ use Rattle.netlink_program.specs.declared.ending.Ending.TheVariants as end
 use Rattle.netlink_lines.specs.Messages.{Check}
 use Rattle.netlink_lines.specs.Run.{RunsAs}
 use Rattle.netlink_show.specs.declared.ending.Usage.{Usage}
-use Rattle.netlink_lines.specs.declared.runs.Fault.{Fault}
+use Rattle.netlink_input.specs.declared.fault.Fault.{Fault}
 
 -- the only argument is the program's name, and the arguments could be read
 abbrev pub AsksForLines : Option (List (String Global)) → Type 0

@@ -6,7 +6,7 @@ use Rattle.std.specs.Prelude.{◌||◌}
 use Rattle.netlink_family.specs.Errors.{family_error}
 use Rattle.netlink_lines.specs.Messages.{Check, memory_of}
 use Rattle.netlink_lines.specs.Stream.{messages_of}
-use Rattle.netlink_lines.proofs.Reading.{no_header, takes_first}
+use Rattle.netlink_input.specs.ReadingLaws.{no_header, takes_first}
 use Rattle.netlink_lines.proofs.Running.{ends_at_stop, ends_whole, failed_read, frame_kept, frame_shown, no_one, no_padding, no_write, skips_gap, starts_kept, without_memory}
 use Rattle.netlink_lines.proofs.Steps.{frame_stop}
 use Rattle.netlink_lines.proofs.runs.all_messages.Goals as goal

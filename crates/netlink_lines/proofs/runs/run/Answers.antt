@@ -2,8 +2,8 @@ use Rattle.std.proofs.Common.{◌≡◌, ◌∙◌, sym}
 use Rattle.std.proofs.lemmas.Result.{err_from_is_err_and}
 use Rattle.netlink_family.specs.Errors.{family_error}
 use Rattle.netlink_lines.specs.Messages.{Check, memory_of}
-use Rattle.netlink_lines.specs.Pcap.{layout_of}
-use Rattle.netlink_lines.specs.declared.pcap.Layout.TheVariants.{Messages, Packets, Unread}
+use Rattle.netlink_input.specs.Pcap.{layout_of}
+use Rattle.netlink_input.specs.declared.pcap.Layout.TheVariants.{Messages, Packets, Unread}
 use Rattle.netlink_lines.proofs.Starting.{no_start, runs_messages, runs_packets, runs_unread, starts_without_memory}
 use Rattle.netlink_lines.proofs.runs.run.Goals as goal
 

@@ -1,0 +1,4 @@
+pub mod Address
+pub mod AddressFlags
+pub mod Neighbour
+pub mod NeighbourTable

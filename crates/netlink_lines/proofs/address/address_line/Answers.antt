@@ -1,7 +1,0 @@
-use Rattle.std.proofs.Common.{rules}
-use Rattle.netlink_lines.specs.Address.{address_line}
-use Rattle.netlink_lines.proofs.address.address_line.Goals as goal
-
-pub returns : goal.returns
-unfolding address_line
-returns c = search rules

@@ -1,7 +1,0 @@
-use Rattle.std.proofs.Common.{rules}
-use Rattle.netlink_lines.specs.Link.{link_line}
-use Rattle.netlink_lines.proofs.link.line_of.Goals as goal
-
-pub returns : goal.returns
-unfolding link_line
-returns c = search rules

@@ -1,0 +1,28 @@
+use Rattle.std.proofs.Common.{arith, ◌≡◌, ◌∙◌, ap, string_bytes, sym}
+use Rattle.std.proofs.lemmas.Grind.{common_steps}
+use Rattle.std.specs.List.{fold}
+use Rattle.netlink_packet_core.specs.Steps.{unread}
+use Rattle.netlink_family.specs.ShowLaws.{before_nothing}
+use Rattle.netlink_family.specs.Values.{value_shape}
+use Rattle.netlink_family.specs.declared.shape.Shape.TheVariants as shape
+use Rattle.netlink_route.specs.declared.links.TheConstants.{IFLA_ALT_IFNAME}
+use Rattle.netlink_link_lines.specs.LinkNames.{with_alternative}
+use Rattle.netlink_link_lines.proofs.Properties.{property_step}
+use Rattle.netlink_link_lines.proofs.link_names.push_properties.Goals as goal
+
+pub loop-kind-preserved : goal.loop-kind-preserved
+loop-kind-preserved c =
+    let ((a, starts, kind, is, shaped, rows), same_rows, same_policy, block) = c.in-Some.ensures.steps in
+    let named : c.in-Some.kind ≡ IFLA_ALT_IFNAME → value_shape c.in-Some.value ≡ shape.Str = λ at. grind (arith, common_steps) in (
+      property_step (string_bytes c.loop-kind.text) (string_bytes c.push_property.new.text)
+          (unread c.loop-kind.kind-iterator.walk) (unread c.next.new.self.walk) _ a c.in-Some.kind c.in-Some.value starts kind is named
+          c.in_ok-push_property.ensures c.loop-kind.invariant.0,
+      rw same_rows c.loop-kind.invariant.1,
+      same_policy ∙ c.loop-kind.invariant.2,
+    )
+
+pub returns : goal.returns
+returns c =
+    sym (ap (fold with_alternative (string_bytes c.loop-kind.text))
+    (before_nothing (unread c.loop-kind.kind-iterator.walk) c.in-None.ensures.steps.0.0))
+    ∙ c.loop-kind.invariant.0

@@ -1,0 +1,389 @@
+//! The line of a route.
+
+ghost use Rattle.std.specs.Prelude.{◌≡◌, IfOk, OnOk, codes, string_bytes};
+ghost use Rattle.std.specs.Option.{option_map};
+ghost use Rattle.netlink_route.specs.declared.routes.TheConstants.{RTA_DST, RTA_GATEWAY, RTA_PREFSRC, RTA_SRC, RTA_VIA};
+ghost use Rattle.netlink_words.specs.Parts.{keyed, prefix_text, with_part, with_parts};
+ghost use Rattle.netlink_route_lines.specs.Route.{installer_part, is_own, kept_parts, last_parts, mark_part, origin_parts, preference_part, route_bytes, route_entry_line, route_front, route_next, route_table, route_words, scope_part, table_part, type_part, with_rest, word_or_default};
+
+use crate::route_cache::{push_cache, push_lifetime};
+use crate::route_hops::{push_hops, push_next};
+use crate::route_metrics::push_metrics;
+use crate::route_names::{push_hop_flags, push_preference};
+use netlink_family::{MessageIndex, MessageView};
+use netlink_names::device::{Known, push_device};
+use netlink_names::name_table::Names;
+use netlink_route::Routes;
+use netlink_route::routes::{
+    RTA_CACHEINFO, RTA_DST, RTA_FLOW, RTA_GATEWAY, RTA_IIF, RTA_MARK, RTA_NH_ID, RTA_OIF, RTA_PREF,
+    RTA_PREFSRC, RTA_PRIORITY, RTA_SRC, RTA_TABLE, RTA_UID, RTA_VIA, RTM_DELROUTE, RTM_DST_LEN,
+    RTM_FAMILY, RTM_FLAGS, RTM_GETROUTE, RTM_PROTOCOL, RTM_SCOPE, RTM_SRC_LEN, RTM_TABLE, RTM_TOS,
+    RTM_TYPE,
+};
+use netlink_words::names::{push_protocol, push_scope, push_table, route_type_text};
+use netlink_words::parts::{
+    host_length, or_empty, prefix_text, push_address, push_keyed, push_length, push_number,
+    push_part, push_realms, push_space, push_tos, push_when,
+};
+use netlink_words::text::push_dotted;
+use std::alloc::{AllocError, Global};
+
+/// The flag `RTM_F_CLONED` of a route that the kernel looked up for a request.
+const RTM_F_CLONED: u32 = 0x200;
+
+/// The main routing table, and who installed a route if nobody said so.
+const RT_TABLE_MAIN: u32 = 254;
+
+const RTPROT_BOOT: u8 = 3;
+
+/// More bytes than the lines of most routes have, so that a line does not grow step by step.
+const USUAL: usize = 128;
+
+/// Returns the line of a message about an IPv4 or IPv6 route, as `ip route show table all`,
+/// `ip route get` and `ip monitor route` print it, with one space between its parts. A known link is
+/// named, and any other is `if` and its index. Returns `None` for a request and for a route of
+/// another family.
+pub fn route_text(
+    alloc: Global,
+    known: &[Known],
+    route: &MessageView<'_, Routes>,
+) -> Result<Option<String>, AllocError>
+    ensures line { IfOk result (λ text. option_map string_bytes text
+        ≡ route_entry_line known.now route.now.message_type route.now.payload.now) }
+{
+    route_entry_line(alloc, &Names::of(known), route)
+}
+
+/// Returns the line of a message about a route, as `route_text` does.
+#[tactic(auto, unfolding(crate::specs::Route::route_entry_line))]
+pub fn route_entry_line(
+    alloc: Global,
+    known: &Names<'_>,
+    route: &MessageView<'_, Routes>,
+) -> Result<Option<String>, AllocError>
+    ensures { IfOk result (λ text. option_map string_bytes text
+        ≡ route_entry_line known.now route.now.message_type route.now.payload.now) }
+{
+    if route.message_type == RTM_GETROUTE || host_length(route.header().u8(RTM_FAMILY)) == 0 {
+        return Ok(None);
+    }
+    let route = route.indexed();
+    let mut text = route_words(alloc, known, &route)?;
+    push_hops(alloc, &mut text, known, &route)?;
+    text.push_str("\n")?;
+    Ok(Some(text))
+}
+
+/// Returns what precedes the next hops.
+#[tactic(auto, unfolding(crate::specs::Route::route_words))]
+fn route_words(
+    alloc: Global,
+    known: &Names<'_>,
+    route: &MessageIndex<'_, Routes>,
+) -> Result<String, AllocError>
+    ensures { IfOk result (λ text. string_bytes text
+        ≡ route_words known.now route.now.message.message_type route.now.message.payload.now) }
+{
+    let mut text = String::with_capacity(alloc, USUAL)?;
+    push_front(alloc, &mut text, route)?;
+    push_link(alloc, &mut text, known, route)?;
+    push_origin(alloc, &mut text, route)?;
+    push_rest(alloc, &mut text, known, route)?;
+    Ok(text)
+}
+
+/// Appends the verb, the type of the route, the destination, the source, the id of the next hop and
+/// the type of service.
+#[tactic(auto, unfolding(crate::specs::Route::route_front))]
+fn push_front(
+    alloc: Global,
+    text: &mut String,
+    route: &MessageIndex<'_, Routes>,
+) -> Result<(), AllocError>
+    ensures { OnOk result (string_bytes text.new ≡ with_parts (string_bytes text.old)
+        (route_front route.now.message.message_type route.now.message.payload.now)) }
+{
+    push_when(text, route.message.message_type == RTM_DELROUTE, "Deleted")?;
+    push_type(alloc, text, route.header().u8(RTM_TYPE))?;
+    let whole = host_length(route.header().u8(RTM_FAMILY));
+    let to = target_of(route);
+    push_target(alloc, text, to, route.header().u8(RTM_DST_LEN), whole)?;
+    let from = source_of(route);
+    push_source(alloc, text, from, route.header().u8(RTM_SRC_LEN), whole)?;
+    push_number(text, "nhid", route.view().u32(RTA_NH_ID))?;
+    push_tos(alloc, text, route.header().u8(RTM_TOS))
+}
+
+/// Appends the type of a route, unless it is `unicast`.
+#[tactic(auto, unfolding(netlink_words::specs::Parts::with_part))]
+fn push_type(alloc: Global, text: &mut String, route_type: u8) -> Result<(), AllocError>
+    ensures { OnOk result
+        (string_bytes text.new ≡ with_part (string_bytes text.old) (type_part route_type)) }
+{
+    if route_type == 1 {
+        return Ok(());
+    }
+    push_part(text, route_type_text(alloc, route_type)?.as_str())
+}
+
+/// Appends the destination by its address and the length of its prefix; `default` for every address.
+#[tactic(auto, using(crate::proofs::Pieces::four_target))]
+fn push_target(
+    alloc: Global,
+    text: &mut String,
+    ip: &[u8],
+    length: u8,
+    whole: u8,
+) -> Result<(), AllocError>
+    ensures { OnOk result (string_bytes text.new ≡ with_part (string_bytes text.old)
+        (word_or_default (prefix_text ip.now length whole))) }
+{
+    if ip.len() == 4 {
+        push_space(text)?;
+        push_dotted(text, ip)?;
+        return push_length(text, length, whole);
+    }
+    let to = prefix_text(alloc, ip, length, whole)?;
+    if to.is_empty() {
+        return push_part(text, "default");
+    }
+    push_part(text, to.as_str())
+}
+
+/// Appends the source by its address and the length of its prefix; nothing for every address.
+#[tactic(auto, unfolding(netlink_words::specs::Parts::keyed, netlink_words::specs::Parts::prefix_of, netlink_words::specs::Parts::prefix_text, netlink_words::specs::Parts::with_part))]
+fn push_source(
+    alloc: Global,
+    text: &mut String,
+    ip: &[u8],
+    length: u8,
+    whole: u8,
+) -> Result<(), AllocError>
+    ensures { OnOk result (string_bytes text.new ≡ with_part (string_bytes text.old)
+        (keyed (codes "from") (prefix_text ip.now length whole))) }
+{
+    if ip.is_empty() && length == 0 {
+        return Ok(());
+    }
+    push_keyed(
+        text,
+        "from",
+        prefix_text(alloc, ip, length, whole)?.as_str(),
+    )
+}
+
+/// Returns the address of the destination; empty if there is none.
+fn target_of<'a>(route: &MessageIndex<'a, Routes>) -> &'a [u8]
+    ensures { result.now ≡ route_bytes route.now.message.payload.now RTA_DST }
+{
+    or_empty(route.view().ip(RTA_DST))
+}
+
+/// Returns the address of the source; empty if there is none.
+fn source_of<'a>(route: &MessageIndex<'a, Routes>) -> &'a [u8]
+    ensures { result.now ≡ route_bytes route.now.message.payload.now RTA_SRC }
+{
+    or_empty(route.view().ip(RTA_SRC))
+}
+
+/// Appends the gateway and the link.
+#[tactic(auto, unfolding(crate::specs::Route::route_next))]
+fn push_link(
+    alloc: Global,
+    text: &mut String,
+    known: &Names<'_>,
+    route: &MessageIndex<'_, Routes>,
+) -> Result<(), AllocError>
+    ensures { OnOk result (string_bytes text.new
+        ≡ with_parts (string_bytes text.old) (route_next known.now route.now.message.payload.now)) }
+{
+    push_next(alloc, text, gateway_of(route), via_of(route))?;
+    push_device(text, known, "dev", route.view().u32(RTA_OIF))
+}
+
+/// Returns the gateway; empty if there is none.
+fn gateway_of<'a>(route: &MessageIndex<'a, Routes>) -> &'a [u8]
+    ensures { result.now ≡ route_bytes route.now.message.payload.now RTA_GATEWAY }
+{
+    or_empty(route.view().ip(RTA_GATEWAY))
+}
+
+/// Returns the gateway of another family; empty if there is none.
+fn via_of<'a>(route: &MessageIndex<'a, Routes>) -> &'a [u8]
+    ensures { result.now ≡ route_bytes route.now.message.payload.now RTA_VIA }
+{
+    or_empty(route.view().bytes(RTA_VIA))
+}
+
+/// Appends the table, the protocol, the scope, the preferred source, the metric and the flags. The
+/// table `main`, the protocol `boot` and the scope `global` are left out; a route that was looked up
+/// has neither protocol nor scope.
+#[tactic(auto, unfolding(crate::specs::Route::origin_parts))]
+fn push_origin(
+    alloc: Global,
+    text: &mut String,
+    route: &MessageIndex<'_, Routes>,
+) -> Result<(), AllocError>
+    ensures { OnOk result (string_bytes text.new
+        ≡ with_parts (string_bytes text.old) (origin_parts route.now.message.payload.now)) }
+{
+    let own = is_own(route);
+    push_table_part(text, table_of(route))?;
+    push_installer(text, own, route.header().u8(RTM_PROTOCOL))?;
+    push_other_scope(text, own, route.header().u8(RTM_SCOPE))?;
+    push_address(alloc, text, "src", preferred_of(route))?;
+    push_number(text, "metric", route.view().u32(RTA_PRIORITY))?;
+    push_hop_flags(alloc, text, route.header().u32(RTM_FLAGS))
+}
+
+/// Returns whether the kernel did not look the route up for a request.
+fn is_own(route: &MessageIndex<'_, Routes>) -> bool
+    ensures { result ≡ is_own route.now.message.payload.now }
+{
+    route.header().u32(RTM_FLAGS) & RTM_F_CLONED == 0
+}
+
+/// Returns the number of the table, from the attribute or the header.
+fn table_of(route: &MessageIndex<'_, Routes>) -> u32
+    ensures { result ≡ route_table route.now.message.payload.now }
+{
+    match route.view().u32(RTA_TABLE) {
+        Some(table) => table,
+        None => route.header().u8(RTM_TABLE) as u32,
+    }
+}
+
+/// Appends the table, unless it is `main` or none.
+#[tactic(auto, using(netlink_words::specs::Pieces::part_more), unfolding(netlink_words::specs::Parts::with_part))]
+fn push_table_part(text: &mut String, table: u32) -> Result<(), AllocError>
+    ensures { OnOk result
+        (string_bytes text.new ≡ with_part (string_bytes text.old) (table_part table)) }
+{
+    if table == 0 || table == RT_TABLE_MAIN {
+        return Ok(());
+    }
+    push_part(text, "table ")?;
+    push_table(text, table)
+}
+
+/// Appends who installed the route, unless it is `boot` or the route was looked up.
+#[tactic(auto, using(netlink_words::specs::Pieces::part_more), unfolding(netlink_words::specs::Parts::with_part))]
+fn push_installer(text: &mut String, own: bool, protocol: u8) -> Result<(), AllocError>
+    ensures { OnOk result
+        (string_bytes text.new ≡ with_part (string_bytes text.old) (installer_part own protocol)) }
+{
+    if !own || protocol == RTPROT_BOOT {
+        return Ok(());
+    }
+    push_part(text, "proto ")?;
+    push_protocol(text, protocol)
+}
+
+/// Appends the scope, unless it is `global` or the route was looked up.
+#[tactic(auto, using(netlink_words::specs::Pieces::part_more), unfolding(netlink_words::specs::Parts::with_part))]
+fn push_other_scope(text: &mut String, own: bool, scope: u8) -> Result<(), AllocError>
+    ensures { OnOk result
+        (string_bytes text.new ≡ with_part (string_bytes text.old) (scope_part own scope)) }
+{
+    if !own || scope == 0 {
+        return Ok(());
+    }
+    push_part(text, "scope ")?;
+    push_scope(text, scope)
+}
+
+/// Returns the preferred source; empty if there is none.
+fn preferred_of<'a>(route: &MessageIndex<'a, Routes>) -> &'a [u8]
+    ensures { result.now ≡ route_bytes route.now.message.payload.now RTA_PREFSRC }
+{
+    or_empty(route.view().ip(RTA_PREFSRC))
+}
+
+/// Appends what follows the flags.
+#[tactic(auto, unfolding(crate::specs::Route::with_rest))]
+fn push_rest(
+    alloc: Global,
+    text: &mut String,
+    known: &Names<'_>,
+    route: &MessageIndex<'_, Routes>,
+) -> Result<(), AllocError>
+    ensures { OnOk result (string_bytes text.new
+        ≡ with_rest known.now (string_bytes text.old) route.now.message.payload.now) }
+{
+    push_kept(alloc, text, route)?;
+    push_lifetime(alloc, text, route.view().bytes(RTA_CACHEINFO))?;
+    push_last(alloc, text, known, route)
+}
+
+/// Appends the mark, the realms, the user, and what the kernel keeps of a route that was looked up.
+#[tactic(auto, unfolding(crate::specs::Route::kept_parts))]
+fn push_kept(
+    alloc: Global,
+    text: &mut String,
+    route: &MessageIndex<'_, Routes>,
+) -> Result<(), AllocError>
+    ensures { OnOk result (string_bytes text.new
+        ≡ with_parts (string_bytes text.old) (kept_parts route.now.message.payload.now)) }
+{
+    push_mark(alloc, text, route.view().u32(RTA_MARK))?;
+    push_realms(alloc, text, "realm", "realms", route.view().u32(RTA_FLOW))?;
+    push_number(text, "uid", route.view().u32(RTA_UID))?;
+    push_cache(
+        alloc,
+        text,
+        route.header().u8(RTM_FAMILY),
+        route.header().u32(RTM_FLAGS),
+    )
+}
+
+/// Appends a mark other than 0, in hexadecimal if it is 16 or greater.
+#[tactic(auto, unfolding(netlink_words::specs::Parts::with_part))]
+fn push_mark(alloc: Global, text: &mut String, mark: Option<u32>) -> Result<(), AllocError>
+    ensures { OnOk result
+        (string_bytes text.new ≡ with_part (string_bytes text.old) (mark_part mark)) }
+{
+    match mark {
+        None => Ok(()),
+        Some(mark) => {
+            if mark == 0 {
+                return Ok(());
+            }
+            if mark < 16 {
+                return push_part(text, format!(in alloc; "mark {mark}")?.as_str());
+            }
+            push_part(text, format!(in alloc; "mark 0x{mark:x}")?.as_str())
+        }
+    }
+}
+
+/// Appends the metrics, the incoming link and the preference.
+#[tactic(auto, unfolding(crate::specs::Route::last_parts))]
+fn push_last(
+    alloc: Global,
+    text: &mut String,
+    known: &Names<'_>,
+    route: &MessageIndex<'_, Routes>,
+) -> Result<(), AllocError>
+    ensures { OnOk result (string_bytes text.new
+        ≡ with_parts (string_bytes text.old) (last_parts known.now route.now.message.payload.now)) }
+{
+    push_metrics(alloc, text, route)?;
+    push_device(text, known, "iif", route.view().u32(RTA_IIF))?;
+    push_preference_part(alloc, text, route.view().u8(RTA_PREF))
+}
+
+/// Appends the preference of a router, if there is one.
+#[tactic(auto, unfolding(netlink_words::specs::Parts::with_part))]
+fn push_preference_part(
+    alloc: Global,
+    text: &mut String,
+    preference: Option<u8>,
+) -> Result<(), AllocError>
+    ensures { OnOk result
+        (string_bytes text.new ≡ with_part (string_bytes text.old) (preference_part preference)) }
+{
+    match preference {
+        Some(preference) => push_preference(alloc, text, preference),
+        None => Ok(()),
+    }
+}

@@ -1,0 +1,147 @@
+//! The next hops of a route.
+
+ghost use Rattle.std.specs.Prelude.{◌≡◌, OnOk, drop, length, string_bytes, take};
+ghost use Rattle.std.specs.List.{fold};
+ghost use Rattle.netlink_family.specs.Finding.{first_at, found_in};
+ghost use Rattle.netlink_family.specs.Listing.{listed};
+ghost use Rattle.netlink_family.specs.Values.{value_bytes};
+ghost use Rattle.netlink_route.specs.declared.routes.TheConstants.{RTA_GATEWAY, RTA_MULTIPATH, RTA_VIA};
+ghost use Rattle.netlink_words.specs.Parts.{or_empty};
+ghost use Rattle.netlink_words.specs.Parts.{with_part, with_parts};
+ghost use Rattle.netlink_route_lines.specs.RouteHops.{IsHop, IsHops, IsOfHop, hop_parts, hops_text, next_parts, via_part, with_hop};
+
+use crate::route_names::push_hop_flags;
+use netlink_family::{BlockView, MessageIndex, Table, Value};
+use netlink_names::device::push_device;
+use netlink_names::name_table::Names;
+use netlink_packet_core::parse_u32;
+use netlink_route::Routes;
+use netlink_route::routes::{RTA_FLOW, RTA_GATEWAY, RTA_MULTIPATH, RTA_VIA};
+use netlink_words::names::family_text;
+use netlink_words::parts::{or_empty, push_address, push_number, push_part, push_realms};
+use netlink_words::text::ip_words;
+use std::alloc::{AllocError, Global};
+
+/// Appends the next hops in `RTA_MULTIPATH`, each after `nexthop`.
+#[tactic(auto, unfolding(crate::specs::RouteHops::hops_text))]
+pub(crate) fn push_hops(
+    alloc: Global,
+    text: &mut String,
+    known: &Names<'_>,
+    route: &MessageIndex<'_, Routes>,
+) -> Result<(), AllocError>
+    ensures { OnOk result (string_bytes text.new ≡ hops_text known.now (string_bytes text.old)
+        (first_at 12 route.now.message.payload.now RTA_MULTIPATH)) }
+{
+    match route.view().nest(RTA_MULTIPATH) {
+        None => Ok(()),
+        Some(hops) => push_list(alloc, text, known, &hops),
+    }
+}
+
+/// Appends the next hops in a list.
+fn push_list(
+    alloc: Global,
+    text: &mut String,
+    known: &Names<'_>,
+    hops: &BlockView<'_>,
+) -> Result<(), AllocError>
+    requires { IsHops (⟦<Routes as Table>⟧.rows 24) hops.now }
+    ensures { OnOk result (string_bytes text.new
+        ≡ fold (with_hop known.now) (string_bytes text.old) (listed hops.now.block.now)) }
+{
+    for (word, value) in hops.attributes() {
+        push_hop(alloc, text, known, word, value)?;
+    }
+    Ok(())
+}
+
+/// Appends a next hop, given the attribute that it has the form of.
+fn push_hop(
+    alloc: Global,
+    text: &mut String,
+    known: &Names<'_>,
+    word: u16,
+    value: Value<'_>,
+) -> Result<(), AllocError>
+    requires { IsHop (⟦<Routes as Table>⟧.rows 24) value }
+    ensures { OnOk result (string_bytes text.new ≡ with_parts (string_bytes text.old)
+        (hop_parts known.now word (take 4 (value_bytes value.entry)) (drop 4 (value_bytes value.entry)))) }
+{
+    match value {
+        Value::HeaderNested(header, attributes) => {
+            push_hop_parts(alloc, text, known, word, header.bytes, &attributes)
+        }
+        _ => unreachable!(),
+    }
+}
+
+/// Appends a next hop by its flags and hops, the bytes before its attributes, and its attributes.
+#[tactic(auto, unfolding(crate::specs::RouteHops::hop_parts, netlink_words::specs::Parts::number_part))]
+fn push_hop_parts(
+    alloc: Global,
+    text: &mut String,
+    known: &Names<'_>,
+    word: u16,
+    header: &[u8],
+    attributes: &BlockView<'_>,
+) -> Result<(), AllocError>
+    requires header { length header.now ≡ 4 }
+    requires attributes { IsOfHop (⟦<Routes as Table>⟧.rows 24) attributes.now }
+    ensures { OnOk result (string_bytes text.new ≡ with_parts (string_bytes text.old)
+        (hop_parts known.now word header.now attributes.now.block.now)) }
+{
+    push_part(text, "nexthop")?;
+    push_next(alloc, text, gateway_of(attributes), via_of(attributes))?;
+    push_realms(alloc, text, "realm", "realms", attributes.u32(RTA_FLOW))?;
+    push_device(text, known, "dev", Some(parse_u32(header).unwrap()))?;
+    let weight = (word / 256) as u32 + 1;
+    push_number(text, "weight", Some(weight))?;
+    push_hop_flags(alloc, text, (word % 256) as u32)
+}
+
+/// Returns the gateway of a next hop; empty if there is none.
+fn gateway_of<'a>(attributes: &BlockView<'a>) -> &'a [u8]
+    requires { IsOfHop (⟦<Routes as Table>⟧.rows 24) attributes.now }
+    ensures { result.now ≡ or_empty (found_in attributes.now.block.now RTA_GATEWAY) }
+{
+    or_empty(attributes.ip(RTA_GATEWAY))
+}
+
+/// Returns the gateway of another family of a next hop; empty if there is none.
+fn via_of<'a>(attributes: &BlockView<'a>) -> &'a [u8]
+    requires { IsOfHop (⟦<Routes as Table>⟧.rows 24) attributes.now }
+    ensures { result.now ≡ or_empty (found_in attributes.now.block.now RTA_VIA) }
+{
+    or_empty(attributes.bytes(RTA_VIA))
+}
+
+/// Appends the gateway, in `RTA_GATEWAY`, and that of another family, in `RTA_VIA`.
+pub(crate) fn push_next(
+    alloc: Global,
+    text: &mut String,
+    gateway: &[u8],
+    via: &[u8],
+) -> Result<(), AllocError>
+    ensures { OnOk result (string_bytes text.new
+        ≡ with_parts (string_bytes text.old) (next_parts gateway.now via.now)) }
+{
+    push_address(alloc, text, "via", gateway)?;
+    push_via(alloc, text, via)
+}
+
+/// Appends the gateway of another family: the name of the family and the address.
+#[tactic(auto, unfolding(netlink_words::specs::Parts::with_part))]
+fn push_via(alloc: Global, text: &mut String, bytes: &[u8]) -> Result<(), AllocError>
+    ensures { OnOk result
+        (string_bytes text.new ≡ with_part (string_bytes text.old) (via_part bytes.now)) }
+{
+    match bytes {
+        [low, _, address @ ..] => {
+            let family = family_text(alloc, *low)?;
+            let address = ip_words(alloc, address)?;
+            push_part(text, format!(in alloc; "via {family} {address}")?.as_str())
+        }
+        _ => Ok(()),
+    }
+}
