@@ -8,15 +8,15 @@ use Rattle.netlink_packet_core.specs.Attribute.{Attribute}
 use Rattle.netlink_packet_core.specs.Nla.{attribute_with}
 use Rattle.netlink_packet_core.specs.Views.{attribute_of, masked}
 use Rattle.netlink_packet_core.specs.Walk.{Starts}
-use Rattle.netlink_family.specs.Blocks.{all_normalized, normalized, with_first}
-use Rattle.netlink_family.specs.FindingLaws.{first_later}
-use Rattle.netlink_family.specs.Listing.{first_of, listed}
-use Rattle.netlink_family.specs.Pushing.{chooses, is_chosen_by, is_late, keeps_shape, late_error}
-use Rattle.netlink_family.specs.Shapes.{Row, Scope, any_kind, choice_by, is_shaped, keep, nest_levels, or_first, reading_in, resolved, row_at, shape_among, shape_by, shape_in}
-use Rattle.netlink_family.specs.ShowLaws.{before_step}
-use Rattle.netlink_family.specs.declared.attribute_error.AttributeError.{AttributeError}
-use Rattle.netlink_family.specs.declared.shape.Shape.{Shape}
-use Rattle.netlink_family.specs.declared.shape.Shape.TheVariants.{Flag, U8, U16, U32, U64, I32, I64, Be16, Be32, Be64, ExactLen, Ip, NulStr, Str, MinLen, Nested, HeaderNested, Chosen, Bytes}
+use Rattle.netlink_shapes.specs.Blocks.{all_normalized, normalized, with_first}
+use Rattle.netlink_shapes.specs.ListingLaws.{first_later}
+use Rattle.netlink_shapes.specs.Listing.{first_of, listed}
+use Rattle.netlink_shapes.specs.Pushing.{chooses, is_chosen_by, is_late, keeps_shape, late_error}
+use Rattle.netlink_shapes.specs.Shapes.{Row, Scope, any_kind, choice_by, is_shaped, keep, nest_levels, or_first, reading_in, resolved, row_at, shape_among, shape_by, shape_in}
+use Rattle.netlink_shapes.specs.ListingLaws.{before_step}
+use Rattle.netlink_shapes.specs.declared.attribute_error.AttributeError.{AttributeError}
+use Rattle.netlink_shapes.specs.declared.shape.Shape.{Shape}
+use Rattle.netlink_shapes.specs.declared.shape.Shape.TheVariants.{Flag, U8, U16, U32, U64, I32, I64, Be16, Be32, Be64, ExactLen, Ip, NulStr, Str, MinLen, Nested, HeaderNested, Chosen, Bytes}
 
 -- ---- a kind that chooses no shape
 

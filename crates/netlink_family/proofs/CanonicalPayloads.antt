@@ -15,16 +15,16 @@ use Rattle.netlink_packet_core.specs.Block.{canonical_block}
 use Rattle.netlink_packet_core.specs.Nla.{attribute_with, block_max}
 use Rattle.netlink_packet_core.specs.ReadingLaws.{attributes_in-written}
 use Rattle.netlink_packet_core.specs.Storage.{put_at}
-use Rattle.netlink_family.specs.Blocks.{value_fits}
+use Rattle.netlink_shapes.specs.Blocks.{value_fits}
 use Rattle.netlink_family.specs.BlocksLaws.{AreNormalized}
 use Rattle.netlink_family.specs.PayloadReading.{IsWrittenBy, payload_again, payload_written}
 use Rattle.netlink_family.specs.Message.{is_canonical_payload, is_encoding}
 use Rattle.netlink_family.specs.CanonicalPayloadLaws.{canonical_reads, shaped_itself, canonical_long}
-use Rattle.netlink_family.specs.Listing.{listed, listed_all}
-use Rattle.netlink_family.specs.Pushing.{has_room, late_error}
-use Rattle.netlink_family.specs.Shapes.{Row, fits_kind, keeps_by, reading_by, within}
+use Rattle.netlink_shapes.specs.Listing.{listed, listed_all}
+use Rattle.netlink_shapes.specs.Pushing.{has_room, late_error}
+use Rattle.netlink_shapes.specs.Shapes.{Row, fits_kind, keeps_by, reading_by, within}
 use Rattle.netlink_family.proofs.Appending.{are_pushed}
-use Rattle.netlink_family.proofs.Normalizing.{canonical-push, nothing_normalized, normalized_push}
+use Rattle.netlink_shapes.specs.Normalizing.{canonical-push, nothing_normalized, normalized_push}
 
 parts_of : (size : ℕ) (rows : List Row) (bytes : List ℕ) → is_canonical_payload size rows bytes ≡ true
     → IsWrittenBy size (reading_by rows) 0 (0, bytes)

@@ -1,15 +1,5 @@
-pub mod Checking
-pub mod NestChecking
-pub mod FirstErrors
 pub mod Appending
-pub mod Headers
-pub mod Lines
 pub mod CanonicalPayloads
-pub mod ZeroPadding
-pub mod Normalizing
-pub mod RowSearch
-pub mod PolicyRows
-pub mod Payloads
 pub mod Frames
-pub mod WholeWalks
-pub mod Indexing
+pub mod Lines
+pub mod Payloads

@@ -3,8 +3,8 @@ use Rattle.std.proofs.Common.{◌≡◌, ℕ, zero, suc, ◌+◌, ◌<◌, List,
 use Rattle.netlink_packet_core.specs.Attribute.{Attribute}
 use Rattle.netlink_packet_core.specs.Views.{attribute_of}
 use Rattle.netlink_packet_core.specs.Walk.{Starts}
-use Rattle.netlink_family.specs.Show.{before_error, each_of, indent, lines_in, lines_of}
-use Rattle.netlink_family.specs.ShowLaws.{before_step}
+use Rattle.netlink_blocks.specs.Show.{before_error, each_of, indent, lines_in, lines_of}
+use Rattle.netlink_shapes.specs.ListingLaws.{before_step}
 
 pub joins : (t0 t1 t2 a b : List ℕ) → t1 ≡ t0 ++ a → t2 ≡ t1 ++ b → t2 ≡ t0 ++ (a ++ b)
 joins t0 t1 t2 a b first second = second ∙ ap (λ (t : List ℕ). t ++ b) first ∙ append_assoc t0 a b

@@ -16,20 +16,21 @@ use Rattle.netlink_packet_core.specs.ReadingLaws.{attributes_in-walk, walk-attri
 use Rattle.netlink_packet_core.specs.StartLaws.{starts-length}
 use Rattle.netlink_packet_core.specs.Views.{attribute_of}
 use Rattle.netlink_packet_core.specs.Walk.{IsFault, Starts, Walk}
-use Rattle.netlink_family.specs.Blocks.{all_normalized, block_fits}
+use Rattle.netlink_shapes.specs.Blocks.{all_normalized, block_fits}
 use Rattle.netlink_family.specs.PayloadReading.{payload_reading, short_reading}
-use Rattle.netlink_family.specs.ErrorLaws.{block_shaped, error_malformed, error_nothing, error_step, none_of, value_shaped, short_complete}
-use Rattle.netlink_family.specs.Errors.{block_error, payload_error, message_error, rest_error, too_long_error, value_error, short_error}
+use Rattle.netlink_shapes.specs.ErrorLaws.{block_shaped, error_malformed, error_nothing, error_step, none_of, value_shaped}
+use Rattle.netlink_family.specs.PayloadErrorLaws.{short_complete}
+use Rattle.netlink_shapes.specs.Errors.{block_error, payload_error, message_error, rest_error, too_long_error, value_error, short_error}
 use Rattle.netlink_family.specs.Message.{is_canonical_payload}
 use Rattle.netlink_family.specs.CanonicalPayloadLaws.{fits_by_size, payload_read, canonical_sent}
-use Rattle.netlink_family.specs.Shapes.{Row, Scope, all_shaped, are_shaped, fits_kind, is_block_shaped, nest_levels, or_first, reading_by, within}
-use Rattle.netlink_family.specs.Short.{is_cut, is_short, sent}
+use Rattle.netlink_shapes.specs.Shapes.{Row, Scope, all_shaped, fits_kind, is_block_shaped, nest_levels, or_first, reading_by, within}
+use Rattle.netlink_shapes.specs.Short.{is_cut, is_short, sent}
 use Rattle.netlink_family.specs.ShortLaws.{other_error, short_parts}
-use Rattle.netlink_family.specs.Iteration.{AreShaped, fits, fits_at}
-use Rattle.netlink_family.specs.declared.error.FamilyError.{FamilyError}
-use Rattle.netlink_family.specs.declared.error.FamilyError.TheVariants.{InvalidAttribute, HeaderShort, TooLong}
-use Rattle.netlink_family.specs.declared.attribute_error.AttributeError.{AttributeError}
-use Rattle.netlink_family.proofs.Checking.{none_is, shaped_normalized, shaped_nothing}
+use Rattle.netlink_shapes.specs.Fitting.{fits}
+use Rattle.netlink_shapes.specs.declared.error.FamilyError.{FamilyError}
+use Rattle.netlink_shapes.specs.declared.error.FamilyError.TheVariants.{InvalidAttribute, HeaderShort, TooLong}
+use Rattle.netlink_shapes.specs.declared.attribute_error.AttributeError.{AttributeError}
+use Rattle.netlink_shapes.specs.Checking.{none_is, shaped_normalized, shaped_nothing}
 
 -- ---- the length of a block in canonical form
 
@@ -79,16 +80,6 @@ fits_by_own block all long each is reads =
     fits_by_size block all walk ∙ by_size (length block) (length (canonical_block all)) long (written_size block all walk) is
 
 -- ---- a payload whose attributes have no error
-
-by_found : (scope : Scope) (policy : ℕ) (block : List ℕ) (found : Option (List Attribute)) → IsBytes block
-    → attributes_in block ≡ found → all_shaped (fits_at scope policy) found ≡ true → AreShaped scope policy block
-by_found scope policy block None each reads shaped = absurd (cc)
-by_found scope policy block (Some all) each reads shaped =
-    record { all = all; walk = walk-attributes_in block all each reads; shaped = shaped }
-
-pub block_attributes : (scope : Scope) (policy : ℕ) (block : List ℕ) → IsBytes block
-    → are_shaped nest_levels scope policy block ≡ true → AreShaped scope policy block
-block_attributes scope policy block each shaped = by_found scope policy block (attributes_in block) each refl shaped
 
 -- ---- the error of a payload
 

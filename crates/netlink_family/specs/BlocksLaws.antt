@@ -7,7 +7,7 @@ use Rattle.netlink_packet_core.specs.Block.{canonical_block}
 use Rattle.netlink_packet_core.specs.Nla.{attribute_with}
 use Rattle.netlink_packet_core.specs.Reading.{attributes_in}
 use Rattle.netlink_packet_core.specs.ReadingLaws.{attributes_in-fit, attributes_in-written}
-use Rattle.netlink_family.specs.Blocks.{KeepsValues, KindReading, ValueReading, all_normalized, block_fits, block_reading, keep_fit, normalize, normalized, with_first}
+use Rattle.netlink_shapes.specs.Blocks.{KeepsValues, KindReading, ValueReading, all_normalized, block_fits, block_reading, keep_fit, normalize, normalized, with_first}
 
 -- ---- canonical attributes are read as themselves
 

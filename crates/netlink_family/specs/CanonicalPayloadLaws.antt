@@ -15,15 +15,15 @@ use Rattle.netlink_packet_core.specs.Reading.{attributes_in}
 use Rattle.netlink_packet_core.specs.ReadingLaws.{attributes_in-fit, attributes_in-walk}
 use Rattle.netlink_packet_core.specs.Walk.{Walk}
 use Rattle.netlink_packet_core.specs.declared.header.NetlinkHeader.{NetlinkHeader}
-use Rattle.netlink_family.specs.Blocks.{ValueReading, all_normalized, block_fits, block_reading, keep_fit, normalize, value_fits}
+use Rattle.netlink_shapes.specs.Blocks.{ValueReading, all_normalized, block_fits, block_reading, keep_fit, normalize, value_fits}
 use Rattle.netlink_family.specs.PayloadReading.{after_header, payload_again, payload_reading, payload_written, short_reading}
-use Rattle.netlink_family.specs.Errors.{block_error, payload_error, too_long_error}
-use Rattle.netlink_family.specs.declared.error.FamilyError.TheVariants.{InvalidAttribute, HeaderShort, TooLong}
-use Rattle.netlink_family.specs.declared.attribute_error.AttributeError.{AttributeError}
+use Rattle.netlink_shapes.specs.Errors.{block_error, payload_error, too_long_error}
+use Rattle.netlink_shapes.specs.declared.error.FamilyError.TheVariants.{InvalidAttribute, HeaderShort, TooLong}
+use Rattle.netlink_shapes.specs.declared.attribute_error.AttributeError.{AttributeError}
 use Rattle.netlink_family.specs.Message.{message_decoding, is_canonical_payload, is_encoding}
 use Rattle.netlink_family.specs.MessageLaws.{HasOwnTypes, reading_lawful}
-use Rattle.netlink_family.specs.Shapes.{Row, Scope, fits_kind, keep, keeps_by, or_first, reading_by, reading_in}
-use Rattle.netlink_family.specs.Short.{is_cut, sent}
+use Rattle.netlink_shapes.specs.Shapes.{Row, Scope, fits_kind, keep, keeps_by, or_first, reading_by, reading_in}
+use Rattle.netlink_shapes.specs.Short.{is_cut, sent}
 use Rattle.netlink_family.specs.ShortLaws.{read_long, same_sent, sent_reads}
 
 by_found : (long : Bool) (head : List ℕ) (found : Option (List Attribute)) (bytes : List ℕ)

@@ -7,13 +7,13 @@ use Rattle.netlink_packet_core.specs.Attribute.{Attribute, padded_size}
 use Rattle.netlink_packet_core.specs.FieldLaws.{length-value}
 use Rattle.netlink_packet_core.specs.Reading.{attributes_in, starts_whole}
 use Rattle.netlink_packet_core.specs.Views.{attribute_of, length_field, raw_kind}
-use Rattle.netlink_family.specs.Blocks.{block_fits}
-use Rattle.netlink_family.specs.Errors.{ValueError, block_error, first_error, message_error, too_long_error, value_error, payload_error}
-use Rattle.netlink_family.specs.Shapes.{Row, Scope, by_nest, has_shape, nest_block, nest_levels, nest_of, nest_start, or_first, shape_among, within}
-use Rattle.netlink_family.specs.Short.{is_short}
-use Rattle.netlink_family.specs.declared.error.FamilyError.{FamilyError}
-use Rattle.netlink_family.specs.declared.error.FamilyError.TheVariants.{InvalidAttribute, HeaderShort, TooLong}
-use Rattle.netlink_family.specs.declared.attribute_error.AttributeError.{AttributeError}
+use Rattle.netlink_shapes.specs.Blocks.{block_fits}
+use Rattle.netlink_shapes.specs.Errors.{ValueError, block_error, first_error, message_error, too_long_error, value_error, payload_error}
+use Rattle.netlink_shapes.specs.Shapes.{Row, Scope, by_nest, has_shape, nest_block, nest_levels, nest_of, nest_start, or_first, shape_among, within}
+use Rattle.netlink_shapes.specs.Short.{is_short}
+use Rattle.netlink_shapes.specs.declared.error.FamilyError.{FamilyError}
+use Rattle.netlink_shapes.specs.declared.error.FamilyError.TheVariants.{InvalidAttribute, HeaderShort, TooLong}
+use Rattle.netlink_shapes.specs.declared.attribute_error.AttributeError.{AttributeError}
 
 -- the offset of the error, if there is one, is at least `from` and less than `end`
 abbrev pub IsInside : ℕ → ℕ → Option AttributeError → Type 0

@@ -2,9 +2,9 @@
 use Rattle.std.specs.Prelude.{ℕ, Bool, true, false, List, Option, Some, None, bytes_eq, if◌then◌else◌}
 use Rattle.netlink_packet_core.specs.Protocol.{Decoding}
 use Rattle.netlink_packet_core.specs.declared.header.NetlinkHeader.{NetlinkHeader}
-use Rattle.netlink_family.specs.Blocks.{ValueReading}
+use Rattle.netlink_shapes.specs.Blocks.{ValueReading}
 use Rattle.netlink_family.specs.PayloadReading.{payload_reading, short_reading}
-use Rattle.netlink_family.specs.Shapes.{Row, reading_by}
+use Rattle.netlink_shapes.specs.Shapes.{Row, reading_by}
 
 -- the canonical form of a payload, by its message type
 abbrev pub message_reading : (ℕ → Bool) → (ℕ → Bool) → (ℕ → ℕ) → (ℕ → ValueReading) → NetlinkHeader → List ℕ → Option (ℕ × List ℕ)

@@ -7,8 +7,8 @@ use Rattle.netlink_packet_core.specs.declared.header.NetlinkHeader.{NetlinkHeade
 use Rattle.netlink_family.specs.PayloadReading.{short_reading}
 use Rattle.netlink_family.specs.ShortLaws.{short_again}
 use Rattle.netlink_family.specs.Message.{message_decoding, message_reading}
-use Rattle.netlink_family.specs.Shapes.{are_own, has_type}
-use Rattle.netlink_family.specs.Blocks.{KeepsValues, ValueReading}
+use Rattle.netlink_shapes.specs.Shapes.{are_own, has_type}
+use Rattle.netlink_shapes.specs.Blocks.{KeepsValues, ValueReading}
 
 -- ---- a canonical payload is read as itself
 

@@ -5,9 +5,9 @@ use Rattle.std.proofs.lemmas.Bool.{leb-true, le-leb}
 use Rattle.std.proofs.lemmas.List.{take_at, drop_at, length-take-le}
 use Rattle.netlink_packet_core.specs.Attribute.{Attribute}
 use Rattle.netlink_packet_core.specs.Block.{canonical_block}
-use Rattle.netlink_family.specs.Blocks.{KeepsValues, ValueReading, block_reading}
+use Rattle.netlink_shapes.specs.Blocks.{KeepsValues, ValueReading, block_reading}
 use Rattle.netlink_family.specs.BlocksLaws.{AreNormalized, block_again, reading_normalized}
-use Rattle.netlink_family.specs.Short.{is_short}
+use Rattle.netlink_shapes.specs.Short.{is_short}
 
 abbrev pub after_header : ℕ → List ℕ → Option (List Attribute) → Option (ℕ × List ℕ)
 after_header t head None = None

@@ -5,18 +5,18 @@ use Rattle.std.proofs.Common.{ap, sym, ◌∙◌}
 use Rattle.std.proofs.lemmas.Bool.{eq-eqb}
 use Rattle.netlink_packet_core.specs.Numbers.{bytes_be, bytes_le, unsigned}
 use Rattle.netlink_packet_core.specs.Views.{masked}
-use Rattle.netlink_family.specs.Errors.{value_error}
-use Rattle.netlink_family.specs.ErrorLaws.{value_shaped}
-use Rattle.netlink_family.specs.NestLaws.{flat_step}
-use Rattle.netlink_family.specs.Pushing.{added_error, choosers, chooses, is_chosen_by, push_error, room_error, with_chooser}
-use Rattle.netlink_family.specs.Shapes.{Row, Scope, fits_kind, has_shape, has_type, is_shaped, nest_levels, nest_of, or_first, resolved, shape_in, within}
-use Rattle.netlink_family.specs.Values.{is_satisfied, value_bytes, value_shape}
-use Rattle.netlink_family.specs.declared.attribute_error.AttributeError.{AttributeError}
-use Rattle.netlink_family.specs.declared.error.FamilyError.TheVariants.{InvalidAttribute}
-use Rattle.netlink_family.specs.declared.shape.Shape.{Shape}
-use Rattle.netlink_family.specs.declared.shape.Shape.TheVariants as shape
-use Rattle.netlink_family.specs.declared.value.Value.{Value}
-use Rattle.netlink_family.specs.declared.value.Value.TheVariants as variant
+use Rattle.netlink_shapes.specs.Errors.{value_error}
+use Rattle.netlink_shapes.specs.ErrorLaws.{value_shaped}
+use Rattle.netlink_shapes.specs.NestLaws.{flat_step}
+use Rattle.netlink_shapes.specs.Pushing.{added_error, choosers, chooses, is_chosen_by, push_error, room_error, with_chooser}
+use Rattle.netlink_shapes.specs.Shapes.{Row, Scope, fits_kind, has_shape, has_type, is_shaped, nest_levels, nest_of, or_first, resolved, shape_in, within}
+use Rattle.netlink_blocks.specs.Values.{is_satisfied, value_bytes, value_shape}
+use Rattle.netlink_shapes.specs.declared.attribute_error.AttributeError.{AttributeError}
+use Rattle.netlink_shapes.specs.declared.error.FamilyError.TheVariants.{InvalidAttribute}
+use Rattle.netlink_shapes.specs.declared.shape.Shape.{Shape}
+use Rattle.netlink_shapes.specs.declared.shape.Shape.TheVariants as shape
+use Rattle.netlink_blocks.specs.declared.value.Value.{Value}
+use Rattle.netlink_blocks.specs.declared.value.Value.TheVariants as variant
 
 -- the error is that of the value, or else that of its place; if it has none, the only error is that
 -- there is no room

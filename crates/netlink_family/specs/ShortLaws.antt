@@ -1,15 +1,15 @@
 -- A short payload is read as itself, and a payload that contains the header is not short.
-use Rattle.std.specs.Prelude.{ℕ, zero, suc, ◌≡◌, ◌≢◌, ◌+◌, ◌-◌, ◌<◌, ◌≤◌, ◌==◌, nat_le, nat_lt, Bool, true, false, not, List, [], ◌∷◌, ◌++◌, length, take, drop, replicate, Option, Some, None, refl, if◌then◌else◌}
+use Rattle.std.specs.Prelude.{ℕ, zero, suc, ◌≡◌, ◌+◌, ◌-◌, ◌<◌, ◌≤◌, ◌==◌, nat_le, nat_lt, Bool, true, false, not, List, [], ◌∷◌, ◌++◌, length, take, drop, replicate, Option, Some, None, refl, if◌then◌else◌}
 use Rattle.std.specs.Cmp.Lexicographic.{bytes_decides}
 use Rattle.std.proofs.Common.{ap, arith, sym, ◌∙◌, length-append, ne_eqb}
 use Rattle.std.proofs.lemmas.Bool.{and_from, and_left, and_parts, and_right, le-leb, le-ltb, leb-true, lt-ltb, ltb-true}
 use Rattle.std.proofs.lemmas.List.{drop_all, length-replicate, length-take-le, take_all, take_at}
 use Rattle.netlink_packet_core.specs.Block.{canonical_block}
-use Rattle.netlink_family.specs.Blocks.{KeepsValues, ValueReading}
-use Rattle.netlink_family.specs.Errors.{payload_error, short_error}
+use Rattle.netlink_shapes.specs.Blocks.{KeepsValues, ValueReading}
+use Rattle.netlink_shapes.specs.Errors.{payload_error, short_error}
 use Rattle.netlink_family.specs.PayloadReading.{payload_again, payload_reading, payload_written, short_reading}
-use Rattle.netlink_family.specs.Shapes.{Row}
-use Rattle.netlink_family.specs.Short.{filled, is_cut, is_short, sent}
+use Rattle.netlink_shapes.specs.Shapes.{Row}
+use Rattle.netlink_shapes.specs.Short.{filled, is_cut, is_short, sent}
 
 -- ---- short payloads
 
@@ -114,13 +114,6 @@ cut_parts allows size n bytes is =
       short = q.0;
       rest = (bytes_decides bytes (filled size (take (suc n) bytes))).0 q.1;
     }
-
-pub sent_none : (n : ℕ) (bytes : List ℕ) → n ≡ 0 → sent n bytes ≡ bytes
-sent_none n bytes none = ap (λ (k : ℕ). sent k bytes) none
-
-pub sent_some : (n : ℕ) (bytes : List ℕ) → n ≢ 0 → sent n bytes ≡ take n bytes
-sent_some zero bytes some = absurd (some refl)
-sent_some (suc n) bytes some = refl
 
 pub cut_fits : (allows : Bool) (size n : ℕ) (bytes : List ℕ) → is_cut allows size n bytes ≡ true → n ≤ length bytes
 cut_fits allows size zero bytes cut = omega arith

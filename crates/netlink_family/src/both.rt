@@ -1,14 +1,14 @@
 //! Joining families.
 
 ghost use Rattle.std.specs.Prelude.{◌≡◌, ◌++◌, ◌↔◌, IsOk, IfOk, IfErr, true, if◌then◌else◌};
-ghost use Rattle.netlink_family.specs.SortedLaws.{both_sorted};
-ghost use Rattle.netlink_family.specs.Shapes.{are_own, has_type};
+ghost use Rattle.netlink_shapes.specs.SortedLaws.{both_sorted};
+ghost use Rattle.netlink_shapes.specs.Shapes.{are_own, has_type};
 
 use crate::family::{Family, Table};
-use crate::header_view::Field;
 use crate::owned::OwnedMessage;
-use crate::shape::Row;
 use crate::view::MessageView;
+use netlink_blocks::header_view::Field;
+use netlink_shapes::shape::Row;
 use std::fmt::Debug;
 use std::marker::PhantomData;
 

@@ -6,20 +6,20 @@ ghost use Rattle.std.specs.Prelude.{◌≡◌, ◌≤◌, [], List, Some, false,
 ghost use Rattle.netlink_packet_core.specs.Attribute.{Attribute};
 ghost use Rattle.netlink_packet_core.specs.Reading.{attributes_in};
 ghost use Rattle.netlink_packet_core.specs.Steps.{item_bound, unread};
-ghost use Rattle.netlink_family.specs.Blocks.{block_fits};
-ghost use Rattle.netlink_family.specs.Choices.{AreChoices};
-ghost use Rattle.netlink_family.specs.Iteration.{YieldsChecked};
-ghost use Rattle.netlink_family.specs.Errors.{block_error, family_error, rest_error, too_long_error};
-ghost use Rattle.netlink_family.specs.Shapes.{or_first, rows_in, within, are_sorted};
+ghost use Rattle.netlink_shapes.specs.Blocks.{block_fits};
+ghost use Rattle.netlink_shapes.specs.Choices.{AreChoices};
+ghost use Rattle.netlink_blocks.specs.Iteration.{YieldsChecked};
+ghost use Rattle.netlink_shapes.specs.Errors.{block_error, family_error, rest_error, too_long_error};
+ghost use Rattle.netlink_shapes.specs.Shapes.{or_first, rows_in, within, are_sorted};
 
-use crate::attribute_error::{AttributeError, error_in};
-use crate::block::{block_error, fits_shape};
-use crate::choice::{Choices, NO_CHOICES, kept_shape_among};
-use crate::error::{FamilyError, header_short};
 use crate::family::{Table, is_short, rows_of};
-use crate::shape::{NEST_LEVELS, Row, TOP};
-use crate::value::{Value, value_in};
+use netlink_blocks::value::{Value, value_in};
 use netlink_packet_core::{NLA_BLOCK_MAX, NlasIterator};
+use netlink_shapes::attribute_error::{AttributeError, error_in};
+use netlink_shapes::block::{block_error, fits_shape};
+use netlink_shapes::choice::{Choices, NO_CHOICES, kept_shape_among};
+use netlink_shapes::error::{FamilyError, header_short};
+use netlink_shapes::shape::{NEST_LEVELS, Row, TOP};
 use std::marker::PhantomData;
 
 /// An iterator over the attributes of a payload, in order, that checks each before it yields its
@@ -116,8 +116,8 @@ impl<'a, F: Table> CheckedAttributes<'a, F> {
         error
     }
 
-    /// The same as an item. It is a separate function so that other items do not initialize the
-    /// space for an error.
+    /// Returns the error of the rest of the walk as an item, and ends the walk. It is a separate
+    /// function so that other items do not initialize the space for an error.
     #[inline(always)]
     fn last(&mut self) -> Option<Result<(u16, Value<'a>), AttributeError>>
         requires { is_none (rest_error (within (F.rows self.old.message_type) self.old.block.now) self.old.end

@@ -1,13 +1,13 @@
 //! What a family declares.
 
 ghost use Rattle.std.specs.Prelude.{◌≡◌, ℕ, Bool, List, true};
-ghost use Rattle.netlink_family.specs.Pushing.{chooses};
-ghost use Rattle.netlink_family.specs.Shapes.{Field, Row, are_own, fields_in, has_type, rows_in, shape_in, are_sorted};
-ghost use Rattle.netlink_family.specs.Short.{is_short};
+ghost use Rattle.netlink_shapes.specs.Pushing.{chooses};
+ghost use Rattle.netlink_shapes.specs.Shapes.{Field, Row, are_own, fields_in, has_type, rows_in, shape_in, are_sorted};
+ghost use Rattle.netlink_shapes.specs.Short.{is_short};
 
-use crate::header_view::Field;
 use crate::late::chooses;
-use crate::shape::{Row, Shape, row_shape};
+use netlink_blocks::header_view::Field;
+use netlink_shapes::shape::{Row, Shape, row_shape};
 use std::fmt::Debug;
 
 /// The size of the largest short payload.

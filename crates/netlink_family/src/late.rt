@@ -3,15 +3,15 @@
 ghost use Rattle.std.specs.Prelude.{◌≡◌, ◌&&◌, IfNone, None, is_some, true};
 ghost use Rattle.std.specs.List.{list_all};
 ghost use Rattle.netlink_packet_core.specs.Views.{masked};
-ghost use Rattle.netlink_family.specs.Listing.{first_of, listed};
-ghost use Rattle.netlink_family.specs.Pushing.{added_error, chooses, is_chosen_by, is_late, keeps_shape, late_error};
-ghost use Rattle.netlink_family.specs.Shapes.{fits_kind, rows_in, within, are_sorted};
+ghost use Rattle.netlink_shapes.specs.Listing.{first_of, listed};
+ghost use Rattle.netlink_shapes.specs.Pushing.{added_error, chooses, is_chosen_by, is_late, keeps_shape, late_error};
+ghost use Rattle.netlink_shapes.specs.Shapes.{fits_kind, rows_in, within, are_sorted};
 
-use crate::attribute_error::{AttributeError, Reason, value_error};
 use crate::family::{Table, rows_of};
-use crate::find::first_value;
-use crate::shape::{NEST_LEVELS, Row, Shape, TOP, row_shape};
 use netlink_packet_core::{NLA_TYPE_MASK, NlasIterator};
+use netlink_shapes::attribute_error::{AttributeError, Reason, value_error};
+use netlink_shapes::find::first_value;
+use netlink_shapes::shape::{NEST_LEVELS, Row, Shape, TOP, row_shape};
 
 /// Returns the error of appending an attribute to a block, with the offset counted from the start of
 /// the attribute: that of its value, or else that it would change a shape.
@@ -75,7 +75,7 @@ fn keeps_shapes(rows: &[Row], block: &[u8], kind: u16) -> bool
 
 /// Returns whether a kind chooses the shape of some kind of a message's own attributes. Their rows
 /// are the first ones.
-#[tactic(auto, using(crate::proofs::PolicyRows::none_chooses))]
+#[tactic(auto, using(netlink_shapes::specs::PolicyRows::none_chooses))]
 pub(crate) fn chooses(rows: &[Row], kind: u16) -> bool
     requires sorted { are_sorted (rows_in rows.now) ≡ true }
     ensures { result ≡ chooses (rows_in rows.now) kind }

@@ -3,12 +3,12 @@
 
 ghost use Rattle.std.specs.Prelude.{◌≡◌, ◌≤◌, ◌<◌, length, List, ℕ, Some, is_none, is_some};
 ghost use Rattle.netlink_packet_core.specs.declared.header.NetlinkHeader.{NetlinkHeader};
-ghost use Rattle.netlink_family.specs.Errors.{family_error};
+ghost use Rattle.netlink_shapes.specs.Errors.{family_error};
 ghost use Rattle.netlink_family.specs.Message.{message_reading};
-ghost use Rattle.netlink_family.specs.Shapes.{has_type, reading_by};
-ghost use Rattle.netlink_family.specs.declared.error.FamilyError.{FamilyError};
-ghost use Rattle.netlink_family.specs.declared.error.FamilyError.TheVariants.{InvalidAttribute};
-ghost use Rattle.netlink_family.specs.declared.attribute_error.AttributeError.{AttributeError};
+ghost use Rattle.netlink_shapes.specs.Shapes.{has_type, reading_by};
+ghost use Rattle.netlink_shapes.specs.declared.error.FamilyError.{FamilyError};
+ghost use Rattle.netlink_shapes.specs.declared.error.FamilyError.TheVariants.{InvalidAttribute};
+ghost use Rattle.netlink_shapes.specs.declared.attribute_error.AttributeError.{AttributeError};
 
 use crate::family::Table;
 

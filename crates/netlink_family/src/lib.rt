@@ -3,45 +3,39 @@
 //! proved once.
 #![tactic(auto)]
 
-mod attribute_error;
-mod attributes;
-mod block;
-mod block_index;
-mod block_view;
 mod both;
 mod checked;
-mod choice;
-mod error;
 mod family;
-mod find;
-mod getters;
-mod header_view;
-mod index_getters;
 mod late;
 pub mod laws;
 mod message_index;
-mod nest;
 mod normal;
 mod owned;
 mod push;
-mod shape;
 mod show;
-mod value;
 mod view;
 
-pub use crate::attribute_error::{AttributeError, Reason};
-pub use crate::attributes::Attributes;
-pub use crate::block_index::BlockIndex;
-pub use crate::block_view::BlockView;
 pub use crate::both::{Both, Join, Joined};
 pub use crate::checked::CheckedAttributes;
-pub use crate::choice::{Choice, Choices};
-pub use crate::error::FamilyError;
 pub use crate::family::{Family, Table, is_among, is_short, shape_of};
-pub use crate::header_view::{Field, HeaderView};
 pub use crate::message_index::MessageIndex;
 pub use crate::owned::OwnedMessage;
-pub use crate::shape::{ANY, Row, Shape, TOP};
 pub use crate::show::name_of;
-pub use crate::value::{Value, bytes_until_nul, str_until_nul};
 pub use crate::view::MessageView;
+pub use netlink_blocks::attributes::Attributes;
+pub use netlink_blocks::block_index::BlockIndex;
+pub use netlink_blocks::block_view::BlockView;
+pub use netlink_blocks::header_view::{Field, HeaderView};
+pub use netlink_blocks::value::Value;
+pub use netlink_blocks::{
+    attributes as attributes, block_index as block_index, block_view as block_view,
+    header_view as header_view, value as value,
+};
+pub use netlink_shapes::attribute_error::{AttributeError, Reason};
+pub use netlink_shapes::choice::{Choice, Choices};
+pub use netlink_shapes::decoders::{bytes_until_nul, str_until_nul};
+pub use netlink_shapes::error::FamilyError;
+pub use netlink_shapes::shape::{ANY, Row, Shape, TOP};
+pub use netlink_shapes::{
+    attribute_error as attribute_error, choice as choice, error as error, shape as shape,
+};

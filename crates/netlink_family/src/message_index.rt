@@ -1,13 +1,13 @@
 //! A message with the places of its attributes.
 
 ghost use Rattle.std.specs.Prelude.{◌≡◌, ◌+◌, drop, false, length, take};
-ghost use Rattle.netlink_family.specs.Shapes.{rows_in};
-ghost use Rattle.netlink_family.specs.Short.{is_short};
+ghost use Rattle.netlink_shapes.specs.Shapes.{rows_in};
+ghost use Rattle.netlink_shapes.specs.Short.{is_short};
 
-use crate::block_index::BlockIndex;
 use crate::family::Table;
-use crate::header_view::HeaderView;
 use crate::view::MessageView;
+use netlink_blocks::block_index::BlockIndex;
+use netlink_blocks::header_view::HeaderView;
 
 /// A view of a message, with the place of the first attribute of each kind below 64. It pays off
 /// for a message of which more than a few attributes are wanted. Does not allocate.

@@ -1,15 +1,15 @@
 //! Writing payloads in canonical form.
 
 ghost use Rattle.std.specs.Prelude.{◌≡◌, ◌+◌, ◌++◌, ◌≤◌, ℕ, List, Some, IfErr, IfOk, OnOk, false, length, replicate, vec_capacity};
-ghost use Rattle.netlink_family.specs.ErrorTexts.{wants_memory};
-ghost use Rattle.netlink_family.specs.Errors.{payload_error};
+ghost use Rattle.netlink_shapes.specs.ErrorTexts.{wants_memory};
+ghost use Rattle.netlink_shapes.specs.Errors.{payload_error};
 ghost use Rattle.netlink_family.specs.PayloadReading.{payload_reading};
-ghost use Rattle.netlink_family.specs.Shapes.{reading_by};
+ghost use Rattle.netlink_shapes.specs.Shapes.{reading_by};
 
-use crate::block::append_block;
-use crate::error::FamilyError;
 use crate::family::{Table, rows_of};
 use netlink_packet_core::{NETLINK_HEADER_LEN, NLA_BLOCK_MAX, nla_align};
+use netlink_shapes::block::append_block;
+use netlink_shapes::error::FamilyError;
 use std::alloc::{AllocError, Global};
 
 /// Appends the canonical form of a payload that is not short. `size` is the size of its fixed

@@ -1,25 +1,25 @@
 //! A message that owns its bytes.
 
 ghost use Rattle.std.specs.Prelude.{◌≡◌, Err, ◌+◌, ◌≤◌, ◌<◌, replicate, take, ◌++◌, ◌∷◌, [], false, true, length, ℕ, None, Some, IfErr, IfOk, IfSome, IsTrue, not, refl, vec_capacity};
-ghost use Rattle.netlink_family.specs.ErrorTexts.{wants_memory};
+ghost use Rattle.netlink_shapes.specs.ErrorTexts.{wants_memory};
 ghost use Rattle.netlink_family.specs.PayloadReading.{short_reading};
-ghost use Rattle.netlink_family.specs.Errors.{family_error, short_error};
+ghost use Rattle.netlink_shapes.specs.Errors.{family_error, short_error};
 ghost use Rattle.netlink_family.specs.Message.{message_decoding, message_reading, is_canonical_payload};
-ghost use Rattle.netlink_family.specs.Shapes.{has_type, keeps_by, reading_by};
-ghost use Rattle.netlink_family.specs.Short.{filled, is_cut, is_short, sent};
+ghost use Rattle.netlink_shapes.specs.Shapes.{has_type, keeps_by, reading_by};
+ghost use Rattle.netlink_shapes.specs.Short.{filled, is_cut, is_short, sent};
 ghost use Rattle.netlink_packet_core.specs.Numbers.{bytes_le, unsigned};
 ghost use Rattle.netlink_packet_core.specs.Protocol.{IsNormalFrame};
 ghost use Rattle.netlink_packet_core.specs.Storage.{put_at};
-ghost use Rattle.netlink_family.specs.declared.shape.Shape.TheVariants.{I32, U16, U32, U8};
+ghost use Rattle.netlink_shapes.specs.declared.shape.Shape.TheVariants.{I32, U16, U32, U8};
 
-use crate::error::{FamilyError, header_short};
 use crate::family::{Family, Table, is_short};
-use crate::header_view::{Field, HeaderView};
 use crate::normal::{append_payload, header_room};
+use netlink_blocks::header_view::{Field, HeaderView};
 use netlink_packet_core::{
     NetlinkDeserializable, NetlinkHeader, NetlinkProtocol, NetlinkSerializable, put_i32, put_u16,
     put_u32,
 };
+use netlink_shapes::error::{FamilyError, header_short};
 use std::alloc::{AllocError, Global};
 use std::marker::PhantomData;
 

@@ -4,21 +4,21 @@ ghost use Rattle.std.specs.Prelude.{◌≡◌, ◌++◌, drop, Err, None, Some, 
 ghost use Rattle.netlink_packet_core.specs.Attribute.{padded};
 ghost use Rattle.netlink_packet_core.specs.Nla.{attribute_with};
 ghost use Rattle.netlink_packet_core.specs.Numbers.{bytes_be, bytes_le, unsigned};
-ghost use Rattle.netlink_family.specs.ErrorTexts.{wants_memory};
-ghost use Rattle.netlink_family.specs.Pushing.{added_error, has_room, late_error, push_error, room_error, satisfied_error};
-ghost use Rattle.netlink_family.specs.Shapes.{fits_kind, shape_in, within};
-ghost use Rattle.netlink_family.specs.Values.{is_satisfied, value_bytes, value_shape};
-ghost use Rattle.netlink_family.specs.declared.attribute_error.AttributeError.{AttributeError};
+ghost use Rattle.netlink_shapes.specs.ErrorTexts.{wants_memory};
+ghost use Rattle.netlink_shapes.specs.Pushing.{added_error, has_room, late_error, push_error, room_error, satisfied_error};
+ghost use Rattle.netlink_shapes.specs.Shapes.{fits_kind, shape_in, within};
+ghost use Rattle.netlink_blocks.specs.Values.{is_satisfied, value_bytes, value_shape};
+ghost use Rattle.netlink_shapes.specs.declared.attribute_error.AttributeError.{AttributeError};
 
-use crate::error::FamilyError;
 use crate::family::Table;
 use crate::late::{added_error, late_error};
 use crate::owned::{OwnedMessage, header_fits};
-use crate::value::Value;
+use netlink_blocks::value::Value;
 use netlink_packet_core::{
     NLA_BLOCK_MAX, NLA_HEADER_SIZE, NLA_VALUE_MAX, append_nla, emit_i32, emit_i64, emit_u16,
     emit_u16_be, emit_u32, emit_u32_be, emit_u64, emit_u64_be, nla_align,
 };
+use netlink_shapes::error::FamilyError;
 use std::alloc::{AllocError, Global};
 
 impl<F: Table> OwnedMessage<F> {
@@ -139,8 +139,8 @@ impl<F: Table> OwnedMessage<F> {
         }
     }
 
-    /// The same for an attribute that fits in the message. It is a separate function so that each call
-    /// of `push` stays small, and its error is small, so that no space for a large one is written.
+    /// Appends an attribute that fits in the message. It is a separate function so that each call of
+    /// `push` stays small, and its error is small, so that no space for a large one is written.
     #[inline(never)]
     fn append_fitting(&mut self, alloc: Global, kind: u16, value: &[u8]) -> Result<(), AllocError>
         requires shape { fits_kind (within (F.rows self.old.message_type)

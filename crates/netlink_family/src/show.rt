@@ -2,20 +2,20 @@
 
 ghost use Rattle.std.specs.Prelude.{◌≡◌, ◌+◌, ◌<◌, ◌++◌, [], ◌∷◌, IfOk, OnOk, decimal, drop, string_bytes, take, true};
 ghost use Rattle.std.specs.Fmt.{signed_decimal};
-ghost use Rattle.netlink_family.specs.Shapes.{fields_in, rows_in, shape_among, within, are_sorted};
-ghost use Rattle.netlink_family.specs.Show.{value_line, block_lines, each_of, field_lines, fixed_size, label_text, nest_line, indent, escaped, message_text, name_in, value_lines, value_text};
+ghost use Rattle.netlink_shapes.specs.Shapes.{fields_in, rows_in, shape_among, within, are_sorted};
+ghost use Rattle.netlink_blocks.specs.Show.{value_line, block_lines, each_of, field_lines, fixed_size, label_text, nest_line, indent, escaped, message_text, name_in, value_lines, value_text};
 
-use crate::choice::{NO_CHOICES, kept_shape_among};
 use crate::family::{Table, rows_of};
-use crate::header_view::Field;
-use crate::shape::{
-    NEST_LEVELS, Row, Shape, TOP, find_row, has_shape, nest_block, nest_start, policy_of,
-};
-use crate::value::{
+use crate::view::MessageView;
+use netlink_blocks::header_view::Field;
+use netlink_packet_core::{NlasIterator, hex_pair, push_hex};
+use netlink_shapes::choice::{NO_CHOICES, kept_shape_among};
+use netlink_shapes::decoders::{
     be16_in, be32_in, be64_in, bytes_until_nul, i32_in, i64_in, u16_in, u32_in, u64_in,
 };
-use crate::view::MessageView;
-use netlink_packet_core::{NlasIterator, hex_pair, push_hex};
+use netlink_shapes::shape::{
+    NEST_LEVELS, Row, Shape, TOP, find_row, has_shape, nest_block, nest_start, policy_of,
+};
 use std::alloc::{AllocError, Global};
 use std::fmt::Write;
 

@@ -7,21 +7,21 @@ ghost use Rattle.netlink_packet_core.specs.DecodeError.{DecodeError};
 ghost use Rattle.netlink_packet_core.specs.Frame.{Begins, Frame};
 ghost use Rattle.netlink_packet_core.specs.Walk.{Walk};
 ghost use Rattle.netlink_family.specs.PayloadReading.{short_reading};
-ghost use Rattle.netlink_family.specs.Errors.{family_error};
-ghost use Rattle.netlink_family.specs.Shapes.{has_type, reading_by, rows_in};
-ghost use Rattle.netlink_family.specs.Short.{is_short, sent};
+ghost use Rattle.netlink_shapes.specs.Errors.{family_error};
+ghost use Rattle.netlink_shapes.specs.Shapes.{has_type, reading_by, rows_in};
+ghost use Rattle.netlink_shapes.specs.Short.{is_short, sent};
 
-use crate::block::{append_attributes, has_shapes};
-use crate::block_view::BlockView;
 use crate::checked::CheckedAttributes;
-use crate::error::FamilyError;
 use crate::family::{Family, Table, is_short, rows_of};
-use crate::header_view::HeaderView;
 use crate::owned::OwnedMessage;
-use crate::shape::TOP;
+use netlink_blocks::block_view::BlockView;
+use netlink_blocks::header_view::HeaderView;
 use netlink_packet_core::{
     NetlinkDeserializable, NetlinkHeader, NetlinkMessage, NetlinkPayload, is_canonical_nlas,
 };
+use netlink_shapes::block::{append_attributes, has_shapes};
+use netlink_shapes::error::FamilyError;
+use netlink_shapes::shape::TOP;
 use std::alloc::{AllocError, Global};
 use std::marker::PhantomData;
 
@@ -52,7 +52,7 @@ impl<'a, F: Table> Copy for MessageView<'a, F> {}
 
 impl<'a, F: Table> MessageView<'a, F> {
     /// Checks a payload of this message type. Returns the payload's error if it has one.
-    #[tactic(auto, using(crate::specs::ErrorLaws::block_shaped, crate::proofs::Checking::has_no_error))]
+    #[tactic(auto, using(netlink_shapes::specs::ErrorLaws::block_shaped, netlink_shapes::specs::Checking::has_no_error))]
     pub fn new(message_type: u16, payload: &'a [u8]) -> Result<Self, FamilyError>
         ensures message_type { IfOk result (λ v. v.message_type ≡ message_type) }
         ensures payload { IfOk result (λ v. v.payload.now ≡ payload.now) }

@@ -43,14 +43,6 @@ layout_first first more all =
       | inr enough ↦ layout_whole first more enough
     ]
 
--- of messages, at most 4 bytes were read
-pub messages_few : (first : List ℕ) → length first ≤ start_size first → layout_of first ≡ Messages → length first < 16
-messages_few first few is =
-    elim (cases_lt (length first) 4) [
-      | inl short ↦ omega (arith, short)
-      | inr long ↦ omega (arith, few, start_of first false (messages_magic first is long))
-    ]
-
 -- ---- how the run goes on
 
 pub runs_messages : (check : Check) (old middle left start end : Option (List ℕ)) (first : List ℕ) (memory after : Memory)

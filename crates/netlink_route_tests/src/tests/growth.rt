@@ -39,6 +39,28 @@ fn checked_count(frame: &[u8]) -> u32 {
     count
 }
 
+/// Writes how many bytes a view of the message on standard input has; 0 if it is rejected.
+#[test]
+fn standard_input_is_viewed(rt: HostRuntime) -> Result<(), Fail> {
+    let alloc = rt.alloc();
+    let mut bytes = Vec::new(alloc);
+    rt.reader().read_to_end(&mut bytes)?;
+    let size = viewed_size(&bytes);
+    io::writer(&rt).write_all(format!(in alloc; "{size}\n")?.as_bytes())?;
+    Ok(())
+}
+
+/// Returns the size of the payload that a view of a frame has; 0 if the frame is rejected.
+fn viewed_size(frame: &[u8]) -> usize {
+    let Ok(frame) = NetlinkBuffer::new_checked(frame) else {
+        return 0;
+    };
+    match MessageView::<Joined<RouteTables>>::new(frame.message_type(), frame.payload()) {
+        Ok(view) => view.payload.len(),
+        Err(_) => 0,
+    }
+}
+
 /// Writes how many attributes an iteration over the nest `IFLA_LINKINFO` of the message on standard
 /// input yields.
 #[test]

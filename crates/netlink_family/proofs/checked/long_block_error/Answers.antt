@@ -1,5 +1,5 @@
 use Rattle.std.proofs.Common.{sym, ◌∙◌}
-use Rattle.netlink_family.specs.Shapes.{rows_in}
+use Rattle.netlink_shapes.specs.Shapes.{rows_in}
 use Rattle.netlink_family.proofs.Payloads.{long_none}
 use Rattle.netlink_family.proofs.checked.long_block_error.Goals as goal
 

@@ -1,5 +1,5 @@
 use Rattle.std.proofs.Common.{◌≡◌, length}
-use Rattle.netlink_family.specs.Shapes.{has_type}
+use Rattle.netlink_shapes.specs.Shapes.{has_type}
 use Rattle.netlink_family.proofs.family.is_among.Given as goal
 
 abbrev pub invariant-loop-rest : goal.invariant-loop-rest

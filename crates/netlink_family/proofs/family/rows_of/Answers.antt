@@ -1,5 +1,5 @@
 use Rattle.std.proofs.Common.{ap, ◌∙◌}
-use Rattle.netlink_family.specs.Shapes.{are_sorted}
+use Rattle.netlink_shapes.specs.Shapes.{are_sorted}
 use Rattle.netlink_family.proofs.family.rows_of.Goals as goal
 
 pub returns-clause-sorted : goal.returns-clause-sorted

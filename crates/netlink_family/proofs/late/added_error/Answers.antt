@@ -1,8 +1,8 @@
 use Rattle.std.proofs.Common.{◌≡◌, ℕ, true, List, Option, Some, None, ap, sym, ◌∙◌}
 use Rattle.std.specs.Prelude.{IfNone}
-use Rattle.netlink_family.specs.Errors.{value_error}
+use Rattle.netlink_shapes.specs.Errors.{value_error}
 use Rattle.netlink_family.specs.PushingLaws.{no_error_fits}
-use Rattle.netlink_family.specs.Shapes.{Row, fits_kind, nest_levels, within}
+use Rattle.netlink_shapes.specs.Shapes.{Row, fits_kind, nest_levels, within}
 use Rattle.netlink_family.proofs.late.added_error.Goals as goal
 
 if_none : {X P : Type 0} (r : Option X) → P → IfNone r P

@@ -1,5 +1,5 @@
 use Rattle.std.proofs.Common.{length}
-use Rattle.netlink_family.proofs.PolicyRows.{AreAsked}
+use Rattle.netlink_shapes.specs.PolicyRows.{AreAsked}
 use Rattle.netlink_family.proofs.late.chooses.Given as goal
 
 abbrev pub invariant-loop-rest : goal.invariant-loop-rest

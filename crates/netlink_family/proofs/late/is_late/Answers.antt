@@ -1,8 +1,8 @@
 use Rattle.std.proofs.Common.{◌≡◌, ◌&&◌, ℕ, Bool, List, true, ap, sym, ◌∙◌, rules}
 use Rattle.std.specs.Prelude.{not}
 use Rattle.std.specs.List.{list_all}
-use Rattle.netlink_family.specs.Pushing.{chooses, is_late, keeps_shape}
-use Rattle.netlink_family.specs.Shapes.{Row, Scope, within}
+use Rattle.netlink_shapes.specs.Pushing.{chooses, is_late, keeps_shape}
+use Rattle.netlink_shapes.specs.Shapes.{Row, Scope, within}
 use Rattle.netlink_family.proofs.late.is_late.Goals as goal
 
 abbrev kept : Scope → ℕ → Bool

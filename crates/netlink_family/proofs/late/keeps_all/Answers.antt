@@ -2,9 +2,9 @@ use Rattle.std.proofs.Common.{◌≡◌, ◌&&◌, ℕ, Bool, List, true, false,
 use Rattle.std.specs.List.{list_all}
 use Rattle.netlink_packet_core.specs.Steps.{unread}
 use Rattle.netlink_packet_core.specs.Views.{attribute_of}
-use Rattle.netlink_family.specs.Listing.{listed}
-use Rattle.netlink_family.specs.Shapes.{rows_in, within}
-use Rattle.netlink_family.specs.ShowLaws.{before_malformed, before_nothing}
+use Rattle.netlink_shapes.specs.Listing.{listed}
+use Rattle.netlink_shapes.specs.Shapes.{rows_in, within}
+use Rattle.netlink_shapes.specs.ListingLaws.{before_malformed, before_nothing}
 use Rattle.netlink_family.proofs.Appending.{keeps, keeps_step}
 use Rattle.netlink_family.proofs.late.keeps_all.Goals as goal
 

@@ -1,8 +1,8 @@
 use Rattle.std.proofs.Common.{◌≡◌}
 use Rattle.std.specs.List.{list_all}
 use Rattle.netlink_packet_core.specs.Steps.{unread}
-use Rattle.netlink_family.specs.Listing.{listed}
-use Rattle.netlink_family.specs.Shapes.{rows_in, within}
+use Rattle.netlink_shapes.specs.Listing.{listed}
+use Rattle.netlink_shapes.specs.Shapes.{rows_in, within}
 use Rattle.netlink_family.proofs.Appending.{keeps}
 use Rattle.netlink_family.proofs.late.keeps_all.Given as goal
 

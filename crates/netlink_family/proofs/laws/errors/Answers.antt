@@ -1,6 +1,6 @@
-use Rattle.netlink_family.specs.ErrorLaws.{message_complete}
+use Rattle.netlink_family.specs.PayloadErrorLaws.{message_complete}
 use Rattle.netlink_family.specs.ErrorOffsets.{message_inside}
-use Rattle.netlink_family.specs.Shapes.{has_type}
+use Rattle.netlink_shapes.specs.Shapes.{has_type}
 use Rattle.netlink_family.proofs.laws.errors.Goals as goal
 
 pub returns-clause-complete : goal.returns-clause-complete

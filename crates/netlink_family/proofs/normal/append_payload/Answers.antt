@@ -1,7 +1,7 @@
 use Rattle.std.proofs.Common.{List, ℕ, ◌++◌, ap, length, refl, ◌∙◌, append_assoc, arith, length-append, length-take-le}
 use Rattle.netlink_packet_core.specs.Block.{canonical_block}
 use Rattle.netlink_family.specs.CanonicalPayloadLaws.{payload_read_at, too_long_at}
-use Rattle.netlink_family.specs.Shapes.{reading_by}
+use Rattle.netlink_shapes.specs.Shapes.{reading_by}
 use Rattle.netlink_family.proofs.normal.append_payload.Goals as goal
 
 pub returns-then-len-start-gt-NLA_BLOCK_MAX-clause-error : goal.returns-then-len-start-gt-NLA_BLOCK_MAX-clause-error

@@ -1,9 +1,11 @@
 use Rattle.std.proofs.Common.{arith, rules, sym, ap, ◌∙◌, ◌≡◌, ◌+◌, ◌-◌, ◌<◌, ◌++◌, ℕ, List, string_bytes}
 use Rattle.netlink_packet_core.specs.Steps.{unread}
 use Rattle.netlink_packet_core.specs.Views.{attribute_of}
-use Rattle.netlink_family.specs.Shapes.{nest_start, rows_in, within}
-use Rattle.netlink_family.specs.Show.{value_line, block_lines, label_text, nest_line, value_lines}
-use Rattle.netlink_family.specs.ShowLaws.{before_malformed, before_nothing, lines_deep, lines_flat, lines_nest}
+use Rattle.netlink_shapes.specs.Shapes.{nest_start, rows_in, within}
+use Rattle.netlink_blocks.specs.Show.{value_line, block_lines, label_text, nest_line, value_lines}
+use Rattle.netlink_blocks.specs.ShowLaws.{lines_deep, lines_flat, lines_nest}
+use Rattle.netlink_shapes.specs.Choices.{none_chosen}
+use Rattle.netlink_shapes.specs.ListingLaws.{before_malformed, before_nothing}
 use Rattle.netlink_family.proofs.Lines.{joins, joins_three, lines_end, lines_later}
 use Rattle.netlink_family.proofs.show.+lines.Goals as goal
 
@@ -40,7 +42,7 @@ push_attribute-returns-in_ok-push_block-in-Some t c =
     (sym c.policy_of.ensures ∙ c.in-Some.is) some))
 
 pub push_block-loop-item-init : goal.push_block-loop-item-init
-push_block-loop-item-init t c = (search rules, ((λ choice none. absurd (cc)), (λ choice none. absurd (cc))))
+push_block-loop-item-init t c = (search rules, none_chosen (within (rows_in c.args.rows.now) c.args.block.now))
 
 pub push_block-loop-item-preserved : goal.push_block-loop-item-preserved
 push_block-loop-item-preserved t c =

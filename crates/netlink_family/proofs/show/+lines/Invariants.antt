@@ -1,8 +1,8 @@
 use Rattle.std.proofs.Common.{◌≡◌, ◌+◌, ◌*◌, ◌++◌, string_bytes}
 use Rattle.netlink_packet_core.specs.Steps.{unread}
-use Rattle.netlink_family.specs.Choices.{AreChoices}
-use Rattle.netlink_family.specs.Shapes.{rows_in, within}
-use Rattle.netlink_family.specs.Show.{lines_in, value_lines}
+use Rattle.netlink_shapes.specs.Choices.{AreChoices}
+use Rattle.netlink_shapes.specs.Shapes.{rows_in, within}
+use Rattle.netlink_blocks.specs.Show.{lines_in, value_lines}
 use Rattle.netlink_family.proofs.show.+lines.Given as goal
 
 abbrev pub decreases-push_attribute : goal.decreases-push_attribute

@@ -1,5 +1,5 @@
 use Rattle.std.proofs.Common.{arith, string_bytes}
-use Rattle.netlink_family.specs.Show.{escaped}
+use Rattle.netlink_blocks.specs.Show.{escaped}
 use Rattle.netlink_family.proofs.Lines.{each_added}
 use Rattle.netlink_family.proofs.show.push_escaped_bytes.Goals as goal
 

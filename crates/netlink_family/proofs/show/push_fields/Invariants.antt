@@ -1,6 +1,6 @@
 use Rattle.std.proofs.Common.{◌≡◌, ◌++◌, length, string_bytes}
-use Rattle.netlink_family.specs.Shapes.{fields_in}
-use Rattle.netlink_family.specs.Show.{field_lines}
+use Rattle.netlink_shapes.specs.Shapes.{fields_in}
+use Rattle.netlink_blocks.specs.Show.{field_lines}
 use Rattle.netlink_family.proofs.show.push_fields.Given as goal
 
 -- the text still to be appended is that of the rest of the fields

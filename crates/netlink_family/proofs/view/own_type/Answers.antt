@@ -1,4 +1,4 @@
-use Rattle.netlink_family.specs.Shapes.{has_type}
+use Rattle.netlink_shapes.specs.Shapes.{has_type}
 use Rattle.netlink_family.proofs.Payloads.{good_own}
 use Rattle.netlink_family.proofs.view.own_type.Goals as goal
 

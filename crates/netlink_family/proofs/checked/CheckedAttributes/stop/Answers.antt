@@ -1,5 +1,5 @@
-use Rattle.netlink_family.specs.Errors.{rest_error}
-use Rattle.netlink_family.specs.Shapes.{rows_in, within}
+use Rattle.netlink_shapes.specs.Errors.{rest_error}
+use Rattle.netlink_shapes.specs.Shapes.{rows_in, within}
 use Rattle.netlink_packet_core.specs.Steps.{unread}
 use Rattle.netlink_family.proofs.Payloads.{error_shaped, none_left}
 use Rattle.netlink_family.proofs.checked.CheckedAttributes.stop.Goals as goal

@@ -1,12 +1,12 @@
 use Rattle.std.proofs.Common.{◌≡◌, ℕ, List, true, false, ap, refl, rules, subst, sym, ◌∙◌}
 use Rattle.netlink_packet_core.specs.Steps.{unread}
 use Rattle.netlink_packet_core.specs.Views.{attribute_of, raw_kind}
-use Rattle.netlink_family.specs.Errors.{rest_error, value_error}
-use Rattle.netlink_family.specs.ErrorLaws.{error_nothing}
-use Rattle.netlink_family.specs.NestLaws.{shaped_has, shaped_nests}
-use Rattle.netlink_family.specs.Shapes.{Row, fits_kind, is_shaped, nest_levels, rows_in, shape_among, within, are_sorted}
-use Rattle.netlink_family.specs.Values.{NestHasRows}
-use Rattle.netlink_family.specs.declared.shape.Shape.{Shape}
+use Rattle.netlink_shapes.specs.Errors.{rest_error, value_error}
+use Rattle.netlink_shapes.specs.ErrorLaws.{error_nothing}
+use Rattle.netlink_shapes.specs.NestLaws.{shaped_has, shaped_nests}
+use Rattle.netlink_shapes.specs.Shapes.{Row, fits_kind, is_shaped, nest_levels, rows_in, shape_among, within, are_sorted}
+use Rattle.netlink_blocks.specs.Values.{NestHasRows}
+use Rattle.netlink_shapes.specs.declared.shape.Shape.{Shape}
 use Rattle.netlink_family.proofs.Payloads.{malformed_next, fit_next, other_next, passed_next}
 use Rattle.netlink_family.proofs.checked.CheckedAttributesIterator.next.Goals as goal
 

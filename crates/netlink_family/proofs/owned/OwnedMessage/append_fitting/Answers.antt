@@ -1,6 +1,6 @@
 use Rattle.std.proofs.Common.{◌≡◌, true, ap, ◌∙◌}
 use Rattle.netlink_family.specs.Message.{is_canonical_payload}
-use Rattle.netlink_family.specs.Pushing.{has_room}
+use Rattle.netlink_shapes.specs.Pushing.{has_room}
 use Rattle.netlink_family.proofs.CanonicalPayloads.{either, push_canonical}
 use Rattle.netlink_family.proofs.owned.OwnedMessage.append_fitting.Goals as goal
 

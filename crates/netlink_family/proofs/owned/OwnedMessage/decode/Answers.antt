@@ -1,6 +1,6 @@
 use Rattle.std.proofs.Common.{◌≡◌, List, ℕ, ◌++◌, Some, ap, sym, ◌∙◌, arith}
 use Rattle.netlink_family.specs.CanonicalPayloadLaws.{reading_canonical}
-use Rattle.netlink_family.specs.Shapes.{reading_by}
+use Rattle.netlink_shapes.specs.Shapes.{reading_by}
 use Rattle.netlink_family.specs.ShortLaws.{other_read, whole_not}
 use Rattle.netlink_family.proofs.owned.OwnedMessage.decode.Goals as goal
 

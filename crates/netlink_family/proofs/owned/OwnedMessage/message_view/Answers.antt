@@ -1,6 +1,6 @@
 use Rattle.std.proofs.Common.{List, ℕ, ap, ◌∙◌}
-use Rattle.netlink_family.specs.Errors.{message_error}
-use Rattle.netlink_family.specs.Shapes.{has_type}
+use Rattle.netlink_shapes.specs.Errors.{message_error}
+use Rattle.netlink_shapes.specs.Shapes.{has_type}
 use Rattle.netlink_family.proofs.Payloads.{canonical_good}
 use Rattle.netlink_family.proofs.owned.OwnedMessage.message_view.Goals as goal
 

@@ -1,5 +1,5 @@
 use Rattle.std.proofs.Common.{◌≡◌, arith, ℕ, rules}
-use Rattle.netlink_family.specs.Short.{filled}
+use Rattle.netlink_shapes.specs.Short.{filled}
 use Rattle.netlink_family.specs.ShortLaws.{filled_cut, filled_sent, filled_size}
 use Rattle.netlink_family.proofs.CanonicalPayloads.{header_canonical}
 use Rattle.netlink_family.proofs.owned.OwnedMessage.new_short.Goals as goal

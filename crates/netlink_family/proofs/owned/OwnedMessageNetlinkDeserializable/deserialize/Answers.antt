@@ -1,9 +1,9 @@
 use Rattle.std.proofs.Common.{◌≡◌, true, rules, ap, ◌∙◌, Bool, None}
 use Rattle.std.specs.Prelude.{if◌then◌else◌}
 use Rattle.std.proofs.lemmas.Result.{err_from_is_err_and}
-use Rattle.netlink_family.specs.ErrorLaws.{payload_rejected}
+use Rattle.netlink_family.specs.PayloadErrorLaws.{payload_rejected}
 use Rattle.netlink_family.specs.PayloadReading.{short_reading}
-use Rattle.netlink_family.specs.Shapes.{has_type, reading_by}
+use Rattle.netlink_shapes.specs.Shapes.{has_type, reading_by}
 use Rattle.netlink_family.proofs.owned.OwnedMessageNetlinkDeserializable.deserialize.Goals as goal
 
 pub returns-in_err-message-clause-refuses : goal.returns-in_err-message-clause-refuses

@@ -2,9 +2,9 @@ use Rattle.std.proofs.Common.{◌≡◌, true, rules, refl, ap, ◌∙◌, ◌++
 use Rattle.std.specs.Prelude.{if◌then◌else◌}
 use Rattle.std.proofs.lemmas.Result.{err_from_is_err_and}
 use Rattle.netlink_family.specs.CanonicalPayloadLaws.{reading_canonical}
-use Rattle.netlink_family.specs.ErrorLaws.{payload_rejected}
+use Rattle.netlink_family.specs.PayloadErrorLaws.{payload_rejected}
 use Rattle.netlink_family.specs.PayloadReading.{short_reading}
-use Rattle.netlink_family.specs.Shapes.{has_type, reading_by}
+use Rattle.netlink_shapes.specs.Shapes.{has_type, reading_by}
 use Rattle.netlink_family.specs.ShortLaws.{other_error, other_read, whole_not}
 use Rattle.netlink_family.proofs.Frames.{after_room, room_size, with_fewer}
 use Rattle.netlink_family.proofs.owned.OwnedMessageNetlinkDeserializable.normal_frame.Goals as goal

@@ -1,7 +1,7 @@
 use Rattle.std.proofs.Common.{ℕ, ap, sym, ◌∙◌, Some, rules}
 use Rattle.netlink_family.specs.MessageLaws.{message_reads, own_type, own_types}
-use Rattle.netlink_family.specs.Shapes.{has_type, reading_by}
-use Rattle.netlink_family.specs.Short.{sent}
+use Rattle.netlink_shapes.specs.Shapes.{has_type, reading_by}
+use Rattle.netlink_shapes.specs.Short.{sent}
 use Rattle.netlink_family.proofs.Payloads.{good_own}
 use Rattle.netlink_family.proofs.view.MessageView.to_message.Goals as goal
 

@@ -1,7 +1,7 @@
 use Rattle.std.proofs.Common.{◌≡◌, false, List, ℕ, ◌++◌, ap, refl, rules, ◌∙◌}
 use Rattle.netlink_family.specs.CanonicalPayloadLaws.{reading_canonical}
-use Rattle.netlink_family.specs.Shapes.{has_type, reading_by}
-use Rattle.netlink_family.specs.Short.{is_short}
+use Rattle.netlink_shapes.specs.Shapes.{has_type, reading_by}
+use Rattle.netlink_shapes.specs.Short.{is_short}
 use Rattle.netlink_family.specs.ShortLaws.{other_read}
 use Rattle.netlink_family.proofs.Payloads.{good_own, good_read}
 use Rattle.netlink_family.proofs.view.MessageView.to_owned.Goals as goal

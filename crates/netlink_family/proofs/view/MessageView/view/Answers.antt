@@ -1,4 +1,4 @@
-use Rattle.netlink_family.specs.Shapes.{has_type, rows_in}
+use Rattle.netlink_shapes.specs.Shapes.{has_type, rows_in}
 use Rattle.netlink_family.proofs.Payloads.{good_shaped}
 use Rattle.netlink_family.proofs.view.MessageView.view.Goals as goal
 

@@ -1,0 +1,3 @@
+pub mod BlockAttributes
+pub mod Headers
+pub mod Indexing

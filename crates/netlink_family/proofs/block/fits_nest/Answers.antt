@@ -1,9 +1,0 @@
-use Rattle.std.proofs.Common.{ap, ◌∙◌}
-use Rattle.netlink_family.specs.Shapes.{is_shaped, nest_levels, rows_in}
-use Rattle.netlink_family.specs.declared.shape.Shape.{Shape}
-use Rattle.netlink_family.proofs.block.fits_nest.Goals as goal
-
-pub returns : goal.returns
-returns c =
-    c.is_shaped.ensures
-    ∙ ap (λ (s : Shape). is_shaped nest_levels (rows_in c.args.rows.now) s c.args.value.now) c.requires.shape

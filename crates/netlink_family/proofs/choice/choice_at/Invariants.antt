@@ -1,9 +1,0 @@
-use Rattle.std.proofs.Common.{length}
-use Rattle.netlink_family.proofs.PolicyRows.{AreUnread}
-use Rattle.netlink_family.proofs.choice.choice_at.Given as goal
-
-abbrev pub invariant-loop-rest : goal.invariant-loop-rest
-invariant-loop-rest l = AreUnread l.policy l.name l.rows l.rest
-
-abbrev pub decreases-loop-rest : goal.decreases-loop-rest
-decreases-loop-rest l = length l.rest

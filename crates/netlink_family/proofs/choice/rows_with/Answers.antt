@@ -1,7 +1,0 @@
-use Rattle.std.proofs.Common.{arith}
-use Rattle.netlink_family.proofs.PolicyRows.{drop_smaller}
-use Rattle.netlink_family.proofs.choice.rows_with.Goals as goal
-
-pub rows_after-requires-clause-part : goal.rows_after-requires-clause-part
-rows_after-requires-clause-part c =
-    drop_smaller c.args.policy c.args.rows.now 8 c.requires.sorted (omega arith) (omega arith)

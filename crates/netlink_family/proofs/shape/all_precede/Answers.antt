@@ -1,6 +1,0 @@
-use Rattle.std.proofs.Common.{◌-◌, length, arith, sym, ◌∙◌}
-use Rattle.netlink_family.proofs.RowSearch.{none_after}
-use Rattle.netlink_family.proofs.shape.all_precede.Goals as goal
-
-pub returns : goal.returns
-returns c = λ is. none_after c.args.policy c.args.kind c.args.rows.now (length c.args.rows.now - 1) c.requires.sorted (omega arith) (sym c.is_before.ensures ∙ is)

@@ -1,0 +1,2 @@
+pub mod FirstErrors
+pub mod NestChecking

@@ -1,0 +1,10 @@
+use Rattle.netlink_packet_core.specs.Steps.{unread}
+use Rattle.netlink_shapes.specs.Choices.{AreChoices}
+use Rattle.netlink_shapes.specs.Shapes.{CachesOther, rows_in, within}
+use Rattle.netlink_shapes.specs.Checking.{AreChecked}
+use Rattle.netlink_shapes.proofs.block.check_block.Given as goal
+
+abbrev pub invariant-loop-item : goal.invariant-loop-item
+invariant-loop-item l =
+    AreChecked (within (rows_in l.rows) l.block) l.block (unread l.item-iterator) l.canonical × CachesOther (rows_in l.rows) 0 l.other
+    × AreChoices (within (rows_in l.rows) l.block) l.choices

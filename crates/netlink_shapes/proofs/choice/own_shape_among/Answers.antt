@@ -1,0 +1,10 @@
+use Rattle.std.proofs.Common.{ap, ◌∙◌}
+use Rattle.netlink_shapes.specs.PolicyRows.{part_shape}
+use Rattle.netlink_shapes.specs.Shapes.{resolved, rows_in, within}
+use Rattle.netlink_shapes.proofs.choice.own_shape_among.Goals as goal
+
+pub returns-clause-shape : goal.returns-clause-shape
+returns-clause-shape c =
+    c.kept.ensures.shape
+    ∙ ap (resolved (within (rows_in c.args.rows.now) c.args.block.now))
+    (c.row_shape.ensures ∙ part_shape c.args.policy c.args.kind (rows_in c.args.rows.now) (rows_in c.args.own.now) c.requires.own)
