@@ -11,7 +11,9 @@ console                Each line `$ COMMAND` is followed by exactly the lines th
                        `./netlink_NAME` in it runs the built program and ignores `--quick` and `--verbose`.
 text                   The block is not checked.
 
-The table of sizes in docs/CONTRIBUTING.md, and docs/crates.svg, are what tests/layers.py makes.
+The table of sizes in docs/CONTRIBUTING.md, and docs/crates.svg, are what tests/layers.py makes. Numbers in the prose that
+count what the repository has are counted again (`counts`). The tables at the heads of the crates' lib.rt, of functions and
+their definitions, name what is there.
 
 Any other language, a fence that is not closed, and indented code are failures. A link must lead to a file or folder of
 the repository, and an anchor to a heading of that Markdown file.
@@ -41,6 +43,7 @@ LIST_ITEM = re.compile(r" *(?:[-*+]|\d+[.)]) +(?=\S)")
 HEADING = re.compile(r" {0,3}#{1,6} +(.+?)(?: +#+)? *")
 CODE_SPAN = re.compile(r"(?<!`)(`+)(?!`).+?(?<!`)\1(?!`)")
 LINK = re.compile(r"\]\((?!//|[a-z]+:)([^)\s]*)")
+NUMBERS = "no one two three four five six seven eight nine ten eleven twelve".split()
 PROGRAM = re.compile(r"(?<![\w./])\./(netlink_\w+)(?: --(?:quick|verbose)\b)?(?![\w./-])")
 
 
@@ -162,9 +165,61 @@ def wrong_sizes():
     yield "docs/crates.svg", 1, None if is_same else "it is not the output of `tests/layers.py picture`"
 
 
+def counts():
+    """Yields for each number in the prose its document, the words around it, and what the repository has."""
+    tested = sum(it.endswith("_tests") for it in layers.dependencies())
+    tables = sum(text.count("\nimpl Table for ") for text in layers.texts_of("netlink_route", "src"))
+    lines = 1 + sum(f"pub use {it}::" in text_of("crates/netlink_lines/src/lib.rt") for it in layers.dependencies())
+    edits = len(os.listdir(os.path.join(TOP, "crates/netlink_route/must-fail")))
+    yield "docs/CONTRIBUTING.md", "the tests of {} libraries are separate crates", tested
+    yield "docs/CONTRIBUTING.md", "its functions to the {} edits in `must-fail/` that name all tables", edits
+    yield "docs/DECISIONS.md", "the tests of {} libraries are separate crates", tested
+    yield "docs/DECISIONS.md", "**The lines are {} crates, one for each layer**", lines
+    yield "docs/FORMAT.md", "`netlink_route` has {} families", tables
+
+
+def wrong_counts():
+    """Yields for each of them its document and line, and what is wrong or None."""
+    for document, words, number in counts():
+        text, before = text_of(document), words.split("{}")[0]
+        line = text.count("\n", 0, max(0, text.find(before))) + 1
+        is_right = words.format(NUMBERS[number]) in text
+        yield document, line, None if is_right else f"`{words.format('..')}` must have {NUMBERS[number]}"
+
+
+def rows():
+    """Yields for each row of the tables at the heads of the files lib.rt the file, the line, and its two last cells."""
+    for crate in layers.dependencies():
+        path = f"crates/{crate}/src/lib.rt"
+        text = text_of(path) if os.path.isfile(os.path.join(TOP, path)) else ""
+        for number, line in enumerate(text.splitlines(), 1):
+            cells = re.findall(r"(?<=\| )[^|]+(?= \|)", line) if line.startswith("//! | ") else []
+            if len(cells) == 3 and "`" in cells[1]:
+                yield path, number, *cells[1:]
+
+
+def lacks(path, name, pattern):
+    """Returns a sentence if a file does not exist or has no line of this pattern for a name, or None."""
+    if os.path.isfile(os.path.join(TOP, path)) and re.search(pattern.format(re.escape(name)), text_of(path), re.M):
+        return None
+    return f"{path} has no `{name}`"
+
+
+def wrong_rows():
+    """Yields for each name in these cells the file and the line, and what is wrong or None."""
+    for path, number, functions, definitions in rows():
+        crates, own = "crates/", path.split("/")[1]
+        for module, name in re.findall(r"`(\w+)::(\w+)`", functions):
+            yield path, number, lacks(f"{crates}{own}/src/{module}.rt", name, r"\bfn {}\b")
+        for crate, file, name in re.findall(r"`(?:(\w+)::)?(\w+)::([\w-]+)`", definitions):
+            if crate != "std":
+                yield path, number, lacks(f"{crates}{crate or own}/specs/{file}.antt", name, r"^(?:\w+ )*{} :")
+
+
 def main():
     documents = {"README.md", *(f"docs/{it}" for it in os.listdir(os.path.join(TOP, "docs")) if it.endswith(".md"))}
-    checks = [(it, *check) for it in sorted(documents - EXEMPT) for check in checks_of(it)] + [*wrong_sizes()]
+    checks = [(it, *check) for it in sorted(documents - EXEMPT) for check in checks_of(it)]
+    checks += [*wrong_sizes(), *wrong_counts(), *wrong_rows()]
     failures = [f"{document}, line {number}: {wrong}" for document, number, wrong in checks if wrong]
     tally("documents", failures, len(checks) - len(failures))
 

@@ -1,6 +1,38 @@
 //! The lines of messages of route netlink (linux/rtnetlink.h), as `ip -o` prints them. `run` writes
 //! those of a stream, or of a pcap file, as each message arrives. `Line::line` returns that of one message, and
 //! functions such as `link_text` those of one family.
+//!
+//! The words of the lines are in `netlink_link_lines`, `netlink_address_lines` and `netlink_route_lines`. This crate adds
+//! what these tables show. A definition `File::name` is in `specs/File.antt`.
+//!
+//! Of a message:
+//!
+//! | word of a line | function | definition |
+//! |---|---|---|
+//! | `[1700000000.000042] ` | `time::time_text` | `Time::time_text` |
+//! | `interrupted`, a line before | `messages::marked` | `Ack::marked_if` |
+//! | `request `, or `request delete` for `Deleted` | `requests::request_line` | `Requests::request_line` |
+//! | the line of one of the three crates | `line::line_of` | `Lines::route_line` |
+//! | `done` | `line::done_line` | `Lines::done_line` |
+//! | ` -4`, the code after `done` | `line::code_words` | `Lines::code_words` |
+//! | `ack`, `error -22` | `line::error_line` | `Lines::error_line` |
+//! | `: mtu less than device minimum` | `ack::text_words` | `Ack::text_words` |
+//! | `noop`, `overrun` | `messages::item_shown` | `Messages::item_lines` |
+//! | `type 26, 28 bytes` | `messages::type_line` | `Messages::type_line` |
+//! | `byte 20: ` before an error | `messages::malformed` | `Messages::bad` |
+//! | `Failed to parse message with type 16: ..` | `messages::error_shown` | `Messages::error_lines` |
+//! | `.. the payload has 4 bytes instead of 8` | `messages::wrong_time` | `Messages::wrong_time` |
+//!
+//! Of a packet of a pcap file:
+//!
+//! | word of a line | function | definition |
+//! |---|---|---|
+//! | `netlink family 16, 40 bytes` | `packet::content_lines` | `Packet::content_lines` |
+//! | `byte 24: ` before an error | `messages::malformed` | `Messages::bad` |
+//! | `of a packet of 60 bytes, 50 were captured` | `packet::content_text` | `Packet::content_text` |
+//! | `a packet of 8 bytes is shorter than ..` | `packet::content_text` | `Packet::content_text` |
+//! | `the device type of a packet is 1 ..` | `packet::content_text` | `Packet::content_text` |
+//! | `byte 56: ` and why a datagram ends early | `packet::push_stop` | `Packet::stop_lines` |
 #![tactic(auto)]
 
 mod ack;

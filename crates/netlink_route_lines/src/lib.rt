@@ -1,4 +1,89 @@
 //! The lines of messages about routes, rules and ids of network namespaces.
+//!
+//! The rows have the order of the words. A definition `File::name` is in `specs/File.antt` of this crate, or of the crate
+//! that is named before it. `netlink_words` has the functions for numbers, names of numbers and addresses, and
+//! `netlink_names` those for the names of links.
+//!
+//! `route::route_entry_line` makes the line of a route, and `Route::route_entry_line` defines it. The words from
+//! `nexthop` on are there for each next hop.
+//!
+//! | word of a line | function | definition |
+//! |---|---|---|
+//! | `Deleted` | `route::push_front` | `Route::route_front` |
+//! | `local`, `blackhole` and the other types | `route::push_type` | `Route::type_part` |
+//! | `10.3.0.0/16`, `default` | `route::push_target` | `Route::target_text` |
+//! | `from 10.0.0.0/8` | `route::push_source` | `Route::route_front` |
+//! | `nhid 10` | `route::push_front` | `Route::route_front` |
+//! | `tos 0x10` | `netlink_words::parts::push_tos` | `netlink_words::Parts::tos_part` |
+//! | `via 10.1.0.3` | `route_hops::push_next` | `Route::route_next` |
+//! | `via inet6 fe80::1` | `route_hops::push_via` | `RouteHops::via_part` |
+//! | `dev if3` | `route::push_link` | `Route::route_next` |
+//! | `table 70000` | `route::push_table_part` | `Route::table_part` |
+//! | `proto kernel` | `route::push_installer` | `Route::installer_part` |
+//! | `scope link` | `route::push_other_scope` | `Route::scope_part` |
+//! | `src 10.1.0.1` | `route::push_origin` | `Route::origin_parts` |
+//! | `metric 7` | `route::push_origin` | `Route::origin_parts` |
+//! | `dead`, `onlink` and the other flags | `route_names::hop_flag_name` | `RouteNames::hop_flag_name` |
+//! | `mark 0x10` | `route::push_mark` | `Route::mark_part` |
+//! | `realm 5`, `realms 3/5` | `route::push_kept` | `Route::kept_parts` |
+//! | `uid 0` | `route::push_kept` | `Route::kept_parts` |
+//! | `cache`, and `<` and `>` around its flags | `route_cache::cache_text` | `RouteCache::cache_of` |
+//! | `local`, `brd` and the other flags of `cache` | `route_cache::cache_flag_name` | `RouteCache::cache_flag_name` |
+//! | `2100000`, those without a name | `route_cache::push_unnamed_flags` | `RouteCache::with_rest` |
+//! | `expires 2999sec` | `route_cache::expires_text` | `RouteCache::expires_part` |
+//! | `error 113` | `route_cache::error_text` | `RouteCache::error_part` |
+//! | `mtu`, `rtt` and the other metrics | `route_metrics::metric_name` | `RouteMetrics::metric_name` |
+//! | `lock` after a metric | `route_metrics::lock_word` | `RouteMetrics::lock_word` |
+//! | `1400`, `5ms` or `ecn` after it | `route_metrics::value_text` | `RouteMetrics::metric_value` |
+//! | `congctl cubic` | `route_metrics::control_text` | `RouteMetrics::control_part` |
+//! | `iif if2` | `route::push_last` | `Route::last_parts` |
+//! | `pref medium` | `route_names::push_preference` | `RouteNames::preference_text` |
+//! | `nexthop` | `route_hops::push_hop_parts` | `RouteHops::hop_parts` |
+//! | `via 10.1.0.3` | `route_hops::push_next` | `RouteHops::hop_parts` |
+//! | `via inet6 fe80::1` | `route_hops::push_via` | `RouteHops::via_part` |
+//! | `realm 5`, `realms 3/5` | `route_hops::push_hop_parts` | `RouteHops::hop_parts` |
+//! | `dev if3` | `route_hops::push_hop_parts` | `RouteHops::hop_parts` |
+//! | `weight 3` | `route_hops::push_hop_parts` | `RouteHops::hop_parts` |
+//! | `dead`, `onlink` and the other flags | `route_names::hop_flag_name` | `RouteNames::hop_flag_name` |
+//!
+//! `rule::rule_text` makes the line of a rule, and `Rule::rule_line` defines it:
+//!
+//! | word of a line | function | definition |
+//! |---|---|---|
+//! | `Deleted` | `rule::push_heading` | `Rule::rule_heading` |
+//! | `1005:`, the priority | `rule::push_heading` | `Rule::rule_heading` |
+//! | `not` | `rule::push_heading` | `Rule::rule_heading` |
+//! | `from all` | `rule::push_source` | `Rule::source_part` |
+//! | `to 10.9.9.9` | `rule::push_destination` | `Rule::destination_part` |
+//! | `tos 0x10` | `netlink_words::parts::push_tos` | `netlink_words::Parts::tos_part` |
+//! | `fwmark 0x10/0xff` | `rule::push_mark` | `Rule::mark_part` |
+//! | `iif eth0` | `rule::push_iif` | `Rule::iif_part` |
+//! | `oif eth1` | `rule::push_oif` | `Rule::oif_part` |
+//! | `[detached]` after `iif` or `oif` | `rule_matches::push_link` | `RuleParts::link_part` |
+//! | `lookup [l3mdev-table]` | `rule::push_links` | `Rule::rule_links` |
+//! | `uidrange 1000-2000` | `rule_matches::push_users` | `RuleParts::users_part` |
+//! | `ipproto ipproto-6` | `rule::push_ip_protocol` | `Rule::ip_protocol_part` |
+//! | `sport` | `rule::push_ranges` | `Rule::rule_ranges` |
+//! | `dport` | `rule::push_ranges` | `Rule::rule_ranges` |
+//! | `443` or `80-90` after either | `rule_matches::push_ports` | `RuleParts::ports_part` |
+//! | `tun_id 5` | `rule::push_tunnel` | `Rule::tunnel_part` |
+//! | `lookup main` | `rule_ends::push_lookup_table` | `RuleParts::table_parts` |
+//! | `suppress_prefixlength 0` | `rule_ends::push_suppressed` | `RuleParts::suppressed_part` |
+//! | `suppress_ifgroup 7` | `rule_ends::group_text` | `RuleParts::group_text` |
+//! | `realms 3/4` | `rule_ends::push_lookup` | `RuleParts::lookup_parts` |
+//! | `goto 40000 [unresolved]` | `rule_ends::push_goto` | `RuleParts::goto_part` |
+//! | `nop`, `blackhole` and the other actions | `rule_ends::action_text` | `RuleParts::action_text` |
+//! | `proto static` | `rule_ends::push_installer` | `RuleParts::installer_part` |
+//!
+//! `namespace::namespace_text` makes the line of an id of a network namespace, and `Namespace::namespace_line` defines
+//! it:
+//!
+//! | word of a line | function | definition |
+//! |---|---|---|
+//! | `Deleted` | `namespace::id_line` | `Namespace::id_line` |
+//! | `nsid 5` | `namespace::id_line` | `Namespace::id_line` |
+//! | `current-nsid 0` | `namespace::id_line` | `Namespace::id_line` |
+//! | `unassigned` in place of an id | `namespace::push_id` | `Namespace::id_part` |
 #![tactic(auto)]
 
 pub mod namespace;
