@@ -53,6 +53,7 @@ impl<'a, F: Table> CheckedAttributes<'a, F> {
     /// Starts the iteration over the attributes of a payload; a short payload has none. Returns
     /// `UnknownType`, `HeaderShort`, or, for a block too long for any message, its first error or
     /// else `TooLong`. An error in the attributes is otherwise found by the iteration.
+    #[inline(always)]
     pub fn new(message_type: u16, payload: &'a [u8]) -> Result<Self, FamilyError>
         ensures error { IfErr result (λ e. family_error F.types F.short F.header_len F.rows message_type payload.now ≡ Some e) }
         ensures later { IfOk result (λ all. family_error F.types F.short F.header_len F.rows message_type payload.now

@@ -19,7 +19,7 @@ use netlink_blocks::header_view::HeaderView;
 use netlink_packet_core::{
     NetlinkDeserializable, NetlinkHeader, NetlinkMessage, NetlinkPayload, is_canonical_nlas,
 };
-use netlink_shapes::block::{append_attributes, has_shapes};
+use netlink_shapes::block::{append_attributes, block_error, has_shapes};
 use netlink_shapes::error::FamilyError;
 use netlink_shapes::shape::TOP;
 use std::alloc::{AllocError, Global};
@@ -59,9 +59,9 @@ impl<'a, F: Table> MessageView<'a, F> {
         ensures good { IfOk result (λ _. family_error F.types F.short F.header_len F.rows message_type payload.now ≡ None) }
         ensures error { IfErr result (λ e. family_error F.types F.short F.header_len F.rows message_type payload.now ≡ Some e) }
     {
-        let mut all = CheckedAttributes::<F>::new(message_type, payload)?;
+        let all = CheckedAttributes::<F>::new(message_type, payload)?;
         if !has_shapes(all.rows, all.block, all.walk) {
-            return Err(FamilyError::InvalidAttribute(all.stop()));
+            return Err(FamilyError::InvalidAttribute(block_error(all.rows, all.end, all.block)));
         }
         Ok(MessageView {
             message_type,

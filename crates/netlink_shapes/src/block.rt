@@ -133,6 +133,7 @@ fn fits_nest(rows: &[Row], block: &[u8], shape: Shape, kind: u16, value: &[u8]) 
 
 /// Returns whether the attributes of a walk in a block have the shapes of their kinds, and the walk
 /// has no error.
+#[inline(always)]
 pub fn has_shapes(rows: &[Row], block: &[u8], walk: NlasIterator<&[u8]>) -> bool
     requires sorted { are_sorted (rows_in rows.now) ≡ true }
     ensures { result ≡ are_shaped nest_levels (within (rows_in rows.now) block.now) 0 (unread walk.entry) }

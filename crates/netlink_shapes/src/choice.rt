@@ -205,7 +205,9 @@ fn kept_choice(rows: &[Row], policy: u16, block: &[u8], by: u16, choices: &mut C
     if choices.before.by == by && choices.before.policy == policy {
         return choices.before.shape;
     }
-    new_choice(rows, policy, block, by, choices);
+    let mut fresh = *choices;
+    new_choice(rows, policy, block, by, &mut fresh);
+    *choices = fresh;
     choices.last.shape
 }
 
