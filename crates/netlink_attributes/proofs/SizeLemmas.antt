@@ -1,7 +1,6 @@
 -- Whether attributes fit in a message, one after another.
 use Rattle.std.proofs.Common.{◌≡◌, ℕ, ◌+◌, ◌<◌, ◌≤◌, ◌^◌, List, [], ◌∷◌, ◌++◌, length, drop, refl, suc, ap, sym, subst, ◌∙◌, arith, All, length-append}
 use Rattle.std.specs.List.{AllWithin}
-use Rattle.std.proofs.lemmas.List.{drop_all}
 use Rattle.std.proofs.lemmas.List.Elements.{All-append, All-map, All-nil, All-cons}
 use Rattle.netlink_attributes.specs.Attribute.{Attribute, FitsAttribute, padded, value_max}
 use Rattle.netlink_attributes.specs.Block.{canonical_block}
@@ -17,16 +16,6 @@ pub record FitSoFar {T : Type 0} (kind_of : T → ℕ) (value_of : T → List �
   pub counted : size + length (canonical_block (attributes_of kind_of value_of (drop index list)))
       ≡ length (canonical_block (attributes_of kind_of value_of list))
   pub whole : size ≤ block_max
-
--- at the end of the list, that is the size of the block
-pub all_counted : {T : Type 0} (kind_of : T → ℕ) (value_of : T → List ℕ) (list : List T) (index size : ℕ) → length list ≤ index
-    → size + length (canonical_block (attributes_of kind_of value_of (drop index list)))
-    ≡ length (canonical_block (attributes_of kind_of value_of list))
-    → size ≡ length (canonical_block (attributes_of kind_of value_of list))
-all_counted {T} kind_of value_of list index size end counted =
-    let none : length (canonical_block (attributes_of kind_of value_of (drop index list))) ≡ 0 =
-    ap (λ (x : List T). length (canonical_block (attributes_of kind_of value_of x))) (drop_all index list end) in
-    omega (arith, none, counted)
 
 pub each_attribute : {T : Type 0} (kind_of : T → ℕ) (value_of : T → List ℕ) (list : List T)
     → All (λ nla. FitsAttribute (of kind_of value_of nla)) list

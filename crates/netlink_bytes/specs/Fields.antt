@@ -1,7 +1,7 @@
 -- Integers at byte offsets, and bytes whose fields are read and written again.
 use Rattle.std.specs.Prelude.{◌≡◌, ◌<◌, ◌≤◌, ℕ, ◌+◌, ◌-◌, ◌^◌, List, [], ◌∷◌, ◌++◌, length, slice_range, take, drop, sum}
-use Rattle.std.proofs.Common.{ap, arith, sym, ◌∙◌, append_assoc, append-nil, length-drop}
-use Rattle.std.proofs.lemmas.List.{drop-drop, drop_all, drop_at, length-take-le}
+use Rattle.std.proofs.Common.{ap, arith, sym, ◌∙◌, append_assoc, length-drop}
+use Rattle.std.proofs.lemmas.List.{drop-drop, drop_at, length-take-le}
 use Rattle.std.proofs.lemmas.List.Sums.{sum_by-cons}
 use Rattle.netlink_bytes.specs.Numbers.{IsBytes, number_le, signed, bytes_le, unsigned}
 use Rattle.netlink_bytes.specs.NumberLaws.{IsBytes-drop, front-fits, number_le-bytes_le, split_number, take-bytes_le, unsigned-signed}
@@ -82,16 +82,6 @@ fields_kept at (w ∷ v ∷ widths) bytes each long =
     (rest ∙ ap (λ (n : ℕ). fields_at (at + w) (v ∷ widths) bytes ++ drop n bytes) end)
     ∙ sym (append_assoc (bytes_le (number_at at w bytes) w) (fields_at (at + w) (v ∷ widths) bytes)
     (drop (at + sum (w ∷ v ∷ widths)) bytes))
-
--- the same for bytes of exactly the size of their fields
-pub all_fields_kept : (widths bytes : List ℕ) → IsBytes bytes → length bytes ≡ sum widths
-    → fields_at 0 widths bytes ≡ bytes
-all_fields_kept widths bytes each size =
-    let none : drop (0 + sum widths) bytes ≡ [] =
-    drop_all (0 + sum widths) bytes (omega (arith, size)) in
-    sym (fields_kept 0 widths bytes each (omega (arith, size))
-    ∙ ap (λ (more : List ℕ). fields_at 0 widths bytes ++ more) none
-    ∙ append-nil (fields_at 0 widths bytes))
 
 pub placed_is_read : PlacedIsRead
 placed_is_read bytes at w n inside fits =

@@ -1,16 +1,8 @@
 -- Where the request and the attributes are in the body of an error message.
-use Rattle.std.proofs.Common.{◌≡◌, ℕ, ◌+◌, ◌-◌, ◌≤◌, Bool, List, [], length, take, drop, refl, ap, ◌∙◌, arith, length-take}
-use Rattle.std.specs.Prelude.{if◌then◌else◌, min}
+use Rattle.std.proofs.Common.{◌≡◌, ℕ, ◌+◌, ◌-◌, ◌≤◌, Bool, List, [], length, take, drop, refl, ap, ◌∙◌, arith}
+use Rattle.std.specs.Prelude.{if◌then◌else◌}
 use Rattle.netlink_c.specs.Parts.{part_from}
-use Rattle.netlink_c.proofs.ReplyLemmas.{attributes_at, take_min}
-
--- the request follows the code
-pub request_part : (n : ℕ) (payload : List ℕ) (size : ℕ) → size ≡ length (take n (drop 4 payload))
-    → part_from 4 size payload ≡ take n (drop 4 payload)
-request_part n payload size is =
-    let cut : length (take n (drop 4 payload)) ≡ min n (length (drop 4 payload)) = length-take n (drop 4 payload) in
-    let sizes : (4 + size) - 4 ≡ min n (length (drop 4 payload)) = omega arith in
-    ap (λ (k : ℕ). take k (drop 4 payload)) sizes ∙ take_min n (drop 4 payload)
+use Rattle.netlink_c.proofs.ReplyLemmas.{attributes_at}
 
 -- the attributes are not longer than the body
 pub attributes_inside : (b : Bool) (n : ℕ) (payload : List ℕ) (size : ℕ)

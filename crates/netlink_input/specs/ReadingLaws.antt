@@ -8,7 +8,6 @@ use Rattle.std.specs.Io.KnownBytes.{Consumes, IsAtEnd, prepend_known}
 use Rattle.std.specs.Prelude.{true, ◌⊎◌}
 use borrow.Rule.Slice.PartMut.{post_of, put_mid}
 use Rattle.netlink_packet_core.specs.DecodeError.TheVariants.{FrameShort, FrameCut, FrameLength}
-use Rattle.netlink_packet_core.specs.FrameWalk.{IsWholeFrame}
 use Rattle.netlink_packet_core.specs.Header.{HoldsFrame, field}
 use Rattle.netlink_packet_core.specs.Numbers.{number_le}
 use Rattle.netlink_input.specs.Reading.{ReadsUpTo, Skips, Tries, TriesUpTo}
@@ -100,24 +99,6 @@ no_body head body said size is short holds =
     let same = field_in head body (omega (arith, size)) in
     let long = length-append head body in
     omega (arith, size, is, short, holds.most, same, long)
-
-pub whole_frame : (head body : List ℕ) (said : ℕ) → length head ≡ 16 → said ≡ field 0 4 head
-    → 16 + length body ≡ said → IsWholeFrame (head ++ body)
-whole_frame head body said size is whole =
-    let same = field_in head body (omega (arith, size)) in
-    let long = length-append head body in
-    record { size = omega (arith, size, is, whole, same, long); least = omega (arith, size, long) }
-
--- the whole frame was read
-pub gives_frame : (old middle new : Option (List ℕ)) (head body frame : List ℕ) (said : ℕ) → Consumes old middle head
-    → Consumes middle new body → length head ≡ 16 → said ≡ field 0 4 head → 16 + length body ≡ said → said ≤ longest
-    → frame ≡ head ++ body → Consumes old new frame × IsWholeFrame frame × (length frame ≤ longest)
-gives_frame old middle new head body frame said took more size is whole most same =
-    let long : length frame ≡ length head + length body = ap length same ∙ length-append head body in (
-      subst (Consumes old new) (sym same) (Consumes-trans old middle new head body took more),
-      subst IsWholeFrame (sym same) (whole_frame head body said size is whole),
-      omega (arith, long, size, whole, most),
-    )
 
 -- the reader failed before the end of the frame
 tries_body : (old middle new : Option (List ℕ)) (head front : List ℕ) (said : ℕ) → Consumes old middle head

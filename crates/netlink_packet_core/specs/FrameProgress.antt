@@ -1,7 +1,7 @@
 -- What a loop over the frames of a datagram has passed.
 use Rattle.std.proofs.Common.{◌≡◌, ◌≢◌, ℕ, List, [], ◌∷◌, ◌++◌, Option, Some, None}
 use Rattle.std.specs.Prelude.{false}
-use Rattle.netlink_bytes.specs.Walks.{Passed, passed_ends, passed_faults, passed_next, passed_none, passed_push, passed_rest, passed_walks}
+use Rattle.netlink_bytes.specs.Walks.{Passed, passed_ends, passed_faults, passed_next, passed_none, passed_push, passed_rest}
 use Rattle.netlink_bytes.specs.declared.error.DecodeError.{DecodeError}
 use Rattle.netlink_packet_core.specs.FrameWalk.{FrameWalk, StartsFrame}
 use Rattle.netlink_packet_core.specs.FrameWalkLaws.{frame_steps_laws}
@@ -31,13 +31,6 @@ pub passes_frames_fault : (bytes : List ℕ) (done : List (List ℕ)) (rest : Li
     → PassesFrames bytes done rest → rest ≢ [] → IsFrameFault false rest fault
     → FrameWalk bytes done (Some fault)
 passes_frames_fault = passed_faults StartsFrame (IsFrameFault false)
-
--- the walk of the bytes is these frames and then the walk of the rest
-pub passes_frames_walk : (bytes : List ℕ) (done : List (List ℕ)) (rest : List ℕ)
-    (more : List (List ℕ)) (fault : Option DecodeError)
-    → PassesFrames bytes done rest → FrameWalk rest more fault
-    → FrameWalk bytes (done ++ more) fault
-passes_frames_walk = passed_walks StartsFrame (IsFrameFault false)
 
 -- and these frames come first in any walk of the bytes
 pub passes_frames_rest : (bytes : List ℕ) (done : List (List ℕ)) (rest : List ℕ)

@@ -1,5 +1,5 @@
 -- Every byte list is frames in exactly one way, and walking encoded frames yields them.
-use Rattle.std.proofs.Common.{◌≡◌, ◌≢◌, ◌↔◌, ℕ, zero, suc, ◌+◌, ◌-◌, ◌*◌, ◌/◌, ◌%◌, ◌<◌, ◌^◌, List, [], ◌∷◌, ◌++◌, length, drop, refl, ap, sym, subst, ◌∙◌, inl, inr, arith, Option, None, All, append_assoc, append-nil, length-append, length-drop}
+use Rattle.std.proofs.Common.{◌≡◌, ◌≢◌, ℕ, zero, suc, ◌+◌, ◌-◌, ◌*◌, ◌/◌, ◌%◌, ◌<◌, ◌^◌, List, [], ◌∷◌, ◌++◌, length, drop, refl, ap, sym, subst, ◌∙◌, inl, inr, arith, Option, None, All, append_assoc, append-nil, length-append, length-drop}
 use Rattle.std.proofs.lemmas.Bool.{cases_lt}
 use Rattle.std.proofs.lemmas.List.{length-replicate}
 use Rattle.std.specs.Prelude.{false, replicate}
@@ -91,13 +91,6 @@ pub starts_frame-whole : (bytes frame rest : List ℕ) → StartsFrame bytes fra
     → IsWholeFrame frame
 starts_frame-whole bytes frame rest starts = record { size = starts.size; least = starts.least }
 
--- bytes that are one frame and nothing else hold a complete frame
-pub whole_holds : (frame : List ℕ) → IsWholeFrame frame → HoldsFrame frame
-whole_holds frame is =
-    let size = is.size in
-    let least = is.least in
-    record { header = least; least = omega arith; most = omega arith }
-
 -- each frame of a walk is one frame and nothing else
 pub each_whole : (bytes : List ℕ) (all : List (List ℕ)) (fault : Option DecodeError)
     → FrameWalk bytes all fault → All IsWholeFrame all
@@ -164,15 +157,6 @@ pub written_frames_once : (all found : List (List ℕ)) (fault : Option DecodeEr
     → (found ≡ all) × (fault ≡ None)
 written_frames_once all found fault each walk =
     frames_once (datagram_of all) found all fault None walk (written_frames_walk all each)
-
--- two lists of frames have the same encoding if and only if they are the same
-pub written_frames_alike : (x y : List (List ℕ)) → All IsWholeFrame x → All IsWholeFrame y
-    → (datagram_of x ≡ datagram_of y) ↔ (x ≡ y)
-written_frames_alike x y each other = (
-  λ same. (written_frames_once y x None other
-      (subst (λ (b : List ℕ). FrameWalk b x None) same (written_frames_walk x each))).0,
-  λ same. ap datagram_of same,
-)
 
 -- one more frame is written after the others
 pub datagram_push : (done : List (List ℕ)) (frame : List ℕ)

@@ -123,14 +123,6 @@ none_gives s bytes none = (
 pub record SkipsNoops (s : Replies) (bytes : List ℕ) (t : Replies) (rest : List ℕ) : Type 0 where
   pub left : (items : List Item) (last : Replies) → ReadsAs s bytes items last → ReadsAs t rest items last
 
-pub skip_none : (s : Replies) (bytes : List ℕ) → SkipsNoops s bytes s bytes
-skip_none s bytes = record { left = λ items last reads. reads }
-
-pub skip_one : (s : Replies) (bytes : List ℕ) (t : Replies) (middle : List ℕ) (u : Replies) (rest : List ℕ)
-    → SkipsNoops s bytes t middle → StepsFrame t middle None u rest → SkipsNoops s bytes u rest
-skip_one s bytes t middle u rest skips step =
-    record { left = λ items last reads. step items last (skips.left items last reads) }
-
 pub skip_item : (s : Replies) (bytes : List ℕ) (t : Replies) (middle : List ℕ) (item : Item) (u : Replies) (rest : List ℕ)
     → SkipsNoops s bytes t middle → StepsFrame t middle (Some item) u rest
     → Gives s bytes (Some item) u rest
