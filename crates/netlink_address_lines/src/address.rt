@@ -6,7 +6,7 @@ ghost use Rattle.netlink_route.specs.declared.addresses.TheConstants.{IFA_ADDRES
 ghost use Rattle.netlink_address_lines.specs.Address.{address_flags, address_front, address_ip, address_line, label_part, metric_part, or_byte, own_text, peer_words, place_parts};
 ghost use Rattle.netlink_words.specs.Names.{address_verb_text, scope_text};
 ghost use Rattle.netlink_words.specs.Text.{name_text};
-ghost use Rattle.netlink_words.specs.Parts.{keyed, or_empty, with_part, with_parts};
+ghost use Rattle.netlink_words.specs.Parts.{AddsPart, AddsParts, keyed, or_empty};
 
 use crate::address_flags::{push_flags, push_lifetimes};
 use netlink_family::MessageView;
@@ -88,8 +88,7 @@ fn push_places(
     text: &mut String,
     address: &MessageView<'_, Addresses>,
 ) -> Result<(), AllocError>
-    ensures { OnOk result (string_bytes text.new
-        ≡ with_parts (string_bytes text.old) (place_parts address.now.payload.now)) }
+    ensures { OnOk result (AddsParts text.old text.new (place_parts address.now.payload.now)) }
 {
     let prefix = address.header().u8(IFA_PREFIXLEN);
     let own = own_text(alloc, local_ip(address), far_ip(address), prefix)?;
@@ -103,8 +102,7 @@ fn push_places(
 /// Appends the scope.
 #[tactic(auto, using(netlink_words::specs::Pieces::scope_more))]
 fn push_scope_part(text: &mut String, scope: u8) -> Result<(), AllocError>
-    ensures { OnOk result (string_bytes text.new
-        ≡ with_part (string_bytes text.old) (keyed (codes "scope") (scope_text scope))) }
+    ensures { OnOk result (AddsPart text.old text.new (keyed (codes "scope") (scope_text scope))) }
 {
     push_key(text, "scope")?;
     push_scope(text, scope)
@@ -113,8 +111,7 @@ fn push_scope_part(text: &mut String, scope: u8) -> Result<(), AllocError>
 /// Appends the label.
 #[tactic(auto, unfolding(netlink_words::specs::Parts::with_part))]
 fn push_label(text: &mut String, label: Option<&[u8]>) -> Result<(), AllocError>
-    ensures { OnOk result (string_bytes text.new
-        ≡ with_part (string_bytes text.old) (label_part (option_copied label.entry))) }
+    ensures { OnOk result (AddsPart text.old text.new (label_part (option_copied label.entry))) }
 {
     match label {
         Some(label) => push_bare(text, label),
@@ -125,8 +122,7 @@ fn push_label(text: &mut String, label: Option<&[u8]>) -> Result<(), AllocError>
 /// Appends a name without a key, unless it is empty.
 #[tactic(auto, using(netlink_words::specs::Pieces::label_more), unfolding(netlink_words::specs::Parts::with_part, netlink_words::specs::Text::printable_text))]
 fn push_bare(text: &mut String, name: &[u8]) -> Result<(), AllocError>
-    ensures { OnOk result
-        (string_bytes text.new ≡ with_part (string_bytes text.old) (name_text name.now)) }
+    ensures { OnOk result (AddsPart text.old text.new (name_text name.now)) }
 {
     if name.is_empty() {
         return Ok(());
@@ -138,8 +134,7 @@ fn push_bare(text: &mut String, name: &[u8]) -> Result<(), AllocError>
 /// Appends the metric, unless the text of the address is empty.
 #[tactic(auto, unfolding(crate::specs::Address::metric_part, netlink_words::specs::Parts::with_part))]
 fn push_metric(text: &mut String, own: &str, metric: Option<u32>) -> Result<(), AllocError>
-    ensures { OnOk result
-        (string_bytes text.new ≡ with_part (string_bytes text.old) (metric_part own.now metric)) }
+    ensures { OnOk result (AddsPart text.old text.new (metric_part own.now metric)) }
 {
     if own.is_empty() {
         return Ok(());

@@ -3,7 +3,7 @@
 ghost use Rattle.std.specs.Prelude.{◌≡◌, ◌++◌, OnOk, codes, string_bytes};
 ghost use Rattle.std.specs.Option.{option_copied};
 ghost use Rattle.netlink_address_lines.specs.AddressFlags.{address_flag, flags_text, is_shown, lifetime_parts, named_flags, preferred_text, rest_part, seconds_text, with_flag};
-ghost use Rattle.netlink_words.specs.Parts.{keyed, with_part, with_parts};
+ghost use Rattle.netlink_words.specs.Parts.{AddsPart, AddsParts, keyed};
 
 use netlink_packet_core::{i32_at, u32_at};
 use netlink_words::digits::push_decimal;
@@ -101,8 +101,7 @@ fn address_flag(family: u8, bit: u32) -> &'static str
 /// Appends the bits without a name, if any is set.
 #[tactic(auto, unfolding(crate::specs::AddressFlags::rest_part, netlink_words::specs::Parts::with_part))]
 fn push_rest(alloc: Global, text: &mut String, rest: u32) -> Result<(), AllocError>
-    ensures { OnOk result
-        (string_bytes text.new ≡ with_part (string_bytes text.old) (rest_part rest)) }
+    ensures { OnOk result (AddsPart text.old text.new (rest_part rest)) }
 {
     if rest == 0 {
         return Ok(());
@@ -118,8 +117,7 @@ pub(crate) fn push_lifetimes(
     flags: u32,
     info: Option<&[u8]>,
 ) -> Result<(), AllocError>
-    ensures { OnOk result (string_bytes text.new
-        ≡ with_parts (string_bytes text.old) (lifetime_parts flags (option_copied info.entry))) }
+    ensures { OnOk result (AddsParts text.old text.new (lifetime_parts flags (option_copied info.entry))) }
 {
     match info {
         None => Ok(()),
@@ -136,8 +134,7 @@ pub(crate) fn push_lifetimes(
 /// Appends a key and a time in seconds.
 #[tactic(auto, using(crate::proofs::Pieces::seconds_more))]
 fn push_seconds(text: &mut String, key: &str, seconds: u32) -> Result<(), AllocError>
-    ensures { OnOk result (string_bytes text.new
-        ≡ with_part (string_bytes text.old) (keyed key.now (seconds_text seconds))) }
+    ensures { OnOk result (AddsPart text.old text.new (keyed key.now (seconds_text seconds))) }
 {
     push_key(text, key)?;
     push_time(text, seconds)
@@ -163,8 +160,8 @@ fn push_preferred(
     seconds: u32,
     signed: i32,
 ) -> Result<(), AllocError>
-    ensures { OnOk result (string_bytes text.new ≡ with_part (string_bytes text.old)
-        (keyed (codes "preferred_lft") (preferred_text flags seconds signed))) }
+    ensures { OnOk result
+        (AddsPart text.old text.new (keyed (codes "preferred_lft") (preferred_text flags seconds signed))) }
 {
     if seconds == u32::MAX || flags & IFA_F_DEPRECATED == 0 {
         return push_seconds(text, "preferred_lft", seconds);

@@ -5,7 +5,7 @@ ghost use Rattle.netlink_packet_core.specs.Fields.{number_at};
 ghost use Rattle.netlink_packet_core.specs.Numbers.{signed};
 ghost use Rattle.netlink_route.specs.declared.neighbours.TheConstants.{NDA_DST};
 ghost use Rattle.netlink_address_lines.specs.Neighbour.{flag_parts, neighbour_bytes, neighbour_device, neighbour_front, neighbour_index, neighbour_line, neighbour_verb_text, protocol_part, state_name, states_text, with_state};
-ghost use Rattle.netlink_words.specs.Parts.{with_part, with_parts};
+ghost use Rattle.netlink_words.specs.Parts.{AddsPart, AddsParts};
 
 use netlink_family::MessageView;
 use netlink_names::device::{Known, push_device};
@@ -80,8 +80,8 @@ fn push_front(
     known: &Names<'_>,
     neighbour: &MessageView<'_, Neighbours>,
 ) -> Result<(), AllocError>
-    ensures { OnOk result (string_bytes text.new ≡ with_parts (string_bytes text.old)
-        (neighbour_front known.now neighbour.now.message_type neighbour.now.payload.now)) }
+    ensures { OnOk result
+        (AddsParts text.old text.new (neighbour_front known.now neighbour.now.message_type neighbour.now.payload.now)) }
 {
     push_part(text, verb_text(neighbour.message_type))?;
     push_ip(alloc, text, address_of(neighbour))?;
@@ -115,8 +115,7 @@ fn index_in(header: &[u8], index: i32) -> u32
 /// Appends the name of a link other than 0.
 #[tactic(auto, unfolding(crate::specs::Neighbour::neighbour_device, netlink_words::specs::Parts::when, netlink_words::specs::Parts::with_part))]
 fn push_link(text: &mut String, known: &Names<'_>, index: u32) -> Result<(), AllocError>
-    ensures { OnOk result
-        (string_bytes text.new ≡ with_part (string_bytes text.old) (neighbour_device known.now index)) }
+    ensures { OnOk result (AddsPart text.old text.new (neighbour_device known.now index)) }
 {
     if index == 0 {
         return Ok(());
@@ -139,8 +138,7 @@ fn verb_text(message_type: u16) -> &'static str
 /// Appends the names of the flags that are set, in the header and in the attribute for more flags.
 #[tactic(auto, unfolding(crate::specs::Neighbour::flag_parts))]
 fn push_flags(text: &mut String, flags: u8, more: u32) -> Result<(), AllocError>
-    ensures { OnOk result
-        (string_bytes text.new ≡ with_parts (string_bytes text.old) (flag_parts flags more)) }
+    ensures { OnOk result (AddsParts text.old text.new (flag_parts flags more)) }
 {
     push_when(text, flags & NTF_ROUTER != 0, "router")?;
     push_when(text, flags & NTF_PROXY != 0, "proxy")?;
@@ -188,8 +186,7 @@ fn state_name(bit: u16) -> &'static str
 /// Appends a protocol other than 0.
 #[tactic(auto, using(netlink_words::specs::Pieces::protocol_more), unfolding(crate::specs::Neighbour::protocol_part, netlink_words::specs::Parts::when, netlink_words::specs::Parts::with_part))]
 fn push_protocol_part(text: &mut String, protocol: Option<u8>) -> Result<(), AllocError>
-    ensures { OnOk result
-        (string_bytes text.new ≡ with_part (string_bytes text.old) (protocol_part protocol)) }
+    ensures { OnOk result (AddsPart text.old text.new (protocol_part protocol)) }
 {
     match protocol {
         None => Ok(()),

@@ -5,7 +5,7 @@ ghost use Rattle.std.specs.Option.{option_copied, option_map};
 ghost use Rattle.netlink_family.specs.Shapes.{rows_in};
 ghost use Rattle.netlink_route.specs.declared.neighbour_tables.TheConstants.{PARMS};
 ghost use Rattle.netlink_address_lines.specs.NeighbourTable.{delay_parts, limit_parts, long_part, neighbour_table_line, parm_parts, probe_parts, table_name, table_text, time_parts};
-ghost use Rattle.netlink_words.specs.Parts.{with_part, with_parts};
+ghost use Rattle.netlink_words.specs.Parts.{AddsPart, AddsParts};
 
 use netlink_family::{BlockView, MessageView, Table};
 use netlink_names::device::{Known, push_device};
@@ -83,8 +83,7 @@ fn push_parms(
 ) -> Result<(), AllocError>
     requires rows { rows_in parms.now.rows.now ≡ ⟦<NeighbourTables as Table>⟧.rows 64 }
     requires policy { parms.now.policy ≡ PARMS }
-    ensures { OnOk result (string_bytes text.new
-        ≡ with_parts (string_bytes text.old) (parm_parts known.now parms.now.block.now)) }
+    ensures { OnOk result (AddsParts text.old text.new (parm_parts known.now parms.now.block.now)) }
 {
     push_device(text, known, "dev", parms.u32(NDTPA_IFINDEX))?;
     push_times(alloc, text, parms)?;
@@ -95,8 +94,7 @@ fn push_parms(
 /// Appends the name of a table.
 #[tactic(auto, unfolding(crate::specs::NeighbourTable::table_name, netlink_words::specs::Parts::with_part))]
 fn push_name(alloc: Global, text: &mut String, name: Option<&[u8]>) -> Result<(), AllocError>
-    ensures { OnOk result (string_bytes text.new
-        ≡ with_part (string_bytes text.old) (table_name (option_copied name.entry))) }
+    ensures { OnOk result (AddsPart text.old text.new (table_name (option_copied name.entry))) }
 {
     match name {
         Some(name) => push_part(text, name_text(alloc, name)?.as_str()),
@@ -112,8 +110,7 @@ fn push_long(
     key: &str,
     number: Option<u64>,
 ) -> Result<(), AllocError>
-    ensures { OnOk result
-        (string_bytes text.new ≡ with_part (string_bytes text.old) (long_part key.now number)) }
+    ensures { OnOk result (AddsPart text.old text.new (long_part key.now number)) }
 {
     match number {
         Some(number) => push_part(text, format!(in alloc; "{key} {number}")?.as_str()),
@@ -127,8 +124,7 @@ fn push_limits(
     text: &mut String,
     table: &MessageView<'_, NeighbourTables>,
 ) -> Result<(), AllocError>
-    ensures { OnOk result (string_bytes text.new
-        ≡ with_parts (string_bytes text.old) (limit_parts table.now.payload.now)) }
+    ensures { OnOk result (AddsParts text.old text.new (limit_parts table.now.payload.now)) }
 {
     push_number(text, "thresh1", table.view().u32(NDTA_THRESH1))?;
     push_number(text, "thresh2", table.view().u32(NDTA_THRESH2))?;
@@ -141,8 +137,7 @@ fn push_limits(
 fn push_times(alloc: Global, text: &mut String, parms: &BlockView<'_>) -> Result<(), AllocError>
     requires rows { rows_in parms.now.rows.now ≡ ⟦<NeighbourTables as Table>⟧.rows 64 }
     requires policy { parms.now.policy ≡ PARMS }
-    ensures { OnOk result (string_bytes text.new
-        ≡ with_parts (string_bytes text.old) (time_parts parms.now.block.now)) }
+    ensures { OnOk result (AddsParts text.old text.new (time_parts parms.now.block.now)) }
 {
     push_number(text, "refcnt", parms.u32(NDTPA_REFCNT))?;
     push_long(alloc, text, "reachable", parms.u64(NDTPA_REACHABLE_TIME))?;
@@ -168,8 +163,7 @@ fn push_times(alloc: Global, text: &mut String, parms: &BlockView<'_>) -> Result
 fn push_probes(text: &mut String, parms: &BlockView<'_>) -> Result<(), AllocError>
     requires rows { rows_in parms.now.rows.now ≡ ⟦<NeighbourTables as Table>⟧.rows 64 }
     requires policy { parms.now.policy ≡ PARMS }
-    ensures { OnOk result (string_bytes text.new
-        ≡ with_parts (string_bytes text.old) (probe_parts parms.now.block.now)) }
+    ensures { OnOk result (AddsParts text.old text.new (probe_parts parms.now.block.now)) }
 {
     push_number(text, "app_probes", parms.u32(NDTPA_APP_PROBES))?;
     push_number(text, "ucast_probes", parms.u32(NDTPA_UCAST_PROBES))?;
@@ -181,8 +175,7 @@ fn push_probes(text: &mut String, parms: &BlockView<'_>) -> Result<(), AllocErro
 fn push_delays(alloc: Global, text: &mut String, parms: &BlockView<'_>) -> Result<(), AllocError>
     requires rows { rows_in parms.now.rows.now ≡ ⟦<NeighbourTables as Table>⟧.rows 64 }
     requires policy { parms.now.policy ≡ PARMS }
-    ensures { OnOk result (string_bytes text.new
-        ≡ with_parts (string_bytes text.old) (delay_parts parms.now.block.now)) }
+    ensures { OnOk result (AddsParts text.old text.new (delay_parts parms.now.block.now)) }
 {
     push_long(alloc, text, "anycast_delay", parms.u64(NDTPA_ANYCAST_DELAY))?;
     push_long(alloc, text, "proxy_delay", parms.u64(NDTPA_PROXY_DELAY))?;

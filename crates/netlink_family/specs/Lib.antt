@@ -14,6 +14,7 @@ pub use Rattle.netlink_shapes.specs.ErrorLaws
 pub use Rattle.netlink_shapes.specs.ErrorTexts
 pub use Rattle.netlink_shapes.specs.Errors
 pub use Rattle.netlink_shapes.specs.Listing
+pub use Rattle.netlink_shapes.specs.ListingLaws
 pub use Rattle.netlink_shapes.specs.NestLaws
 pub use Rattle.netlink_shapes.specs.Policies
 pub use Rattle.netlink_shapes.specs.Pushing

@@ -46,7 +46,7 @@ impl<'a, F: Table> MessageIndex<'a, F> {
     }
 
     /// Returns the attributes by their places, with getters by kind.
-    pub fn view(&self) -> &BlockIndex<'a>
+    pub fn index(&self) -> &BlockIndex<'a>
         ensures rows { rows_in result.now.view.rows.now ≡ F.rows self.now.message.message_type }
         ensures policy { result.now.view.policy ≡ 0 }
         ensures block { result.now.view.block.now ≡ drop (F.header_len self.now.message.message_type) self.now.message.payload.now }

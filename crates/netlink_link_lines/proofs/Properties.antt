@@ -5,7 +5,7 @@ use Rattle.std.specs.List.{fold}
 use Rattle.netlink_packet_core.specs.Attribute.{Attribute}
 use Rattle.netlink_packet_core.specs.Walk.{Starts}
 use Rattle.netlink_family.specs.Listing.{listed}
-use Rattle.netlink_shapes.specs.ListingLaws.{before_step}
+use Rattle.netlink_family.specs.ListingLaws.{before_step}
 use Rattle.netlink_family.specs.Strings.{until_nul}
 use Rattle.netlink_family.specs.Values.{IsValueOf, value_bytes, value_shape}
 use Rattle.netlink_family.specs.declared.shape.Shape.TheVariants as shape

@@ -69,7 +69,7 @@ fn line_of(
     push_settings(alloc, &mut text, known, link)?;
     push_hardware_parts(alloc, &mut text, link)?;
     push_spaces(&mut text, link)?;
-    push_words(&mut text, "alias", link.view().str_bytes(IFLA_IFALIAS))?;
+    push_words(&mut text, "alias", link.index().str_bytes(IFLA_IFALIAS))?;
     push_alternatives(&mut text, link)?;
     push_string(&mut text, "kind", kind_of(link))?;
     text.push_str("\n")?;
@@ -132,7 +132,7 @@ fn push_own_name(
     ensures { OnOk result (string_bytes text.new ≡ string_bytes text.old
         ++ link_name index (link_string link.now.message.payload.now IFLA_IFNAME)) }
 {
-    match link.view().str_bytes(IFLA_IFNAME) {
+    match link.index().str_bytes(IFLA_IFNAME) {
         Some(name) => push_name(text, name),
         None => {
             text.push_str("if")?;
@@ -150,11 +150,11 @@ fn push_below(
     ensures { OnOk result (string_bytes text.new ≡ string_bytes text.old ++ below_words known.now
         (link_signed link.now.message.payload.now IFLA_LINK_NETNSID) (link_number link.now.message.payload.now IFLA_LINK)) }
 {
-    match link.view().u32(IFLA_LINK) {
+    match link.index().u32(IFLA_LINK) {
         Some(0) => text.push_str("@NONE"),
         Some(index) => {
             text.push('@')?;
-            push_below_name(text, known, link.view().i32(IFLA_LINK_NETNSID), index)
+            push_below_name(text, known, link.index().i32(IFLA_LINK_NETNSID), index)
         }
         None => Ok(()),
     }
@@ -181,5 +181,5 @@ fn push_below_name(
 fn kind_of<'a>(link: &MessageIndex<'a, Links>) -> Option<&'a [u8]>
     ensures { option_copied result ≡ link_kind link.now.message.payload.now }
 {
-    link.view().nest(IFLA_LINKINFO)?.str_bytes(IFLA_INFO_KIND)
+    link.index().nest(IFLA_LINKINFO)?.str_bytes(IFLA_INFO_KIND)
 }

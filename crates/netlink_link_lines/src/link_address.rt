@@ -1,9 +1,9 @@
 //! The type of a device and its addresses.
 
-ghost use Rattle.std.specs.Prelude.{◌≡◌, ◌++◌, OnOk, codes, string_bytes};
+ghost use Rattle.std.specs.Prelude.{◌≡◌, ◌++◌, OnOk, codes};
 ghost use Rattle.netlink_link_lines.specs.LinkAddress.{broadcast_key, hardware_parts, ip_size, link_address, link_own, permanent_part};
 ghost use Rattle.netlink_link_lines.specs.Hardware.{hardware_text};
-ghost use Rattle.netlink_words.specs.Parts.{keyed, with_part, with_parts};
+ghost use Rattle.netlink_words.specs.Parts.{AddsPart, AddsParts, keyed};
 ghost use Rattle.netlink_route.specs.declared.links.TheConstants.{IFLA_ADDRESS, IFLA_BROADCAST, IFLA_PERM_ADDRESS};
 
 use crate::hardware::push_type;
@@ -24,8 +24,7 @@ pub(crate) fn push_hardware_parts(
     text: &mut String,
     link: &MessageIndex<'_, Links>,
 ) -> Result<(), AllocError>
-    ensures { OnOk result (string_bytes text.new ≡ with_parts (string_bytes text.old)
-        (hardware_parts link.now.message.payload.now)) }
+    ensures { OnOk result (AddsParts text.old text.new (hardware_parts link.now.message.payload.now)) }
 {
     let layer = link.header().u16(IFI_TYPE);
     push_layer(text, layer)?;
@@ -38,8 +37,7 @@ pub(crate) fn push_hardware_parts(
 /// Appends the type of the device.
 #[tactic(auto, using(netlink_words::specs::Pieces::part_more), unfolding(netlink_words::specs::Parts::with_part))]
 fn push_layer(text: &mut String, layer: u16) -> Result<(), AllocError>
-    ensures { OnOk result (string_bytes text.new
-        ≡ with_part (string_bytes text.old) (codes "link/" ++ hardware_text layer)) }
+    ensures { OnOk result (AddsPart text.old text.new (codes "link/" ++ hardware_text layer)) }
 {
     push_part(text, "link/")?;
     push_type(text, layer)
@@ -49,21 +47,21 @@ fn push_layer(text: &mut String, layer: u16) -> Result<(), AllocError>
 fn own_of<'a>(link: &MessageIndex<'a, Links>) -> &'a [u8]
     ensures { result.now ≡ link_own link.now.message.payload.now IFLA_ADDRESS }
 {
-    or_empty(link.view().bytes(IFLA_ADDRESS))
+    or_empty(link.index().bytes(IFLA_ADDRESS))
 }
 
 /// Returns the broadcast address, or that of the peer; empty if there is none.
 fn broadcast_of<'a>(link: &MessageIndex<'a, Links>) -> &'a [u8]
     ensures { result.now ≡ link_own link.now.message.payload.now IFLA_BROADCAST }
 {
-    or_empty(link.view().bytes(IFLA_BROADCAST))
+    or_empty(link.index().bytes(IFLA_BROADCAST))
 }
 
 /// Returns the permanent address; empty if there is none.
 fn permanent_of<'a>(link: &MessageIndex<'a, Links>) -> &'a [u8]
     ensures { result.now ≡ link_own link.now.message.payload.now IFLA_PERM_ADDRESS }
 {
-    or_empty(link.view().bytes(IFLA_PERM_ADDRESS))
+    or_empty(link.index().bytes(IFLA_PERM_ADDRESS))
 }
 
 /// Returns the key before the broadcast address, which is that of the peer if a link has one.
@@ -80,8 +78,7 @@ fn broadcast_key(flags: u32) -> &'static str
 /// Appends the address of a device: that of a tunnel as an IP address, and any other in hexadecimal.
 #[tactic(auto, using(netlink_words::specs::Pieces::bytes_part), unfolding(crate::specs::LinkAddress::link_address))]
 fn push_own(alloc: Global, text: &mut String, layer: u16, bytes: &[u8]) -> Result<(), AllocError>
-    ensures { OnOk result (string_bytes text.new
-        ≡ with_part (string_bytes text.old) (link_address layer bytes.now)) }
+    ensures { OnOk result (AddsPart text.old text.new (link_address layer bytes.now)) }
 {
     if bytes.len() == ip_size(layer) {
         return push_ip(alloc, text, bytes);
@@ -102,8 +99,7 @@ fn push_keyed_address(
     key: &str,
     bytes: &[u8],
 ) -> Result<(), AllocError>
-    ensures { OnOk result (string_bytes text.new
-        ≡ with_part (string_bytes text.old) (keyed key.now (link_address layer bytes.now))) }
+    ensures { OnOk result (AddsPart text.old text.new (keyed key.now (link_address layer bytes.now))) }
 {
     if bytes.len() == ip_size(layer) {
         return push_address(alloc, text, key, bytes);
@@ -136,8 +132,7 @@ fn push_permanent(
     own: &[u8],
     permanent: &[u8],
 ) -> Result<(), AllocError>
-    ensures { OnOk result (string_bytes text.new
-        ≡ with_part (string_bytes text.old) (permanent_part layer own.now permanent.now)) }
+    ensures { OnOk result (AddsPart text.old text.new (permanent_part layer own.now permanent.now)) }
 {
     if permanent == own {
         return Ok(());

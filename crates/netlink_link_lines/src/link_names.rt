@@ -7,7 +7,7 @@ ghost use Rattle.netlink_family.specs.Listing.{listed};
 ghost use Rattle.netlink_family.specs.Values.{value_bytes};
 ghost use Rattle.netlink_route.specs.declared.links.TheConstants.{IFLA_LINK_NETNSID, IFLA_NEW_IFINDEX, IFLA_NEW_NETNSID, IFLA_PROP_LIST};
 ghost use Rattle.netlink_link_lines.specs.LinkNames.{IsProperties, IsProperty, alternative_part, alternatives_text, down_part, signed_part, space_id, space_part, space_parts, with_alternative};
-ghost use Rattle.netlink_words.specs.Parts.{with_part, with_parts};
+ghost use Rattle.netlink_words.specs.Parts.{AddsPart, AddsParts};
 
 use netlink_family::{BlockView, MessageIndex, Table, Value, bytes_until_nul};
 use netlink_route::Links;
@@ -26,40 +26,39 @@ pub(crate) fn push_spaces(
     text: &mut String,
     link: &MessageIndex<'_, Links>,
 ) -> Result<(), AllocError>
-    ensures { OnOk result (string_bytes text.new
-        ≡ with_parts (string_bytes text.old) (space_parts link.now.message.payload.now)) }
+    ensures { OnOk result (AddsParts text.old text.new (space_parts link.now.message.payload.now)) }
 {
     push_lower_space(text, lower_space(link))?;
     push_keyed_signed(text, "new-netnsid", new_space(link))?;
     push_keyed_signed(text, "new-ifindex", new_index(link))?;
-    push_down(text, link.view().u8(IFLA_PROTO_DOWN))
+    push_down(text, link.index().u8(IFLA_PROTO_DOWN))
 }
 
 /// Returns the id of the network namespace of the lower link.
 fn lower_space(link: &MessageIndex<'_, Links>) -> Option<i32>
     ensures { result ≡ space_id link.now.message.payload.now IFLA_LINK_NETNSID }
 {
-    link.view().i32(IFLA_LINK_NETNSID)
+    link.index().i32(IFLA_LINK_NETNSID)
 }
 
 /// Returns the id of the network namespace that the link moved to.
 fn new_space(link: &MessageIndex<'_, Links>) -> Option<i32>
     ensures { result ≡ space_id link.now.message.payload.now IFLA_NEW_NETNSID }
 {
-    link.view().i32(IFLA_NEW_NETNSID)
+    link.index().i32(IFLA_NEW_NETNSID)
 }
 
 /// Returns the index that the link has there.
 fn new_index(link: &MessageIndex<'_, Links>) -> Option<i32>
     ensures { result ≡ space_id link.now.message.payload.now IFLA_NEW_IFINDEX }
 {
-    link.view().i32(IFLA_NEW_IFINDEX)
+    link.index().i32(IFLA_NEW_IFINDEX)
 }
 
 /// Appends the id of the network namespace of a lower link; `unknown` for one below 0.
 #[tactic(auto, unfolding(crate::specs::LinkNames::space_part, netlink_words::specs::Parts::with_part))]
 fn push_lower_space(text: &mut String, id: Option<i32>) -> Result<(), AllocError>
-    ensures { OnOk result (string_bytes text.new ≡ with_part (string_bytes text.old) (space_part id)) }
+    ensures { OnOk result (AddsPart text.old text.new (space_part id)) }
 {
     match id {
         None => Ok(()),
@@ -75,8 +74,7 @@ fn push_lower_space(text: &mut String, id: Option<i32>) -> Result<(), AllocError
 /// Appends a key and a signed number, if there is one.
 #[tactic(auto, using(netlink_words::specs::Pieces::key_more), unfolding(crate::specs::LinkNames::signed_part, netlink_words::specs::Parts::with_part))]
 fn push_keyed_signed(text: &mut String, key: &str, number: Option<i32>) -> Result<(), AllocError>
-    ensures { OnOk result
-        (string_bytes text.new ≡ with_part (string_bytes text.old) (signed_part key.now number)) }
+    ensures { OnOk result (AddsPart text.old text.new (signed_part key.now number)) }
 {
     match number {
         Some(number) => {
@@ -90,7 +88,7 @@ fn push_keyed_signed(text: &mut String, key: &str, number: Option<i32>) -> Resul
 /// Appends `protodown on` for a number other than 0.
 #[tactic(auto, unfolding(crate::specs::LinkNames::down_part, netlink_words::specs::Parts::with_part))]
 fn push_down(text: &mut String, down: Option<u8>) -> Result<(), AllocError>
-    ensures { OnOk result (string_bytes text.new ≡ with_part (string_bytes text.old) (down_part down)) }
+    ensures { OnOk result (AddsPart text.old text.new (down_part down)) }
 {
     match down {
         Some(down) => push_when(text, down != 0, "protodown on"),
@@ -107,7 +105,7 @@ pub(crate) fn push_alternatives(
     ensures { OnOk result (string_bytes text.new ≡ alternatives_text (string_bytes text.old)
         (first_at 16 link.now.message.payload.now IFLA_PROP_LIST)) }
 {
-    match link.view().nest(IFLA_PROP_LIST) {
+    match link.index().nest(IFLA_PROP_LIST) {
         None => Ok(()),
         Some(properties) => push_properties(text, &properties),
     }
@@ -129,8 +127,7 @@ fn push_properties(text: &mut String, properties: &BlockView<'_>) -> Result<(), 
 #[tactic(auto, unfolding(crate::specs::LinkNames::alternative_part, netlink_words::specs::Parts::with_part))]
 fn push_property(text: &mut String, kind: u16, value: Value<'_>) -> Result<(), AllocError>
     requires { IsProperty kind value }
-    ensures { OnOk result (string_bytes text.new
-        ≡ with_part (string_bytes text.old) (alternative_part kind (value_bytes value.entry))) }
+    ensures { OnOk result (AddsPart text.old text.new (alternative_part kind (value_bytes value.entry))) }
 {
     if kind != IFLA_ALT_IFNAME {
         return Ok(());

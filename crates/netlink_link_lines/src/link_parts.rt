@@ -2,7 +2,7 @@
 
 ghost use Rattle.std.specs.Prelude.{◌≡◌, ◌++◌, IfOk, OnOk, string_bytes};
 ghost use Rattle.netlink_link_lines.specs.LinkParts.{event_part, event_text, group_part, group_text, mode_part, mode_text, queue_part, setting_parts, state_part};
-ghost use Rattle.netlink_words.specs.Parts.{with_part, with_parts};
+ghost use Rattle.netlink_words.specs.Parts.{AddsPart, AddsParts};
 
 use netlink_family::MessageIndex;
 use netlink_names::device::push_device;
@@ -26,24 +26,23 @@ pub(crate) fn push_settings(
     known: &Names<'_>,
     link: &MessageIndex<'_, Links>,
 ) -> Result<(), AllocError>
-    ensures { OnOk result (string_bytes text.new ≡ with_parts (string_bytes text.old)
-        (setting_parts known.now link.now.message.payload.now)) }
+    ensures { OnOk result
+        (AddsParts text.old text.new (setting_parts known.now link.now.message.payload.now)) }
 {
-    push_number(text, "mtu", link.view().u32(IFLA_MTU))?;
-    push_string(text, "qdisc", link.view().str_bytes(IFLA_QDISC))?;
-    push_device(text, known, "master", link.view().u32(IFLA_MASTER))?;
-    push_state_part(text, link.view().u8(IFLA_OPERSTATE))?;
-    push_mode(text, link.view().u8(IFLA_LINKMODE))?;
-    push_group(text, link.view().u32(IFLA_GROUP))?;
-    push_queue(text, link.view().u32(IFLA_TXQLEN))?;
-    push_event(alloc, text, link.view().u32(IFLA_EVENT))
+    push_number(text, "mtu", link.index().u32(IFLA_MTU))?;
+    push_string(text, "qdisc", link.index().str_bytes(IFLA_QDISC))?;
+    push_device(text, known, "master", link.index().u32(IFLA_MASTER))?;
+    push_state_part(text, link.index().u8(IFLA_OPERSTATE))?;
+    push_mode(text, link.index().u8(IFLA_LINKMODE))?;
+    push_group(text, link.index().u32(IFLA_GROUP))?;
+    push_queue(text, link.index().u32(IFLA_TXQLEN))?;
+    push_event(alloc, text, link.index().u32(IFLA_EVENT))
 }
 
 /// Appends the operational state.
 #[tactic(auto, using(netlink_words::specs::Pieces::state_more), unfolding(crate::specs::LinkParts::state_part, netlink_words::specs::Parts::with_part))]
 fn push_state_part(text: &mut String, state: Option<u8>) -> Result<(), AllocError>
-    ensures { OnOk result
-        (string_bytes text.new ≡ with_part (string_bytes text.old) (state_part state)) }
+    ensures { OnOk result (AddsPart text.old text.new (state_part state)) }
 {
     match state {
         Some(state) => {
@@ -57,8 +56,7 @@ fn push_state_part(text: &mut String, state: Option<u8>) -> Result<(), AllocErro
 /// Appends the mode, which determines whether the link becomes dormant.
 #[tactic(auto, using(crate::proofs::Pieces::mode_more), unfolding(crate::specs::LinkParts::mode_part, netlink_words::specs::Parts::with_part))]
 fn push_mode(text: &mut String, mode: Option<u8>) -> Result<(), AllocError>
-    ensures { OnOk result
-        (string_bytes text.new ≡ with_part (string_bytes text.old) (mode_part mode)) }
+    ensures { OnOk result (AddsPart text.old text.new (mode_part mode)) }
 {
     match mode {
         Some(mode) => {
@@ -85,8 +83,7 @@ fn push_mode_name(text: &mut String, mode: u8) -> Result<(), AllocError>
 /// Appends the group.
 #[tactic(auto, using(crate::proofs::Pieces::group_more), unfolding(crate::specs::LinkParts::group_part, netlink_words::specs::Parts::with_part))]
 fn push_group(text: &mut String, group: Option<u32>) -> Result<(), AllocError>
-    ensures { OnOk result
-        (string_bytes text.new ≡ with_part (string_bytes text.old) (group_part group)) }
+    ensures { OnOk result (AddsPart text.old text.new (group_part group)) }
 {
     match group {
         Some(group) => {
@@ -111,8 +108,7 @@ fn push_group_name(text: &mut String, group: u32) -> Result<(), AllocError>
 /// Appends a length of the queue other than 0.
 #[tactic(auto, unfolding(crate::specs::LinkParts::queue_part, netlink_words::specs::Parts::when, netlink_words::specs::Parts::with_part))]
 fn push_queue(text: &mut String, length: Option<u32>) -> Result<(), AllocError>
-    ensures { OnOk result
-        (string_bytes text.new ≡ with_part (string_bytes text.old) (queue_part length)) }
+    ensures { OnOk result (AddsPart text.old text.new (queue_part length)) }
 {
     match length {
         None => Ok(()),
@@ -128,8 +124,7 @@ fn push_queue(text: &mut String, length: Option<u32>) -> Result<(), AllocError>
 /// Appends an event other than 0, for which the kernel sent the message.
 #[tactic(auto, unfolding(crate::specs::LinkParts::event_part, netlink_words::specs::Parts::when, netlink_words::specs::Parts::with_part))]
 fn push_event(alloc: Global, text: &mut String, event: Option<u32>) -> Result<(), AllocError>
-    ensures { OnOk result
-        (string_bytes text.new ≡ with_part (string_bytes text.old) (event_part event)) }
+    ensures { OnOk result (AddsPart text.old text.new (event_part event)) }
 {
     match event {
         None => Ok(()),

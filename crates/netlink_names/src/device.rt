@@ -3,7 +3,7 @@
 ghost use Rattle.std.specs.Prelude.{◌≡◌, ◌++◌, IfOk, OnOk, codes, decimal, string_bytes};
 ghost use Rattle.std.specs.Option.{option_copied};
 ghost use Rattle.netlink_names.specs.Device.{device_part, device_text, name_of, name_or_index};
-ghost use Rattle.netlink_words.specs.Parts.{keyed, with_part};
+ghost use Rattle.netlink_words.specs.Parts.{AddsPart, keyed};
 
 use crate::name::Name;
 use crate::name_table::{Names, name_of};
@@ -78,8 +78,7 @@ pub fn push_device(
     key: &str,
     index: Option<u32>,
 ) -> Result<(), AllocError>
-    ensures { OnOk result (string_bytes text.new
-        ≡ with_part (string_bytes text.old) (device_part known.now key.now index)) }
+    ensures { OnOk result (AddsPart text.old text.new (device_part known.now key.now index)) }
 {
     match index {
         None => Ok(()),
@@ -93,8 +92,7 @@ pub fn push_device(
 /// Appends a key, `if` and the index of a link.
 #[tactic(auto, using(netlink_words::specs::Pieces::index_more))]
 fn push_keyed_index(text: &mut String, key: &str, index: u32) -> Result<(), AllocError>
-    ensures { OnOk result (string_bytes text.new
-        ≡ with_part (string_bytes text.old) (keyed key.now (codes "if" ++ decimal index))) }
+    ensures { OnOk result (AddsPart text.old text.new (keyed key.now (codes "if" ++ decimal index))) }
 {
     push_key(text, key)?;
     push_index(text, index)

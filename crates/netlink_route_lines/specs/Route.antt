@@ -122,7 +122,7 @@ last_parts known payload =
     ∷ device_part known (codes "iif") (route_number payload RTA_IIF)
     ∷ preference_part (option_map (λ value. slice_index value 0) (first_at 12 payload RTA_PREF)) ∷ []
 
--- what follows the preferred source
+-- what follows the flags
 unfoldable pub with_rest : List Known → List ℕ → List ℕ → List ℕ
 with_rest known text payload =
     with_parts (with_parts (with_parts text (kept_parts payload)) (lifetime_parts (first_at 12 payload RTA_CACHEINFO)))

@@ -3,7 +3,7 @@
 ghost use Rattle.std.specs.Prelude.{◌≡◌, IfOk, OnOk, string_bytes};
 ghost use Rattle.std.specs.Option.{option_map};
 ghost use Rattle.netlink_route_lines.specs.Namespace.{id_line, id_part, namespace_line};
-ghost use Rattle.netlink_words.specs.Parts.{with_part};
+ghost use Rattle.netlink_words.specs.Parts.{AddsPart};
 
 use netlink_family::MessageView;
 use netlink_route::Namespaces;
@@ -53,8 +53,7 @@ fn id_line(
 /// Appends a key and an id, if there is one; `unassigned` for one below 0.
 #[tactic(auto, unfolding(crate::specs::Namespace::id_part, netlink_words::specs::Parts::with_part))]
 fn push_id(alloc: Global, text: &mut String, key: &str, id: Option<i32>) -> Result<(), AllocError>
-    ensures { OnOk result
-        (string_bytes text.new ≡ with_part (string_bytes text.old) (id_part key.now id)) }
+    ensures { OnOk result (AddsPart text.old text.new (id_part key.now id)) }
 {
     match id {
         None => Ok(()),

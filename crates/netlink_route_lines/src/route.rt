@@ -3,7 +3,7 @@
 ghost use Rattle.std.specs.Prelude.{◌≡◌, IfOk, OnOk, codes, string_bytes};
 ghost use Rattle.std.specs.Option.{option_map};
 ghost use Rattle.netlink_route.specs.declared.routes.TheConstants.{RTA_DST, RTA_GATEWAY, RTA_PREFSRC, RTA_SRC, RTA_VIA};
-ghost use Rattle.netlink_words.specs.Parts.{keyed, prefix_text, with_part, with_parts};
+ghost use Rattle.netlink_words.specs.Parts.{AddsPart, AddsParts, keyed, prefix_text};
 ghost use Rattle.netlink_route_lines.specs.Route.{installer_part, is_own, kept_parts, last_parts, mark_part, origin_parts, preference_part, route_bytes, route_entry_line, route_front, route_next, route_table, route_words, scope_part, table_part, type_part, with_rest, word_or_default};
 
 use crate::route_cache::{push_cache, push_lifetime};
@@ -100,8 +100,8 @@ fn push_front(
     text: &mut String,
     route: &MessageIndex<'_, Routes>,
 ) -> Result<(), AllocError>
-    ensures { OnOk result (string_bytes text.new ≡ with_parts (string_bytes text.old)
-        (route_front route.now.message.message_type route.now.message.payload.now)) }
+    ensures { OnOk result
+        (AddsParts text.old text.new (route_front route.now.message.message_type route.now.message.payload.now)) }
 {
     push_when(text, route.message.message_type == RTM_DELROUTE, "Deleted")?;
     push_type(alloc, text, route.header().u8(RTM_TYPE))?;
@@ -110,15 +110,14 @@ fn push_front(
     push_target(alloc, text, to, route.header().u8(RTM_DST_LEN), whole)?;
     let from = source_of(route);
     push_source(alloc, text, from, route.header().u8(RTM_SRC_LEN), whole)?;
-    push_number(text, "nhid", route.view().u32(RTA_NH_ID))?;
+    push_number(text, "nhid", route.index().u32(RTA_NH_ID))?;
     push_tos(alloc, text, route.header().u8(RTM_TOS))
 }
 
 /// Appends the type of a route, unless it is `unicast`.
 #[tactic(auto, unfolding(netlink_words::specs::Parts::with_part))]
 fn push_type(alloc: Global, text: &mut String, route_type: u8) -> Result<(), AllocError>
-    ensures { OnOk result
-        (string_bytes text.new ≡ with_part (string_bytes text.old) (type_part route_type)) }
+    ensures { OnOk result (AddsPart text.old text.new (type_part route_type)) }
 {
     if route_type == 1 {
         return Ok(());
@@ -135,8 +134,7 @@ fn push_target(
     length: u8,
     whole: u8,
 ) -> Result<(), AllocError>
-    ensures { OnOk result (string_bytes text.new ≡ with_part (string_bytes text.old)
-        (word_or_default (prefix_text ip.now length whole))) }
+    ensures { OnOk result (AddsPart text.old text.new (word_or_default (prefix_text ip.now length whole))) }
 {
     if ip.len() == 4 {
         push_space(text)?;
@@ -159,10 +157,10 @@ fn push_source(
     length: u8,
     whole: u8,
 ) -> Result<(), AllocError>
-    ensures { OnOk result (string_bytes text.new ≡ with_part (string_bytes text.old)
-        (keyed (codes "from") (prefix_text ip.now length whole))) }
+    ensures { OnOk result
+        (AddsPart text.old text.new (keyed (codes "from") (prefix_text ip.now length whole))) }
 {
-    if ip.is_empty() && length == 0 {
+    if ip.is_empty() & (length == 0) {
         return Ok(());
     }
     push_keyed(
@@ -176,14 +174,14 @@ fn push_source(
 fn target_of<'a>(route: &MessageIndex<'a, Routes>) -> &'a [u8]
     ensures { result.now ≡ route_bytes route.now.message.payload.now RTA_DST }
 {
-    or_empty(route.view().ip(RTA_DST))
+    or_empty(route.index().ip(RTA_DST))
 }
 
 /// Returns the address of the source; empty if there is none.
 fn source_of<'a>(route: &MessageIndex<'a, Routes>) -> &'a [u8]
     ensures { result.now ≡ route_bytes route.now.message.payload.now RTA_SRC }
 {
-    or_empty(route.view().ip(RTA_SRC))
+    or_empty(route.index().ip(RTA_SRC))
 }
 
 /// Appends the gateway and the link.
@@ -194,25 +192,24 @@ fn push_link(
     known: &Names<'_>,
     route: &MessageIndex<'_, Routes>,
 ) -> Result<(), AllocError>
-    ensures { OnOk result (string_bytes text.new
-        ≡ with_parts (string_bytes text.old) (route_next known.now route.now.message.payload.now)) }
+    ensures { OnOk result (AddsParts text.old text.new (route_next known.now route.now.message.payload.now)) }
 {
     push_next(alloc, text, gateway_of(route), via_of(route))?;
-    push_device(text, known, "dev", route.view().u32(RTA_OIF))
+    push_device(text, known, "dev", route.index().u32(RTA_OIF))
 }
 
 /// Returns the gateway; empty if there is none.
 fn gateway_of<'a>(route: &MessageIndex<'a, Routes>) -> &'a [u8]
     ensures { result.now ≡ route_bytes route.now.message.payload.now RTA_GATEWAY }
 {
-    or_empty(route.view().ip(RTA_GATEWAY))
+    or_empty(route.index().ip(RTA_GATEWAY))
 }
 
 /// Returns the gateway of another family; empty if there is none.
 fn via_of<'a>(route: &MessageIndex<'a, Routes>) -> &'a [u8]
     ensures { result.now ≡ route_bytes route.now.message.payload.now RTA_VIA }
 {
-    or_empty(route.view().bytes(RTA_VIA))
+    or_empty(route.index().bytes(RTA_VIA))
 }
 
 /// Appends the table, the protocol, the scope, the preferred source, the metric and the flags. The
@@ -224,15 +221,14 @@ fn push_origin(
     text: &mut String,
     route: &MessageIndex<'_, Routes>,
 ) -> Result<(), AllocError>
-    ensures { OnOk result (string_bytes text.new
-        ≡ with_parts (string_bytes text.old) (origin_parts route.now.message.payload.now)) }
+    ensures { OnOk result (AddsParts text.old text.new (origin_parts route.now.message.payload.now)) }
 {
     let own = is_own(route);
     push_table_part(text, table_of(route))?;
     push_installer(text, own, route.header().u8(RTM_PROTOCOL))?;
     push_other_scope(text, own, route.header().u8(RTM_SCOPE))?;
     push_address(alloc, text, "src", preferred_of(route))?;
-    push_number(text, "metric", route.view().u32(RTA_PRIORITY))?;
+    push_number(text, "metric", route.index().u32(RTA_PRIORITY))?;
     push_hop_flags(alloc, text, route.header().u32(RTM_FLAGS))
 }
 
@@ -247,7 +243,7 @@ fn is_own(route: &MessageIndex<'_, Routes>) -> bool
 fn table_of(route: &MessageIndex<'_, Routes>) -> u32
     ensures { result ≡ route_table route.now.message.payload.now }
 {
-    match route.view().u32(RTA_TABLE) {
+    match route.index().u32(RTA_TABLE) {
         Some(table) => table,
         None => route.header().u8(RTM_TABLE) as u32,
     }
@@ -256,8 +252,7 @@ fn table_of(route: &MessageIndex<'_, Routes>) -> u32
 /// Appends the table, unless it is `main` or none.
 #[tactic(auto, using(netlink_words::specs::Pieces::part_more), unfolding(netlink_words::specs::Parts::with_part))]
 fn push_table_part(text: &mut String, table: u32) -> Result<(), AllocError>
-    ensures { OnOk result
-        (string_bytes text.new ≡ with_part (string_bytes text.old) (table_part table)) }
+    ensures { OnOk result (AddsPart text.old text.new (table_part table)) }
 {
     if table == 0 || table == RT_TABLE_MAIN {
         return Ok(());
@@ -269,8 +264,7 @@ fn push_table_part(text: &mut String, table: u32) -> Result<(), AllocError>
 /// Appends who installed the route, unless it is `boot` or the route was looked up.
 #[tactic(auto, using(netlink_words::specs::Pieces::part_more), unfolding(netlink_words::specs::Parts::with_part))]
 fn push_installer(text: &mut String, own: bool, protocol: u8) -> Result<(), AllocError>
-    ensures { OnOk result
-        (string_bytes text.new ≡ with_part (string_bytes text.old) (installer_part own protocol)) }
+    ensures { OnOk result (AddsPart text.old text.new (installer_part own protocol)) }
 {
     if !own || protocol == RTPROT_BOOT {
         return Ok(());
@@ -282,8 +276,7 @@ fn push_installer(text: &mut String, own: bool, protocol: u8) -> Result<(), Allo
 /// Appends the scope, unless it is `global` or the route was looked up.
 #[tactic(auto, using(netlink_words::specs::Pieces::part_more), unfolding(netlink_words::specs::Parts::with_part))]
 fn push_other_scope(text: &mut String, own: bool, scope: u8) -> Result<(), AllocError>
-    ensures { OnOk result
-        (string_bytes text.new ≡ with_part (string_bytes text.old) (scope_part own scope)) }
+    ensures { OnOk result (AddsPart text.old text.new (scope_part own scope)) }
 {
     if !own || scope == 0 {
         return Ok(());
@@ -296,7 +289,7 @@ fn push_other_scope(text: &mut String, own: bool, scope: u8) -> Result<(), Alloc
 fn preferred_of<'a>(route: &MessageIndex<'a, Routes>) -> &'a [u8]
     ensures { result.now ≡ route_bytes route.now.message.payload.now RTA_PREFSRC }
 {
-    or_empty(route.view().ip(RTA_PREFSRC))
+    or_empty(route.index().ip(RTA_PREFSRC))
 }
 
 /// Appends what follows the flags.
@@ -311,7 +304,7 @@ fn push_rest(
         ≡ with_rest known.now (string_bytes text.old) route.now.message.payload.now) }
 {
     push_kept(alloc, text, route)?;
-    push_lifetime(alloc, text, route.view().bytes(RTA_CACHEINFO))?;
+    push_lifetime(alloc, text, route.index().bytes(RTA_CACHEINFO))?;
     push_last(alloc, text, known, route)
 }
 
@@ -322,12 +315,11 @@ fn push_kept(
     text: &mut String,
     route: &MessageIndex<'_, Routes>,
 ) -> Result<(), AllocError>
-    ensures { OnOk result (string_bytes text.new
-        ≡ with_parts (string_bytes text.old) (kept_parts route.now.message.payload.now)) }
+    ensures { OnOk result (AddsParts text.old text.new (kept_parts route.now.message.payload.now)) }
 {
-    push_mark(alloc, text, route.view().u32(RTA_MARK))?;
-    push_realms(alloc, text, "realm", "realms", route.view().u32(RTA_FLOW))?;
-    push_number(text, "uid", route.view().u32(RTA_UID))?;
+    push_mark(alloc, text, route.index().u32(RTA_MARK))?;
+    push_realms(alloc, text, "realm", "realms", route.index().u32(RTA_FLOW))?;
+    push_number(text, "uid", route.index().u32(RTA_UID))?;
     push_cache(
         alloc,
         text,
@@ -339,8 +331,7 @@ fn push_kept(
 /// Appends a mark other than 0, in hexadecimal if it is 16 or greater.
 #[tactic(auto, unfolding(netlink_words::specs::Parts::with_part))]
 fn push_mark(alloc: Global, text: &mut String, mark: Option<u32>) -> Result<(), AllocError>
-    ensures { OnOk result
-        (string_bytes text.new ≡ with_part (string_bytes text.old) (mark_part mark)) }
+    ensures { OnOk result (AddsPart text.old text.new (mark_part mark)) }
 {
     match mark {
         None => Ok(()),
@@ -364,12 +355,11 @@ fn push_last(
     known: &Names<'_>,
     route: &MessageIndex<'_, Routes>,
 ) -> Result<(), AllocError>
-    ensures { OnOk result (string_bytes text.new
-        ≡ with_parts (string_bytes text.old) (last_parts known.now route.now.message.payload.now)) }
+    ensures { OnOk result (AddsParts text.old text.new (last_parts known.now route.now.message.payload.now)) }
 {
     push_metrics(alloc, text, route)?;
-    push_device(text, known, "iif", route.view().u32(RTA_IIF))?;
-    push_preference_part(alloc, text, route.view().u8(RTA_PREF))
+    push_device(text, known, "iif", route.index().u32(RTA_IIF))?;
+    push_preference_part(alloc, text, route.index().u8(RTA_PREF))
 }
 
 /// Appends the preference of a router, if there is one.
@@ -379,8 +369,7 @@ fn push_preference_part(
     text: &mut String,
     preference: Option<u8>,
 ) -> Result<(), AllocError>
-    ensures { OnOk result
-        (string_bytes text.new ≡ with_part (string_bytes text.old) (preference_part preference)) }
+    ensures { OnOk result (AddsPart text.old text.new (preference_part preference)) }
 {
     match preference {
         Some(preference) => push_preference(alloc, text, preference),

@@ -2,7 +2,7 @@
 
 ghost use Rattle.std.specs.Prelude.{◌≡◌, IfOk, OnOk, string_bytes};
 ghost use Rattle.std.specs.Option.{option_copied};
-ghost use Rattle.netlink_words.specs.Parts.{with_part, with_parts};
+ghost use Rattle.netlink_words.specs.Parts.{AddsPart, AddsParts};
 ghost use Rattle.netlink_route_lines.specs.RouteCache.{cache_flag_name, cache_flags, cache_of, cache_part, error_part, expires_part, lifetime_parts, named_cache_flags, with_cache_flag, with_rest};
 
 use netlink_packet_core::{i32_at, u32_at};
@@ -42,8 +42,7 @@ pub(crate) fn push_cache(
     family: u8,
     flags: u32,
 ) -> Result<(), AllocError>
-    ensures { OnOk result (string_bytes text.new
-        ≡ with_part (string_bytes text.old) (cache_part family flags)) }
+    ensures { OnOk result (AddsPart text.old text.new (cache_part family flags)) }
 {
     if family != 2 || flags & RTM_F_CLONED == 0 {
         return Ok(());
@@ -137,8 +136,7 @@ pub(crate) fn push_lifetime(
     text: &mut String,
     info: Option<&[u8]>,
 ) -> Result<(), AllocError>
-    ensures { OnOk result (string_bytes text.new
-        ≡ with_parts (string_bytes text.old) (lifetime_parts (option_copied info.entry))) }
+    ensures { OnOk result (AddsParts text.old text.new (lifetime_parts (option_copied info.entry))) }
 {
     match info {
         None => Ok(()),

@@ -6,8 +6,8 @@ ghost use Rattle.netlink_family.specs.Finding.{first_at, found_in};
 ghost use Rattle.netlink_family.specs.Listing.{listed};
 ghost use Rattle.netlink_family.specs.Values.{value_bytes};
 ghost use Rattle.netlink_route.specs.declared.routes.TheConstants.{RTA_GATEWAY, RTA_MULTIPATH, RTA_VIA};
-ghost use Rattle.netlink_words.specs.Parts.{or_empty};
-ghost use Rattle.netlink_words.specs.Parts.{with_part, with_parts};
+ghost use Rattle.netlink_words.specs.Parts.{AddsPart, AddsParts, or_empty};
+ghost use Rattle.netlink_words.specs.Parts.{AddsPart, AddsParts};
 ghost use Rattle.netlink_route_lines.specs.RouteHops.{IsHop, IsHops, IsOfHop, hop_parts, hops_text, next_parts, via_part, with_hop};
 
 use crate::route_names::push_hop_flags;
@@ -33,7 +33,7 @@ pub(crate) fn push_hops(
     ensures { OnOk result (string_bytes text.new ≡ hops_text known.now (string_bytes text.old)
         (first_at 12 route.now.message.payload.now RTA_MULTIPATH)) }
 {
-    match route.view().nest(RTA_MULTIPATH) {
+    match route.index().nest(RTA_MULTIPATH) {
         None => Ok(()),
         Some(hops) => push_list(alloc, text, known, &hops),
     }
@@ -65,8 +65,8 @@ fn push_hop(
     value: Value<'_>,
 ) -> Result<(), AllocError>
     requires { IsHop (⟦<Routes as Table>⟧.rows 24) value }
-    ensures { OnOk result (string_bytes text.new ≡ with_parts (string_bytes text.old)
-        (hop_parts known.now word (take 4 (value_bytes value.entry)) (drop 4 (value_bytes value.entry)))) }
+    ensures { OnOk result
+        (AddsParts text.old text.new (hop_parts known.now word (take 4 (value_bytes value.entry)) (drop 4 (value_bytes value.entry)))) }
 {
     match value {
         Value::HeaderNested(header, attributes) => {
@@ -88,8 +88,8 @@ fn push_hop_parts(
 ) -> Result<(), AllocError>
     requires header { length header.now ≡ 4 }
     requires attributes { IsOfHop (⟦<Routes as Table>⟧.rows 24) attributes.now }
-    ensures { OnOk result (string_bytes text.new ≡ with_parts (string_bytes text.old)
-        (hop_parts known.now word header.now attributes.now.block.now)) }
+    ensures { OnOk result
+        (AddsParts text.old text.new (hop_parts known.now word header.now attributes.now.block.now)) }
 {
     push_part(text, "nexthop")?;
     push_next(alloc, text, gateway_of(attributes), via_of(attributes))?;
@@ -123,8 +123,7 @@ pub(crate) fn push_next(
     gateway: &[u8],
     via: &[u8],
 ) -> Result<(), AllocError>
-    ensures { OnOk result (string_bytes text.new
-        ≡ with_parts (string_bytes text.old) (next_parts gateway.now via.now)) }
+    ensures { OnOk result (AddsParts text.old text.new (next_parts gateway.now via.now)) }
 {
     push_address(alloc, text, "via", gateway)?;
     push_via(alloc, text, via)
@@ -133,8 +132,7 @@ pub(crate) fn push_next(
 /// Appends the gateway of another family: the name of the family and the address.
 #[tactic(auto, unfolding(netlink_words::specs::Parts::with_part))]
 fn push_via(alloc: Global, text: &mut String, bytes: &[u8]) -> Result<(), AllocError>
-    ensures { OnOk result
-        (string_bytes text.new ≡ with_part (string_bytes text.old) (via_part bytes.now)) }
+    ensures { OnOk result (AddsPart text.old text.new (via_part bytes.now)) }
 {
     match bytes {
         [low, _, address @ ..] => {

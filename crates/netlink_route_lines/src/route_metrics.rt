@@ -7,7 +7,7 @@ ghost use Rattle.netlink_family.specs.Shapes.{has_type};
 ghost use Rattle.netlink_family.specs.Strings.{until_nul};
 ghost use Rattle.netlink_packet_core.specs.Numbers.{number_le};
 ghost use Rattle.netlink_route.specs.declared.routes.TheConstants.{RTA_METRICS, RTAX_CC_ALGO};
-ghost use Rattle.netlink_words.specs.Parts.{with_part};
+ghost use Rattle.netlink_words.specs.Parts.{AddsPart};
 ghost use Rattle.netlink_route_lines.specs.RouteMetrics.{IsMetrics, control_part, decimals, ecn_word, feature_text, has_lock, is_locked, lock_word, metric_kinds, metric_name, metric_of, metric_or_lock, metric_part, metric_value, metrics_text, nest_text, time_text};
 
 use netlink_family::{BlockIndex, MessageIndex, Table};
@@ -31,10 +31,10 @@ pub(crate) fn push_metrics(
     text: &mut String,
     route: &MessageIndex<'_, Routes>,
 ) -> Result<(), AllocError>
-    ensures { OnOk result (string_bytes text.new ≡ with_part (string_bytes text.old)
-        (metrics_text (first_at 12 route.now.message.payload.now RTA_METRICS))) }
+    ensures { OnOk result
+        (AddsPart text.old text.new (metrics_text (first_at 12 route.now.message.payload.now RTA_METRICS))) }
 {
-    match route.view().nest(RTA_METRICS) {
+    match route.index().nest(RTA_METRICS) {
         None => Ok(()),
         Some(metrics) => push_part(text, nest_text(alloc, &metrics.indexed())?.as_str()),
     }

@@ -1,7 +1,7 @@
 //! The names of the numbers in routes.
 
 ghost use Rattle.std.specs.Prelude.{◌≡◌, IfOk, OnOk, string_bytes};
-ghost use Rattle.netlink_words.specs.Parts.{with_part};
+ghost use Rattle.netlink_words.specs.Parts.{AddsPart};
 ghost use Rattle.netlink_route_lines.specs.RouteNames.{hop_flag_name, hop_flags_text, preference_text, with_hop_flag};
 
 use netlink_words::parts::push_part;
@@ -30,8 +30,7 @@ pub(crate) fn push_preference(
     text: &mut String,
     preference: u8,
 ) -> Result<(), AllocError>
-    ensures { OnOk result
-        (string_bytes text.new ≡ with_part (string_bytes text.old) (preference_text preference)) }
+    ensures { OnOk result (AddsPart text.old text.new (preference_text preference)) }
 {
     let name = match preference {
         0 => "pref medium",
@@ -57,8 +56,7 @@ fn hop_flags_text(alloc: Global, flags: u32) -> Result<String, AllocError>
 /// Appends these names as a part of a line.
 #[tactic(auto, unfolding(crate::specs::RouteNames::hop_flags_text, netlink_words::specs::Parts::with_part))]
 pub(crate) fn push_hop_flags(alloc: Global, text: &mut String, flags: u32) -> Result<(), AllocError>
-    ensures { OnOk result
-        (string_bytes text.new ≡ with_part (string_bytes text.old) (hop_flags_text flags)) }
+    ensures { OnOk result (AddsPart text.old text.new (hop_flags_text flags)) }
 {
     if flags == 0 {
         return Ok(());

@@ -3,7 +3,7 @@
 ghost use Rattle.std.specs.Prelude.{◌≡◌, [], IfOk, OnOk, string_bytes};
 ghost use Rattle.std.specs.Option.{option_copied, option_map};
 ghost use Rattle.netlink_route.specs.declared.rules.TheConstants.{FRA_IIFNAME, FRA_OIFNAME};
-ghost use Rattle.netlink_words.specs.Parts.{with_part, with_parts};
+ghost use Rattle.netlink_words.specs.Parts.{AddsPart, AddsParts, with_parts};
 ghost use Rattle.netlink_route_lines.specs.Rule.{destination_part, iif_part, ip_protocol_part, is_set, mark_part, oif_part, rule_front, rule_heading, rule_line, rule_links, rule_marks, rule_name, rule_parts, rule_ranges, rule_where, source_part, tunnel_part, word_or_all};
 ghost use Rattle.netlink_route_lines.specs.RuleParts.{rule_byte};
 
@@ -68,8 +68,8 @@ fn push_front(
     text: &mut String,
     rule: &MessageView<'_, Rules>,
 ) -> Result<(), AllocError>
-    ensures { OnOk result (string_bytes text.new ≡ with_parts (string_bytes text.old)
-        (rule_front rule.now.message_type rule.now.payload.now)) }
+    ensures { OnOk result
+        (AddsParts text.old text.new (rule_front rule.now.message_type rule.now.payload.now)) }
 {
     push_heading(alloc, text, rule)?;
     push_source(alloc, text, rule)?;
@@ -84,8 +84,8 @@ fn push_heading(
     text: &mut String,
     rule: &MessageView<'_, Rules>,
 ) -> Result<(), AllocError>
-    ensures { OnOk result (string_bytes text.new ≡ with_parts (string_bytes text.old)
-        (rule_heading rule.now.message_type rule.now.payload.now)) }
+    ensures { OnOk result
+        (AddsParts text.old text.new (rule_heading rule.now.message_type rule.now.payload.now)) }
 {
     push_when(text, rule.message_type == RTM_DELRULE, "Deleted")?;
     let priority = or_zero(rule.view().u32(FRA_PRIORITY));
@@ -101,8 +101,7 @@ fn push_source(
     text: &mut String,
     rule: &MessageView<'_, Rules>,
 ) -> Result<(), AllocError>
-    ensures { OnOk result (string_bytes text.new
-        ≡ with_part (string_bytes text.old) (source_part rule.now.payload.now)) }
+    ensures { OnOk result (AddsPart text.old text.new (source_part rule.now.payload.now)) }
 {
     let whole = host_length(rule.header().u8(FRH_FAMILY));
     let length = rule.header().u8(FRH_SRC_LEN);
@@ -117,8 +116,7 @@ fn push_destination(
     text: &mut String,
     rule: &MessageView<'_, Rules>,
 ) -> Result<(), AllocError>
-    ensures { OnOk result (string_bytes text.new
-        ≡ with_part (string_bytes text.old) (destination_part rule.now.payload.now)) }
+    ensures { OnOk result (AddsPart text.old text.new (destination_part rule.now.payload.now)) }
 {
     let whole = host_length(rule.header().u8(FRH_FAMILY));
     let length = destination_length(rule);
@@ -140,8 +138,7 @@ fn push_marks(
     text: &mut String,
     rule: &MessageView<'_, Rules>,
 ) -> Result<(), AllocError>
-    ensures { OnOk result (string_bytes text.new
-        ≡ with_parts (string_bytes text.old) (rule_marks rule.now.payload.now)) }
+    ensures { OnOk result (AddsParts text.old text.new (rule_marks rule.now.payload.now)) }
 {
     push_tos(alloc, text, rule.header().u8(FRH_TOS))?;
     let mask = rule.view().u32(FRA_FWMASK);
@@ -167,8 +164,7 @@ fn push_mark(
     mark: Option<u32>,
     mask: Option<u32>,
 ) -> Result<(), AllocError>
-    ensures { OnOk result
-        (string_bytes text.new ≡ with_part (string_bytes text.old) (mark_part mark mask)) }
+    ensures { OnOk result (AddsPart text.old text.new (mark_part mark mask)) }
 {
     if mark.is_none() && mask.is_none() {
         return Ok(());
@@ -193,8 +189,7 @@ fn push_where(
     text: &mut String,
     rule: &MessageView<'_, Rules>,
 ) -> Result<(), AllocError>
-    ensures { OnOk result (string_bytes text.new
-        ≡ with_parts (string_bytes text.old) (rule_where rule.now.payload.now)) }
+    ensures { OnOk result (AddsParts text.old text.new (rule_where rule.now.payload.now)) }
 {
     push_links(alloc, text, rule)?;
     push_ranges(alloc, text, rule)?;
@@ -208,8 +203,7 @@ fn push_links(
     text: &mut String,
     rule: &MessageView<'_, Rules>,
 ) -> Result<(), AllocError>
-    ensures { OnOk result (string_bytes text.new
-        ≡ with_parts (string_bytes text.old) (rule_links rule.now.payload.now)) }
+    ensures { OnOk result (AddsParts text.old text.new (rule_links rule.now.payload.now)) }
 {
     push_iif(alloc, text, rule)?;
     push_oif(alloc, text, rule)?;
@@ -224,8 +218,7 @@ fn push_iif(
     text: &mut String,
     rule: &MessageView<'_, Rules>,
 ) -> Result<(), AllocError>
-    ensures { OnOk result (string_bytes text.new
-        ≡ with_part (string_bytes text.old) (iif_part rule.now.payload.now)) }
+    ensures { OnOk result (AddsPart text.old text.new (iif_part rule.now.payload.now)) }
 {
     let is_gone = rule.header().u32(FRH_FLAGS) & FIB_RULE_IIF_DETACHED != 0;
     push_link(alloc, text, "iif", iif_of(rule), is_gone)
@@ -238,8 +231,7 @@ fn push_oif(
     text: &mut String,
     rule: &MessageView<'_, Rules>,
 ) -> Result<(), AllocError>
-    ensures { OnOk result (string_bytes text.new
-        ≡ with_part (string_bytes text.old) (oif_part rule.now.payload.now)) }
+    ensures { OnOk result (AddsPart text.old text.new (oif_part rule.now.payload.now)) }
 {
     let is_gone = rule.header().u32(FRH_FLAGS) & FIB_RULE_OIF_DETACHED != 0;
     push_link(alloc, text, "oif", oif_of(rule), is_gone)
@@ -278,8 +270,7 @@ fn push_ranges(
     text: &mut String,
     rule: &MessageView<'_, Rules>,
 ) -> Result<(), AllocError>
-    ensures { OnOk result (string_bytes text.new
-        ≡ with_parts (string_bytes text.old) (rule_ranges rule.now.payload.now)) }
+    ensures { OnOk result (AddsParts text.old text.new (rule_ranges rule.now.payload.now)) }
 {
     push_users(alloc, text, or_empty(rule.view().bytes(FRA_UID_RANGE)))?;
     push_ip_protocol(alloc, text, rule.view().u8(FRA_IP_PROTO))?;
@@ -292,8 +283,7 @@ fn push_ranges(
 /// Appends the number of an IP protocol, whose names are not built into `ip`.
 #[tactic(auto, unfolding(crate::specs::Rule::ip_protocol_part, netlink_words::specs::Parts::with_part))]
 fn push_ip_protocol(alloc: Global, text: &mut String, number: Option<u8>) -> Result<(), AllocError>
-    ensures { OnOk result
-        (string_bytes text.new ≡ with_part (string_bytes text.old) (ip_protocol_part number)) }
+    ensures { OnOk result (AddsPart text.old text.new (ip_protocol_part number)) }
 {
     match number {
         Some(number) => push_part(
@@ -307,8 +297,7 @@ fn push_ip_protocol(alloc: Global, text: &mut String, number: Option<u8>) -> Res
 /// Appends the id of a tunnel.
 #[tactic(auto, unfolding(crate::specs::Rule::tunnel_part, netlink_words::specs::Parts::with_part))]
 fn push_tunnel(alloc: Global, text: &mut String, id: Option<u64>) -> Result<(), AllocError>
-    ensures { OnOk result
-        (string_bytes text.new ≡ with_part (string_bytes text.old) (tunnel_part id)) }
+    ensures { OnOk result (AddsPart text.old text.new (tunnel_part id)) }
 {
     match id {
         Some(id) => push_part(text, format!(in alloc; "tun_id {id}")?.as_str()),

@@ -2,7 +2,7 @@
 
 ghost use Rattle.std.specs.Prelude.{◌≡◌, IfOk, OnOk, string_bytes};
 ghost use Rattle.netlink_packet_core.specs.Numbers.{signed};
-ghost use Rattle.netlink_words.specs.Parts.{with_part, with_parts};
+ghost use Rattle.netlink_words.specs.Parts.{AddsPart, AddsParts};
 ghost use Rattle.netlink_route_lines.specs.RuleParts.{action_part, action_text, goto_part, group_part, group_text, installer_part, lookup_parts, rule_table, suppressed_part, table_parts};
 
 use netlink_family::MessageView;
@@ -24,8 +24,7 @@ pub(crate) fn push_lookup(
     text: &mut String,
     rule: &MessageView<'_, Rules>,
 ) -> Result<(), AllocError>
-    ensures { OnOk result (string_bytes text.new
-        ≡ with_parts (string_bytes text.old) (lookup_parts rule.now.payload.now)) }
+    ensures { OnOk result (AddsParts text.old text.new (lookup_parts rule.now.payload.now)) }
 {
     let table = table_of(rule);
     if table != 0 {
@@ -42,8 +41,7 @@ fn push_lookup_table(
     table: u32,
     rule: &MessageView<'_, Rules>,
 ) -> Result<(), AllocError>
-    ensures { OnOk result (string_bytes text.new
-        ≡ with_parts (string_bytes text.old) (table_parts table rule.now.payload.now)) }
+    ensures { OnOk result (AddsParts text.old text.new (table_parts table rule.now.payload.now)) }
 {
     push_key(text, "lookup")?;
     push_table(text, table)?;
@@ -65,8 +63,7 @@ fn table_of(rule: &MessageView<'_, Rules>) -> u32
 /// Appends the length of the prefixes that are not used; -1 is none.
 #[tactic(auto, unfolding(crate::specs::RuleParts::suppressed_part, netlink_words::specs::Parts::with_part))]
 fn push_suppressed(alloc: Global, text: &mut String, size: Option<u32>) -> Result<(), AllocError>
-    ensures { OnOk result
-        (string_bytes text.new ≡ with_part (string_bytes text.old) (suppressed_part size)) }
+    ensures { OnOk result (AddsPart text.old text.new (suppressed_part size)) }
 {
     match size {
         None => Ok(()),
@@ -86,8 +83,7 @@ fn push_suppressed(alloc: Global, text: &mut String, size: Option<u32>) -> Resul
 /// Appends the group of links whose routes are not used.
 #[tactic(auto, unfolding(crate::specs::RuleParts::group_part, netlink_words::specs::Parts::with_part))]
 fn push_group(alloc: Global, text: &mut String, group: Option<u32>) -> Result<(), AllocError>
-    ensures { OnOk result
-        (string_bytes text.new ≡ with_part (string_bytes text.old) (group_part group)) }
+    ensures { OnOk result (AddsPart text.old text.new (group_part group)) }
 {
     match group {
         None => Ok(()),
@@ -125,8 +121,7 @@ pub(crate) fn push_action(
     text: &mut String,
     rule: &MessageView<'_, Rules>,
 ) -> Result<(), AllocError>
-    ensures { OnOk result (string_bytes text.new
-        ≡ with_part (string_bytes text.old) (action_part rule.now.payload.now)) }
+    ensures { OnOk result (AddsPart text.old text.new (action_part rule.now.payload.now)) }
 {
     let action = rule.header().u8(FRH_ACTION);
     if action == 2 {
@@ -157,8 +152,7 @@ fn push_goto(
     flags: u32,
     target: Option<u32>,
 ) -> Result<(), AllocError>
-    ensures { OnOk result
-        (string_bytes text.new ≡ with_part (string_bytes text.old) (goto_part flags target)) }
+    ensures { OnOk result (AddsPart text.old text.new (goto_part flags target)) }
 {
     let lost = if flags & FIB_RULE_UNRESOLVED != 0 {
         " [unresolved]"
@@ -174,8 +168,7 @@ fn push_goto(
 /// Appends who installed a rule, unless that is nobody or the kernel.
 #[tactic(auto, using(netlink_words::specs::Pieces::protocol_more), unfolding(crate::specs::RuleParts::installer_part, netlink_words::specs::Parts::with_part))]
 pub(crate) fn push_installer(text: &mut String, protocol: Option<u8>) -> Result<(), AllocError>
-    ensures { OnOk result
-        (string_bytes text.new ≡ with_part (string_bytes text.old) (installer_part protocol)) }
+    ensures { OnOk result (AddsPart text.old text.new (installer_part protocol)) }
 {
     match protocol {
         None => Ok(()),

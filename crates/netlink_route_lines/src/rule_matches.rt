@@ -1,8 +1,8 @@
 //! Links, users and ports that a rule matches.
 
-ghost use Rattle.std.specs.Prelude.{◌≡◌, OnOk, string_bytes};
+ghost use Rattle.std.specs.Prelude.{OnOk};
 ghost use Rattle.std.specs.Option.{option_copied};
-ghost use Rattle.netlink_words.specs.Parts.{with_part};
+ghost use Rattle.netlink_words.specs.Parts.{AddsPart};
 ghost use Rattle.netlink_route_lines.specs.RuleParts.{link_part, ports_part, users_part};
 
 use netlink_packet_core::{u16_at, u32_at};
@@ -19,8 +19,8 @@ pub(crate) fn push_link(
     name: Option<&[u8]>,
     is_gone: bool,
 ) -> Result<(), AllocError>
-    ensures { OnOk result (string_bytes text.new ≡ with_part (string_bytes text.old)
-        (link_part key.now (option_copied name.entry) is_gone)) }
+    ensures { OnOk result
+        (AddsPart text.old text.new (link_part key.now (option_copied name.entry) is_gone)) }
 {
     match name {
         None => Ok(()),
@@ -35,8 +35,7 @@ pub(crate) fn push_link(
 /// Appends the first and the last user of a range, of 8 bytes or none.
 #[tactic(auto, unfolding(crate::specs::RuleParts::users_part, netlink_words::specs::Parts::with_part))]
 pub(crate) fn push_users(alloc: Global, text: &mut String, range: &[u8]) -> Result<(), AllocError>
-    ensures { OnOk result
-        (string_bytes text.new ≡ with_part (string_bytes text.old) (users_part range.now)) }
+    ensures { OnOk result (AddsPart text.old text.new (users_part range.now)) }
 {
     if range.len() < 8 {
         return Ok(());
@@ -55,8 +54,7 @@ pub(crate) fn push_ports(
     key: &str,
     range: &[u8],
 ) -> Result<(), AllocError>
-    ensures { OnOk result
-        (string_bytes text.new ≡ with_part (string_bytes text.old) (ports_part key.now range.now)) }
+    ensures { OnOk result (AddsPart text.old text.new (ports_part key.now range.now)) }
 {
     if range.len() < 4 {
         return Ok(());

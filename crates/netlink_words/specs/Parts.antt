@@ -1,5 +1,5 @@
 -- Parts of a line, with one space between them.
-use Rattle.std.specs.Prelude.{ℕ, ◌==◌, ◌/◌, ◌%◌, false, Bool, List, [], ◌∷◌, ◌++◌, Option, Some, None, codes, decimal, if◌then◌else◌}
+use Rattle.std.specs.Prelude.{ℕ, ◌==◌, ◌≡◌, ◌/◌, ◌%◌, false, Bool, List, [], ◌∷◌, ◌++◌, Option, Some, None, String, codes, decimal, if◌then◌else◌, string_bytes}
 use Rattle.std.specs.Fmt.{digits}
 use Rattle.std.specs.List.{fold}
 use Rattle.netlink_packet_core.specs.Text.{hex_pair}
@@ -13,6 +13,13 @@ with_part text (b ∷ part) = separated (codes " ") text (b ∷ part)
 -- a text, followed by parts
 abbrev pub with_parts : List ℕ → List (List ℕ) → List ℕ
 with_parts text parts = fold with_part text parts
+
+-- a `String` has its old text and then a part, or parts
+abbrev pub AddsPart : {Z : Type 0} → String Z → String Z → List ℕ → Type 0
+AddsPart old new part = string_bytes new ≡ with_part (string_bytes old) part
+
+abbrev pub AddsParts : {Z : Type 0} → String Z → String Z → List (List ℕ) → Type 0
+AddsParts old new parts = string_bytes new ≡ with_parts (string_bytes old) parts
 
 -- a part that is there if a condition holds
 unfoldable pub when : Bool → List ℕ → List ℕ

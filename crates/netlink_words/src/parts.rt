@@ -2,7 +2,7 @@
 
 ghost use Rattle.std.specs.Prelude.{◌≡◌, ◌++◌, [], IfOk, OnOk, codes, string_bytes};
 ghost use Rattle.std.specs.Option.{option_copied};
-ghost use Rattle.netlink_words.specs.Parts.{hex_part, host_length, keyed, number_part, or_empty, or_zero, prefix_end, prefix_of, prefix_text, realm_text, realms_part, string_part, tos_part, when, with_part, words_part};
+ghost use Rattle.netlink_words.specs.Parts.{AddsPart, hex_part, host_length, keyed, number_part, or_empty, or_zero, prefix_end, prefix_of, prefix_text, realm_text, realms_part, string_part, tos_part, when, words_part};
 ghost use Rattle.netlink_words.specs.Text.{bytes_text, ip_words, name_text, sentence_text, separated};
 
 use crate::digits::push_decimal;
@@ -13,7 +13,7 @@ use std::alloc::{AllocError, Global};
 /// Appends a part, after a space if the text is not empty. An empty part changes nothing.
 #[tactic(auto, unfolding(crate::specs::Parts::with_part))]
 pub fn push_part(text: &mut String, part: &str) -> Result<(), AllocError>
-    ensures { OnOk result (string_bytes text.new ≡ with_part (string_bytes text.old) part.now) }
+    ensures { OnOk result (AddsPart text.old text.new part.now) }
 {
     if part.is_empty() {
         return Ok(());
@@ -35,8 +35,7 @@ pub fn push_space(text: &mut String) -> Result<(), AllocError>
 /// Appends a part if the condition holds.
 #[tactic(auto, unfolding(crate::specs::Parts::when, crate::specs::Parts::with_part))]
 pub fn push_when(text: &mut String, holds: bool, part: &str) -> Result<(), AllocError>
-    ensures { OnOk result
-        (string_bytes text.new ≡ with_part (string_bytes text.old) (when holds part.now)) }
+    ensures { OnOk result (AddsPart text.old text.new (when holds part.now)) }
 {
     if !holds {
         return Ok(());
@@ -56,8 +55,7 @@ pub fn push_key(text: &mut String, key: &str) -> Result<(), AllocError>
 /// Appends a key and a word, unless the word is empty.
 #[tactic(auto, using(crate::specs::Pieces::keyed_more), unfolding(crate::specs::Parts::keyed, crate::specs::Parts::with_part))]
 pub fn push_keyed(text: &mut String, key: &str, word: &str) -> Result<(), AllocError>
-    ensures { OnOk result
-        (string_bytes text.new ≡ with_part (string_bytes text.old) (keyed key.now word.now)) }
+    ensures { OnOk result (AddsPart text.old text.new (keyed key.now word.now)) }
 {
     if word.is_empty() {
         return Ok(());
@@ -69,8 +67,7 @@ pub fn push_keyed(text: &mut String, key: &str, word: &str) -> Result<(), AllocE
 /// Appends a key and a number, if there is one.
 #[tactic(auto, using(crate::specs::Pieces::key_more), unfolding(crate::specs::Parts::number_part, crate::specs::Parts::with_part))]
 pub fn push_number(text: &mut String, key: &str, number: Option<u32>) -> Result<(), AllocError>
-    ensures { OnOk result
-        (string_bytes text.new ≡ with_part (string_bytes text.old) (number_part key.now number)) }
+    ensures { OnOk result (AddsPart text.old text.new (number_part key.now number)) }
 {
     match number {
         Some(number) => {
@@ -84,8 +81,7 @@ pub fn push_number(text: &mut String, key: &str, number: Option<u32>) -> Result<
 /// Appends a key and a name, unless the name is empty.
 #[tactic(auto, using(crate::specs::Pieces::name_more), unfolding(crate::specs::Parts::keyed, crate::specs::Parts::with_part, crate::specs::Text::printable_text))]
 pub fn push_named(text: &mut String, key: &str, name: &[u8]) -> Result<(), AllocError>
-    ensures { OnOk result
-        (string_bytes text.new ≡ with_part (string_bytes text.old) (keyed key.now (name_text name.now))) }
+    ensures { OnOk result (AddsPart text.old text.new (keyed key.now (name_text name.now))) }
 {
     if name.is_empty() {
         return Ok(());
@@ -97,8 +93,7 @@ pub fn push_named(text: &mut String, key: &str, name: &[u8]) -> Result<(), Alloc
 /// Appends a key and a name, if there is one that is not empty.
 #[tactic(auto, unfolding(crate::specs::Parts::string_part, crate::specs::Parts::with_part))]
 pub fn push_string(text: &mut String, key: &str, name: Option<&[u8]>) -> Result<(), AllocError>
-    ensures { OnOk result (string_bytes text.new
-        ≡ with_part (string_bytes text.old) (string_part key.now (option_copied name.entry))) }
+    ensures { OnOk result (AddsPart text.old text.new (string_part key.now (option_copied name.entry))) }
 {
     match name {
         Some(name) => push_named(text, key, name),
@@ -109,8 +104,7 @@ pub fn push_string(text: &mut String, key: &str, name: Option<&[u8]>) -> Result<
 /// Appends a key and a sentence, unless the sentence is empty.
 #[tactic(auto, using(crate::specs::Pieces::sentence_more), unfolding(crate::specs::Parts::keyed, crate::specs::Parts::with_part, crate::specs::Text::printable_text))]
 fn push_said(text: &mut String, key: &str, words: &[u8]) -> Result<(), AllocError>
-    ensures { OnOk result (string_bytes text.new
-        ≡ with_part (string_bytes text.old) (keyed key.now (sentence_text words.now))) }
+    ensures { OnOk result (AddsPart text.old text.new (keyed key.now (sentence_text words.now))) }
 {
     if words.is_empty() {
         return Ok(());
@@ -122,8 +116,7 @@ fn push_said(text: &mut String, key: &str, words: &[u8]) -> Result<(), AllocErro
 /// Appends a key and a sentence, if there is one that is not empty.
 #[tactic(auto, unfolding(crate::specs::Parts::words_part, crate::specs::Parts::with_part))]
 pub fn push_words(text: &mut String, key: &str, words: Option<&[u8]>) -> Result<(), AllocError>
-    ensures { OnOk result (string_bytes text.new
-        ≡ with_part (string_bytes text.old) (words_part key.now (option_copied words.entry))) }
+    ensures { OnOk result (AddsPart text.old text.new (words_part key.now (option_copied words.entry))) }
 {
     match words {
         Some(words) => push_said(text, key, words),
@@ -139,8 +132,7 @@ pub fn push_address(
     key: &str,
     ip: &[u8],
 ) -> Result<(), AllocError>
-    ensures { OnOk result
-        (string_bytes text.new ≡ with_part (string_bytes text.old) (keyed key.now (ip_words ip.now))) }
+    ensures { OnOk result (AddsPart text.old text.new (keyed key.now (ip_words ip.now))) }
 {
     if ip.is_empty() {
         return Ok(());
@@ -192,8 +184,7 @@ fn prefix_of(alloc: Global, ip: String, length: u8, whole: u8) -> Result<String,
 /// Appends an IP address, unless it has neither 4 nor 16 bytes.
 #[tactic(auto, using(crate::specs::Pieces::four_part))]
 pub fn push_ip(alloc: Global, text: &mut String, address: &[u8]) -> Result<(), AllocError>
-    ensures { OnOk result
-        (string_bytes text.new ≡ with_part (string_bytes text.old) (ip_words address.now)) }
+    ensures { OnOk result (AddsPart text.old text.new (ip_words address.now)) }
 {
     if address.len() == 4 {
         push_space(text)?;
@@ -205,8 +196,7 @@ pub fn push_ip(alloc: Global, text: &mut String, address: &[u8]) -> Result<(), A
 /// Appends a key and bytes in hexadecimal, unless there are none.
 #[tactic(auto, using(crate::specs::Pieces::bytes_more))]
 pub fn push_hardware(text: &mut String, key: &str, bytes: &[u8]) -> Result<(), AllocError>
-    ensures { OnOk result (string_bytes text.new
-        ≡ with_part (string_bytes text.old) (keyed key.now (bytes_text bytes.now))) }
+    ensures { OnOk result (AddsPart text.old text.new (keyed key.now (bytes_text bytes.now))) }
 {
     if bytes.is_empty() {
         return Ok(());
@@ -241,7 +231,7 @@ pub fn host_length(family: u8) -> u8
 /// Appends a type of service other than 0.
 #[tactic(auto, unfolding(crate::specs::Parts::tos_part, crate::specs::Parts::with_part))]
 pub fn push_tos(alloc: Global, text: &mut String, tos: u8) -> Result<(), AllocError>
-    ensures { OnOk result (string_bytes text.new ≡ with_part (string_bytes text.old) (tos_part tos)) }
+    ensures { OnOk result (AddsPart text.old text.new (tos_part tos)) }
 {
     if tos == 0 {
         return Ok(());
@@ -271,8 +261,7 @@ pub fn push_realms(
     two: &str,
     flow: Option<u32>,
 ) -> Result<(), AllocError>
-    ensures { OnOk result
-        (string_bytes text.new ≡ with_part (string_bytes text.old) (realms_part one.now two.now flow)) }
+    ensures { OnOk result (AddsPart text.old text.new (realms_part one.now two.now flow)) }
 {
     match flow {
         None => Ok(()),

@@ -25,8 +25,8 @@ const TABLE: [u8; 32] = [
 ];
 
 /// Returns whether each getter of a kind returns what that of the view returns.
-fn is_same<F: Table>(index: &MessageIndex<'_, F>, kind: u16) -> bool {
-    let (found, view) = (index.view(), index.message.view());
+fn is_same<F: Table>(indexed: &MessageIndex<'_, F>, kind: u16) -> bool {
+    let (found, view) = (indexed.index(), indexed.message.view());
     found.first(kind) == view.first(kind)
         && found.u8(kind) == view.u8(kind)
         && found.u16(kind) == view.u16(kind)
@@ -43,19 +43,19 @@ fn is_same<F: Table>(index: &MessageIndex<'_, F>, kind: u16) -> bool {
 #[test]
 fn places_find_what_a_walk_finds(rt: HostRuntime) -> Result<(), Fail> {
     let message = MessageView::<Neighbours>::new(RTM_NEWNEIGH, &NEIGHBOUR)?;
-    let index = message.indexed();
+    let indexed = message.indexed();
     for kind in 0..80 {
-        assert!(rt; is_same(&index, kind));
+        assert!(rt; is_same(&indexed, kind));
     }
-    assert!(rt; index.view().u32(NDA_PROBES) == Some(5));
-    assert!(rt; index.view().first(64) == Some([1].as_slice()));
-    assert!(rt; index.header().bytes.len() == 12);
+    assert!(rt; indexed.index().u32(NDA_PROBES) == Some(5));
+    assert!(rt; indexed.index().first(64) == Some([1].as_slice()));
+    assert!(rt; indexed.header().bytes.len() == 12);
     let message = MessageView::<NeighbourTables>::new(64, &TABLE)?;
-    let index = message.indexed();
+    let indexed = message.indexed();
     for kind in 0..80 {
-        assert!(rt; is_same(&index, kind));
+        assert!(rt; is_same(&indexed, kind));
     }
-    assert!(rt; index.view().nest(NDTA_PARMS).is_some());
+    assert!(rt; indexed.index().nest(NDTA_PARMS).is_some());
     Ok(())
 }
 
@@ -70,12 +70,12 @@ fn attributes_too_far_for_a_place_are_found(rt: HostRuntime) -> Result<(), Fail>
     }
     payload.extend_from_slice(&NEIGHBOUR[12..])?;
     let message = MessageView::<Neighbours>::new(RTM_NEWNEIGH, payload.as_slice())?;
-    let index = message.indexed();
-    assert!(rt; index.view().rest.len() == 64);
+    let indexed = message.indexed();
+    assert!(rt; indexed.index().rest.len() == 64);
     for kind in 0..120 {
-        assert!(rt; is_same(&index, kind));
+        assert!(rt; is_same(&indexed, kind));
     }
-    assert!(rt; index.view().u32(NDA_PROBES) == Some(5));
-    assert!(rt; index.view().u16(NDA_VLAN) == Some(9));
+    assert!(rt; indexed.index().u32(NDA_PROBES) == Some(5));
+    assert!(rt; indexed.index().u16(NDA_VLAN) == Some(9));
     Ok(())
 }

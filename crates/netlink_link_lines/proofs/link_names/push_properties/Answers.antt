@@ -2,7 +2,7 @@ use Rattle.std.proofs.Common.{arith, ◌≡◌, ◌∙◌, ap, string_bytes, sym
 use Rattle.std.proofs.lemmas.Grind.{common_steps}
 use Rattle.std.specs.List.{fold}
 use Rattle.netlink_packet_core.specs.Steps.{unread}
-use Rattle.netlink_shapes.specs.ListingLaws.{before_nothing}
+use Rattle.netlink_family.specs.ListingLaws.{before_nothing}
 use Rattle.netlink_family.specs.Values.{value_shape}
 use Rattle.netlink_family.specs.declared.shape.Shape.TheVariants as shape
 use Rattle.netlink_route.specs.declared.links.TheConstants.{IFLA_ALT_IFNAME}
