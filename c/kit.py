@@ -8,7 +8,7 @@ import sys
 
 HERE = os.path.dirname(os.path.abspath(__file__))
 OUT = os.path.join(HERE, "out")
-sys.path.append(os.path.join(os.path.dirname(HERE), "tests"))
+sys.path.append(os.path.join(os.path.dirname(HERE), "tests", "lib"))
 
 from libraries import TOP  # noqa: E402 (it is in that folder)
 from toolchain import compiler  # noqa: E402

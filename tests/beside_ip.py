@@ -24,8 +24,10 @@ import tempfile
 from collections import Counter
 from itertools import zip_longest
 
-from built import TOP, built, run
-from ip_lines import ADDRESSES, FOLDER, LINKS, escaped, items, with_kind
+sys.path.insert(0, os.path.join(sys.path[0], "lib"))
+
+from built import TOP, built, run  # noqa: E402 (it is in that folder)
+from ip_lines import ADDRESSES, FOLDER, LINKS, escaped, items, with_kind  # noqa: E402
 
 sys.path.append(FOLDER)
 from compare import is_printed, kind_of, monitored, spaced  # noqa: E402

@@ -14,7 +14,7 @@ import subprocess
 import sys
 import tempfile
 
-sys.path.insert(0, os.path.join(os.path.dirname(os.path.abspath(__file__)), ".."))
+sys.path.insert(0, os.path.join(sys.path[0], "..", "lib"))
 
 from built import TOP, built, in_parallel, run, tally
 from pcap_rows import header, packet

@@ -1,4 +1,4 @@
-//! Frames that a kernel sent and received: `tests/captured.py` passes the frames and the datagrams
+//! Frames that a kernel sent and received: `tests/steps/captured.py` passes the frames and the datagrams
 //! of `examples/captured` to these tests on standard input, and checks what they write.
 
 use netlink_generic::{ControllerMessage, family_groups, family_id, family_named};

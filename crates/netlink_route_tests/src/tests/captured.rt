@@ -1,5 +1,5 @@
-//! Frames on standard input. `tests/captured.py` passes each frame of `examples/captured` to these
-//! tests, and `tests/kinds.py` frames that it makes of `tests/kinds.txt`. They check what is written.
+//! Frames on standard input. `tests/steps/captured.py` passes each frame of `examples/captured` to these
+//! tests, and `tests/steps/kinds.py` frames that it makes of `tests/kinds.txt`. They check what is written.
 
 use netlink_packet_core::{NetlinkMessage, NetlinkPayload, normalize};
 use netlink_route::RouteMessage;

@@ -1,4 +1,4 @@
-//! Long messages on standard input. `tests/growth.py` counts the instructions that these tests take.
+//! Long messages on standard input. `tests/steps/growth.py` counts the instructions that these tests take.
 
 use netlink_family::{CheckedAttributes, Joined, MessageView, OwnedMessage};
 use netlink_packet_core::NetlinkBuffer;

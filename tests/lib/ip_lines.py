@@ -1,0 +1,99 @@
+"""Compares the lines of the built program `netlink_show` with those of `ip`, for the frames of examples/captured/ip.
+
+README.md of that folder states how the frames and the lines were made. tests/steps/show.py calls `ip_errors`.
+"""
+
+import os
+import re
+
+from built import TOP, run
+
+FOLDER = os.path.join(TOP, "examples", "captured", "ip")
+
+LINKS, ADDRESSES = (16, 17), (20, 21)
+IFLA_LINKINFO, IFLA_INFO_KIND = 18, 1
+
+
+def lines_in(name):
+    """Returns the lines of a file. Each byte is a character, since names of links are any bytes."""
+    with open(os.path.join(FOLDER, name), "rb") as file:
+        return file.read().decode("latin-1").split("\n")[:-1]
+
+
+def number(data):
+    return int.from_bytes(data, "little")
+
+
+def items(data, size):
+    """Yields the items of a walk. Each begins with a length field of `size` bytes and is padded to a multiple of 4."""
+    at = 0
+    while at < len(data):
+        length = number(data[at : at + size])
+        yield data[at : at + length]
+        at += (length + 3) & ~3
+
+
+def first(block, kind):
+    """Returns the value of the first attribute of a kind, or nothing."""
+    return next((it[4:] for it in items(block, 2) if number(it[2:4]) & 0x3FFF == kind), b"")
+
+
+def escaped(text):
+    """Returns a text in which each byte that is not printing ASCII, and each backslash, is `\\x` and two digits."""
+    return re.sub(r"[^ -~]|\\", lambda it: f"\\x{ord(it[0]):02x}", text)
+
+
+def with_kind(frame, theirs):
+    """Returns a line of `ip` for a frame as the program prints it. Bytes of names and labels that are not printing
+    ASCII are escaped, and the kind of a link, which `ip` prints only with `-d`, ends the line."""
+    if number(frame[4:6]) in ADDRESSES:
+        return escaped(theirs)
+    if number(frame[4:6]) not in LINKS:
+        return theirs
+    kind = first(first(frame[32:], IFLA_LINKINFO), IFLA_INFO_KIND).split(b"\0")[0].decode("ascii")
+    return escaped(theirs) + (f" kind {kind}" if kind else "")
+
+
+def differences():
+    """Returns the words of `ip` and of the program in each line that may differ, by the number of the line."""
+    found = {}
+    for line in lines_in("differences.tsv"):
+        place, theirs, ours, _reason = line.split("\t")
+        found[int(place)] = theirs, ours
+    return found
+
+
+def wanted_line(theirs, difference):
+    """Returns the line that the program must print. Returns None if `ip` does not print the listed word once."""
+    if not difference:
+        return theirs
+    words = theirs.split(" ")
+    if words.count(difference[0]) != 1:
+        return None
+    return " ".join(difference[1] if word == difference[0] else word for word in words)
+
+
+def line_error(place, theirs, ours, difference):
+    """Returns what is wrong with the program's line for a frame, or None."""
+    if difference and ours == theirs:
+        return f"line {place} of ip: is equal, but listed in differences.tsv"
+    wanted = wanted_line(theirs, difference)
+    return None if ours == wanted else f"line {place} of ip: {ours!r}, not {wanted!r}; ip prints {theirs!r}"
+
+
+def ip_errors(program):
+    """Passes all frames to the program. Returns what is wrong, and the number of frames that have a line of `ip`."""
+    listed = differences()
+    with open(os.path.join(FOLDER, "frames.bin"), "rb") as file:
+        data = file.read()
+    lines, frames = lines_in("lines.txt"), list(items(data, 4))
+    status, output, error = run([program], data)
+    ours = output.decode("latin-1").split("\n")
+    if (status, error, len(ours), ours[-1], len(frames)) != (0, b"", len(lines) + 1, "", len(lines)):
+        what = f"status {status}, error {error}, {len(ours) - 1} lines instead of {len(lines)} for {len(frames)} frames"
+        return [f"the frames of ip: {what}"], len(lines)
+    theirs = [with_kind(frame, line) for frame, line in zip(frames, lines)]
+    errors = [f"differences.tsv lists line {it}, which does not exist" for it in listed if not 0 < it <= len(theirs)]
+    for place, (line, own) in enumerate(zip(theirs, ours), 1):
+        errors.append(line_error(place, line, own, listed.get(place)))
+    return [it for it in errors if it], len(theirs)
