@@ -1,6 +1,7 @@
 """Tests the installed library for c/test: installs it into a folder, moves that, and uses it there from C, C++, CMake,
 Rust and Python. Compares the files that state the version."""
 
+import hashlib
 import os
 import re
 import shutil
@@ -12,13 +13,14 @@ from tally import note, skip
 from wrapper import RUST, cargo, run_dump
 
 WARNINGS = ["-O1", "-Wall", "-Wextra", "-Werror", "-pedantic"]
-TOOLS = ["make", "cc", "ld", "objcopy", "ar", "nm", "realpath"]
+TOOLS = ["make", "cc", "ld", "objcopy", "ar", "nm", "realpath", "tar", "gzip"]
 REQUEST = os.path.join(HERE, "examples", "request.c")
 # The files that state the version, each with the line that does. In the changelog, that is the first numbered heading.
 STATED = {
     "c/include/netlink_packet.h": r'(?m)^#define NLP_VERSION "(.*)"$',
     "rust/Cargo.toml": r'(?m)^version = "(.*)"$',
     "rust/Cargo.lock": r'(?m)^name = "netlink-packet-proved"\nversion = "(.*)"$',
+    "docs/C.md": r"The version is (\S+) \(`NLP_VERSION`\)",
     "CHANGELOG.md": r"(?m)^## (\d\S*) \(\d{4}-\d\d-\d\d\)$",
 }
 
@@ -49,6 +51,31 @@ def installed(folder):
     if made.returncode:
         return None
     return shutil.move(os.path.join(stage, "opt", "netlink"), os.path.join(folder, "moved"))
+
+
+def run_packed(folder):
+    """Tests that the packed library serves a folder without the repository: a program is compiled and run there, with
+    the static library and with the shared one. Packing again makes the same file."""
+    name = f"netlink_packet-{version()}-x86_64-linux"
+    packed = os.path.join(HERE, "out", f"{name}.tar.gz")
+    digests = []
+    for _ in range(2):
+        made = run(["make", "-C", HERE, "dist"])
+        with open(packed, "rb") as file:
+            digests.append(hashlib.sha256(file.read()).hexdigest())
+    note("the library is packed", made.returncode == 0 and digests[0] == digests[1], made.stdout[-1000:] + made.stderr[-1000:])
+    alone = os.path.join(folder, "alone")
+    os.mkdir(alone)
+    shutil.copy(REQUEST, alone)
+    run(["tar", "-C", alone, "-xzf", packed])
+    there = {os.path.relpath(os.path.join(at, it), alone) for at, _, names in os.walk(alone) for it in names}
+    wanted = {"LICENSE", "C.md", "include/netlink_packet.h", "lib/libnetlink_packet.a", "lib/libnetlink_packet.so"}
+    note("what is packed", {f"{name}/{it}" for it in wanted} <= there, f"{sorted(there)}")
+    for way in "lib/libnetlink_packet.a", "lib/libnetlink_packet.so":
+        words = [compiler(), "-std=c11", *WARNINGS, "request.c", "-I", f"{name}/include", f"{name}/{way}", "-o", "request"]
+        made = subprocess.run(words, cwd=alone, capture_output=True, text=True)
+        holds = made.returncode == 0 and is_request([os.path.join(alone, "request")], LD_LIBRARY_PATH=os.path.join(alone, name, "lib"))
+        note(f"a program with the packed {way}", holds, made.stderr)
 
 
 def run_symbols(lib):
@@ -163,3 +190,4 @@ def run_installed(folder):
         run_cmake(prefix, folder)
         run_wrapper(prefix, lib, folder)
         run_python(lib)
+        run_packed(folder)

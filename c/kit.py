@@ -46,8 +46,8 @@ def has_route_socket(socket_of=0):
         return False
 
 
-def lines_of_readme(language):
-    """Returns the first block of this language in README.md, or "" if there is none."""
-    with open(os.path.join(TOP, "README.md")) as file:
+def lines_of(page, language):
+    """Returns the first block of this language in a page, or "" if there is none."""
+    with open(os.path.join(TOP, page)) as file:
         found = re.search(rf"```{language}\n(.*?)```", file.read(), re.DOTALL)
     return found[1] if found else ""

@@ -8,7 +8,7 @@ import socket
 import subprocess
 import tempfile
 
-from kit import HERE, TOP, captured, has_route_socket, lines_of_readme
+from kit import HERE, TOP, captured, has_route_socket, lines_of
 from tally import add, note, skip
 
 RUST = os.path.join(TOP, "rust")
@@ -32,7 +32,7 @@ def run_documentation():
     """Tests that the wrapper's documentation has the block of Rust in README.md, and no warnings."""
     with open(os.path.join(RUST, "src", "lib.rs")) as file:
         documentation = re.sub(r"(?m)^//! ?", "", file.read())
-    lines = lines_of_readme("rust")
+    lines = lines_of("README.md", "rust")
     note("the wrapper's documentation has the block of Rust in README.md", lines != "" and lines in documentation)
     run = cargo("doc", "--no-deps", RUSTDOCFLAGS="-D warnings")
     note("the wrapper's documentation", run.returncode == 0, run.stderr[-2000:])

@@ -33,27 +33,7 @@
  * ignore the result of nlp_get_*, nlp_ext_ack_*, nlp_reply_message, nlp_attrs_find and nlp_attrs_table. The
  * compiler warns if you ignore any other result.
  *
- * If you know libmnl:
- *
- *   mnl_nlmsg_ok, mnl_nlmsg_next         nlp_messages_next, after nlp_messages_begin
- *   nlh->nlmsg_type, nlh->nlmsg_flags    message.header.message_type, message.header.flags
- *   mnl_nlmsg_get_payload                bytes + message.payload.offset, message.payload.size
- *   mnl_attr_parse with a callback       nlp_message_attrs, and nlp_attrs_table over that block
- *   mnl_attr_for_each                    nlp_attrs_next over that block
- *   mnl_attr_parse_nested                nlp_attrs_table over block + attr.offset, attr.size
- *   mnl_attr_for_each_nested             nlp_attrs_next over block + attr.offset, attr.size
- *   mnl_attr_get_type                    attr.kind & NLP_KIND_MASK
- *   mnl_attr_get_payload, _payload_len   block + attr.offset, attr.size
- *   mnl_attr_validate, mnl_attr_get_u32  nlp_get_u32, which checks the size; nlp_attrs_validate for all
- *   mnl_attr_get_str                     nlp_get_str: a part, since the value may lack the final zero
- *   mnl_nlmsg_put_header, _extra_header  nlp_writer_frame, and nlp_writer_frame_end once all is put
- *   mnl_attr_put_u32, .._strz            nlp_writer_put_u32, nlp_writer_put_str, ..: check writer.failed
- *   mnl_attr_put_u32_check, ..           nlp_attr_put_u32, ..: check each result
- *   mnl_attr_nest_start, _end, _cancel   nlp_writer_nest, nlp_writer_nest_end, nlp_writer_nest_cancel
- *   mnl_cb_run                           nlp_replies_next, which also says when the answer is complete
- *   mnl_nlmsg_fprintf                    nlp_describe, which writes into a buffer
- *
- * c/examples has rtnl-link-dump and genl-family-get of libmnl over this header.
+ * docs/C.md is the manual. It has a table for those who know libmnl, and a whole program.
  */
 #ifndef NETLINK_PACKET_H
 #define NETLINK_PACKET_H
@@ -108,7 +88,7 @@ enum {
     NLP_FRAME_TOO_LONG = 15, /* a message's length does not fit in 32 bits */
     NLP_NO_MEMORY = 16,      /* malloc returned NULL */
     NLP_END = 32,            /* a walk is at its end */
-    NLP_TOO_LONG = 33,       /* more than a length field can count */
+    NLP_TOO_LONG = 33,       /* a value above 65531 bytes, a nest above 65535, or a frame of 2^32 or more */
     NLP_NO_PLACE = 34,       /* there is no such location or attribute */
     NLP_WRONG_SIZE = 35,     /* a value has another size, or a payload is shorter than its fixed header */
     NLP_WRONG_SHAPE = 36     /* a value does not have the shape that a policy states */
@@ -523,7 +503,7 @@ uint32_t nlp_nest_begin(uint8_t *buffer, size_t capacity, size_t *cursor, uint16
 
 /* End a nest and a frame: set the length field at `start` to cursor - start. Return NLP_OK; NLP_NO_PLACE
  * unless cursor <= capacity and cursor - start is a multiple of 4 and at least 4 (16 for a frame); or
- * NLP_TOO_LONG. Change no byte outside the length field.
+ * NLP_TOO_LONG if cursor - start is above 65535 (2^32 - 1 for a frame). Change no byte outside the length field.
  * Proved: the bytes at `start` are then an attribute whose value is the bytes from start + 4 to the
  * cursor, or a frame that is the bytes from start to the cursor. */
 uint32_t nlp_nest_end(uint8_t *buffer, size_t capacity, size_t cursor, size_t start) NLP_RESULT;
@@ -607,16 +587,19 @@ uint32_t nlp_describe(const uint8_t *bytes, size_t len, uint8_t *buffer, size_t 
 
 /* The integer in the 2, 4 or 8 bytes of a value, in native byte order. Check attr.size first; these
  * functions do not. */
+NLP_NONNULL(1)
 static inline uint16_t nlp_u16(const uint8_t *value)
 {
     return (uint16_t)(value[0] | value[1] << 8);
 }
 
+NLP_NONNULL(1)
 static inline uint32_t nlp_u32(const uint8_t *value)
 {
     return nlp_u16(value) | (uint32_t)nlp_u16(value + 2) << 16;
 }
 
+NLP_NONNULL(1)
 static inline uint64_t nlp_u64(const uint8_t *value)
 {
     return nlp_u32(value) | (uint64_t)nlp_u32(value + 4) << 32;
@@ -625,6 +608,7 @@ static inline uint64_t nlp_u64(const uint8_t *value)
 /* ---- a fault that may be NULL */
 
 /* NAME_opt does what NAME does. Its fault may be NULL. */
+NLP_NONNULL(3, 4)
 static inline NLP_RESULT uint32_t nlp_message_read_opt(const uint8_t *bytes, size_t len, size_t *cursor,
                                                        struct nlp_message *item, struct nlp_fault *fault)
 {
@@ -632,6 +616,7 @@ static inline NLP_RESULT uint32_t nlp_message_read_opt(const uint8_t *bytes, siz
     return nlp_message_read(bytes, len, cursor, item, fault == NULL ? &own : fault);
 }
 
+NLP_NONNULL(3)
 static inline NLP_RESULT uint32_t nlp_messages_fill_opt(const uint8_t *bytes, size_t len,
                                                         struct nlp_message_batch *batch, struct nlp_fault *fault)
 {
@@ -639,6 +624,7 @@ static inline NLP_RESULT uint32_t nlp_messages_fill_opt(const uint8_t *bytes, si
     return nlp_messages_fill(bytes, len, batch, fault == NULL ? &own : fault);
 }
 
+NLP_NONNULL(3, 4)
 static inline NLP_RESULT uint32_t nlp_attrs_next_opt(const uint8_t *bytes, size_t len, size_t *cursor,
                                                      struct nlp_attr *item, struct nlp_fault *fault)
 {
@@ -646,6 +632,7 @@ static inline NLP_RESULT uint32_t nlp_attrs_next_opt(const uint8_t *bytes, size_
     return nlp_attrs_next(bytes, len, cursor, item, fault == NULL ? &own : fault);
 }
 
+NLP_NONNULL(3, 4)
 static inline NLP_RESULT uint32_t nlp_frames_next_opt(const uint8_t *bytes, size_t len, size_t *cursor,
                                                       struct nlp_part *item, struct nlp_fault *fault)
 {
@@ -653,6 +640,7 @@ static inline NLP_RESULT uint32_t nlp_frames_next_opt(const uint8_t *bytes, size
     return nlp_frames_next(bytes, len, cursor, item, fault == NULL ? &own : fault);
 }
 
+NLP_NONNULL(3, 4, 5)
 static inline NLP_RESULT uint32_t nlp_replies_next_opt(const uint8_t *bytes, size_t len, size_t *cursor,
                                                        struct nlp_replies *replies, struct nlp_reply *reply,
                                                        struct nlp_fault *fault)
@@ -661,6 +649,7 @@ static inline NLP_RESULT uint32_t nlp_replies_next_opt(const uint8_t *bytes, siz
     return nlp_replies_next(bytes, len, cursor, replies, reply, fault == NULL ? &own : fault);
 }
 
+NLP_NONNULL(4)
 static inline uint32_t nlp_attrs_find_opt(const uint8_t *block, size_t len, uint16_t kind,
                                           struct nlp_attr *item, struct nlp_fault *fault)
 {
@@ -675,6 +664,7 @@ static inline uint32_t nlp_attrs_table_opt(const uint8_t *block, size_t len, str
     return nlp_attrs_table(block, len, table, count, fault == NULL ? &own : fault);
 }
 
+NLP_NONNULL(5)
 static inline NLP_RESULT uint32_t nlp_attrs_validate_opt(const uint8_t *block, size_t len,
                                                          const struct nlp_policy *policy, size_t count,
                                                          size_t *offset, struct nlp_fault *fault)
@@ -690,6 +680,7 @@ static inline NLP_RESULT uint32_t nlp_frame_check_opt(const uint8_t *bytes, size
     return nlp_frame_check(bytes, len, fault == NULL ? &own : fault);
 }
 
+NLP_NONNULL(3)
 static inline NLP_RESULT uint32_t nlp_frame_header_opt(const uint8_t *bytes, size_t len,
                                                        struct nlp_header *header, struct nlp_fault *fault)
 {
@@ -697,6 +688,7 @@ static inline NLP_RESULT uint32_t nlp_frame_header_opt(const uint8_t *bytes, siz
     return nlp_frame_header(bytes, len, header, fault == NULL ? &own : fault);
 }
 
+NLP_NONNULL(3)
 static inline NLP_RESULT uint32_t nlp_frame_payload_opt(const uint8_t *bytes, size_t len,
                                                         struct nlp_part *payload, struct nlp_fault *fault)
 {
@@ -704,6 +696,7 @@ static inline NLP_RESULT uint32_t nlp_frame_payload_opt(const uint8_t *bytes, si
     return nlp_frame_payload(bytes, len, payload, fault == NULL ? &own : fault);
 }
 
+NLP_NONNULL(4)
 static inline NLP_RESULT uint32_t nlp_error_body_opt(const uint8_t *bytes, size_t len, uint16_t flags,
                                                      struct nlp_error *body, struct nlp_fault *fault)
 {
@@ -711,6 +704,7 @@ static inline NLP_RESULT uint32_t nlp_error_body_opt(const uint8_t *bytes, size_
     return nlp_error_body(bytes, len, flags, body, fault == NULL ? &own : fault);
 }
 
+NLP_NONNULL(3, 4)
 static inline NLP_RESULT uint32_t nlp_done_body_opt(const uint8_t *bytes, size_t len, int32_t *code,
                                                     struct nlp_part *rest, struct nlp_fault *fault)
 {
@@ -718,6 +712,7 @@ static inline NLP_RESULT uint32_t nlp_done_body_opt(const uint8_t *bytes, size_t
     return nlp_done_body(bytes, len, code, rest, fault == NULL ? &own : fault);
 }
 
+NLP_NONNULL(5)
 static inline NLP_RESULT uint32_t nlp_attrs_normalize_opt(const uint8_t *bytes, size_t len, uint8_t *buffer,
                                                           size_t capacity, size_t *size,
                                                           struct nlp_fault *fault)
@@ -726,6 +721,7 @@ static inline NLP_RESULT uint32_t nlp_attrs_normalize_opt(const uint8_t *bytes, 
     return nlp_attrs_normalize(bytes, len, buffer, capacity, size, fault == NULL ? &own : fault);
 }
 
+NLP_NONNULL(3)
 static inline NLP_RESULT uint32_t nlp_frame_is_canonical_opt(const uint8_t *bytes, size_t len,
                                                              uint32_t *canonical, struct nlp_fault *fault)
 {
@@ -733,6 +729,7 @@ static inline NLP_RESULT uint32_t nlp_frame_is_canonical_opt(const uint8_t *byte
     return nlp_frame_is_canonical(bytes, len, canonical, fault == NULL ? &own : fault);
 }
 
+NLP_NONNULL(5)
 static inline NLP_RESULT uint32_t nlp_frame_normalize_opt(const uint8_t *bytes, size_t len, uint8_t *buffer,
                                                           size_t capacity, size_t *size,
                                                           struct nlp_fault *fault)
@@ -741,11 +738,30 @@ static inline NLP_RESULT uint32_t nlp_frame_normalize_opt(const uint8_t *bytes, 
     return nlp_frame_normalize(bytes, len, buffer, capacity, size, fault == NULL ? &own : fault);
 }
 
+NLP_NONNULL(5)
 static inline NLP_RESULT uint32_t nlp_describe_opt(const uint8_t *bytes, size_t len, uint8_t *buffer,
                                                    size_t capacity, size_t *size, struct nlp_fault *fault)
 {
     struct nlp_fault own;
     return nlp_describe(bytes, len, buffer, capacity, size, fault == NULL ? &own : fault);
+}
+
+/* ---- the index of an attribute */
+
+/* Finds the index of the last attribute of a kind, which nlp_attr_write takes: NLP_OK, or NLP_NO_PLACE if there
+ * is none. Compares kinds as nlp_attrs_find does. An error ends the walk, and the attributes before it count. */
+NLP_NONNULL(4)
+static inline uint32_t nlp_attrs_index(const uint8_t *block, size_t len, uint16_t kind, size_t *index)
+{
+    size_t at = 0;
+    struct nlp_attr item;
+    uint32_t result = NLP_NO_PLACE;
+    for (size_t count = 0; nlp_attrs_next_opt(block, len, &at, &item, NULL) == NLP_OK; count++)
+        if ((item.kind & NLP_KIND_MASK) == kind) {
+            *index = count;
+            result = NLP_OK;
+        }
+    return result;
 }
 
 /* ---- the messages of a datagram, one by one */
@@ -769,6 +785,7 @@ struct nlp_messages {
 };
 
 /* Begins the walk at the first message. */
+NLP_NONNULL(1)
 static inline void nlp_messages_begin(struct nlp_messages *walk, const uint8_t *bytes, size_t len)
 {
     walk->bytes = bytes;
@@ -782,6 +799,7 @@ static inline void nlp_messages_begin(struct nlp_messages *walk, const uint8_t *
 /* Returns the next message, or NULL at the end and at an error, which are those of nlp_message_read. The message
  * is valid until the next call for this walk. This function is plain C over nlp_messages_fill: nlp_messages_fill is
  * proved, and this function is only tested. */
+NLP_NONNULL(1)
 static inline NLP_RESULT const struct nlp_message *nlp_messages_next(struct nlp_messages *walk)
 {
     if (walk->next == walk->batch.count) {
@@ -800,6 +818,7 @@ static inline NLP_RESULT const struct nlp_message *nlp_messages_next(struct nlp_
 
 /* Reads the header and locates the payload of what nlp_replies_next wrote for the same bytes, as
  * nlp_message_read does for a frame: NLP_OK, because that frame is complete. */
+NLP_NONNULL(2, 3)
 static inline uint32_t nlp_reply_message(const uint8_t *bytes, const struct nlp_reply *reply,
                                          struct nlp_message *message)
 {
@@ -847,6 +866,7 @@ static inline NLP_RESULT struct nlp_writer nlp_writer_begin(uint8_t *buffer, siz
 }
 
 /* Begins a frame, as nlp_frame_put does. */
+NLP_NONNULL(1, 2)
 static inline NLP_RESULT struct nlp_frame_mark nlp_writer_frame(struct nlp_writer *writer,
                                                                 const struct nlp_header *header,
                                                                 const void *fixed, size_t fixed_len)
@@ -859,6 +879,7 @@ static inline NLP_RESULT struct nlp_frame_mark nlp_writer_frame(struct nlp_write
 }
 
 /* Ends a frame, as nlp_frame_end does. */
+NLP_NONNULL(1)
 static inline void nlp_writer_frame_end(struct nlp_writer *writer, struct nlp_frame_mark mark)
 {
     if (writer->failed == NLP_OK)
@@ -866,6 +887,7 @@ static inline void nlp_writer_frame_end(struct nlp_writer *writer, struct nlp_fr
 }
 
 /* Writes two bytes of the header of a frame. NLP_NO_PLACE if no header was written at the mark. */
+NLP_NONNULL(1)
 static inline void nlp_writer_set(struct nlp_writer *writer, struct nlp_frame_mark mark, size_t offset,
                                   uint16_t value)
 {
@@ -878,18 +900,21 @@ static inline void nlp_writer_set(struct nlp_writer *writer, struct nlp_frame_ma
 }
 
 /* Sets the type of a message after its header was written. */
+NLP_NONNULL(1)
 static inline void nlp_writer_set_type(struct nlp_writer *writer, struct nlp_frame_mark mark, uint16_t type)
 {
     nlp_writer_set(writer, mark, 4, type);
 }
 
 /* Sets the flags of a message after its header was written. */
+NLP_NONNULL(1)
 static inline void nlp_writer_set_flags(struct nlp_writer *writer, struct nlp_frame_mark mark, uint16_t flags)
 {
     nlp_writer_set(writer, mark, 6, flags);
 }
 
 /* Begins a nest, as nlp_nest_begin does. */
+NLP_NONNULL(1)
 static inline NLP_RESULT struct nlp_nest_mark nlp_writer_nest(struct nlp_writer *writer, uint16_t kind)
 {
     const struct nlp_nest_mark mark = { writer->at };
@@ -899,22 +924,39 @@ static inline NLP_RESULT struct nlp_nest_mark nlp_writer_nest(struct nlp_writer 
 }
 
 /* Ends a nest, as nlp_nest_end does. */
+NLP_NONNULL(1)
 static inline void nlp_writer_nest_end(struct nlp_writer *writer, struct nlp_nest_mark mark)
 {
     if (writer->failed == NLP_OK)
         writer->failed = nlp_nest_end(writer->buffer, writer->capacity, writer->at, mark.start);
 }
 
-/* Takes back a nest that is not ended, and what was put into it. */
-static inline void nlp_writer_nest_cancel(struct nlp_writer *writer, struct nlp_nest_mark mark)
+/* Takes back what was put from an offset on. */
+NLP_NONNULL(1)
+static inline void nlp_writer_back(struct nlp_writer *writer, size_t start)
 {
-    if (writer->failed == NLP_OK && mark.start > writer->at)
+    if (writer->failed == NLP_OK && start > writer->at)
         writer->failed = NLP_NO_PLACE;
     if (writer->failed == NLP_OK)
-        writer->at = mark.start;
+        writer->at = start;
+}
+
+/* Takes back a nest that is not ended, and what was put into it. */
+NLP_NONNULL(1)
+static inline void nlp_writer_nest_cancel(struct nlp_writer *writer, struct nlp_nest_mark mark)
+{
+    nlp_writer_back(writer, mark.start);
+}
+
+/* Takes back a frame that is not ended, and what was put into it. */
+NLP_NONNULL(1)
+static inline void nlp_writer_frame_cancel(struct nlp_writer *writer, struct nlp_frame_mark mark)
+{
+    nlp_writer_back(writer, mark.start);
 }
 
 /* Puts an attribute, as nlp_attr_put does. */
+NLP_NONNULL(1)
 static inline void nlp_writer_put(struct nlp_writer *writer, uint16_t kind, const void *value, size_t len)
 {
     if (writer->failed == NLP_OK)
@@ -923,48 +965,56 @@ static inline void nlp_writer_put(struct nlp_writer *writer, uint16_t kind, cons
 }
 
 /* Each of these puts an attribute, as nlp_attr_put_u8 and so on do. */
+NLP_NONNULL(1)
 static inline void nlp_writer_put_u8(struct nlp_writer *writer, uint16_t kind, uint8_t value)
 {
     if (writer->failed == NLP_OK)
         writer->failed = nlp_attr_put_u8(writer->buffer, writer->capacity, &writer->at, kind, value);
 }
 
+NLP_NONNULL(1)
 static inline void nlp_writer_put_u16(struct nlp_writer *writer, uint16_t kind, uint16_t value)
 {
     if (writer->failed == NLP_OK)
         writer->failed = nlp_attr_put_u16(writer->buffer, writer->capacity, &writer->at, kind, value);
 }
 
+NLP_NONNULL(1)
 static inline void nlp_writer_put_u32(struct nlp_writer *writer, uint16_t kind, uint32_t value)
 {
     if (writer->failed == NLP_OK)
         writer->failed = nlp_attr_put_u32(writer->buffer, writer->capacity, &writer->at, kind, value);
 }
 
+NLP_NONNULL(1)
 static inline void nlp_writer_put_u64(struct nlp_writer *writer, uint16_t kind, uint64_t value)
 {
     if (writer->failed == NLP_OK)
         writer->failed = nlp_attr_put_u64(writer->buffer, writer->capacity, &writer->at, kind, value);
 }
 
+NLP_NONNULL(1)
 static inline void nlp_writer_put_be16(struct nlp_writer *writer, uint16_t kind, uint16_t value)
 {
     if (writer->failed == NLP_OK)
         writer->failed = nlp_attr_put_be16(writer->buffer, writer->capacity, &writer->at, kind, value);
 }
 
+NLP_NONNULL(1)
 static inline void nlp_writer_put_be32(struct nlp_writer *writer, uint16_t kind, uint32_t value)
 {
     if (writer->failed == NLP_OK)
         writer->failed = nlp_attr_put_be32(writer->buffer, writer->capacity, &writer->at, kind, value);
 }
 
+NLP_NONNULL(1)
 static inline void nlp_writer_put_be64(struct nlp_writer *writer, uint16_t kind, uint64_t value)
 {
     if (writer->failed == NLP_OK)
         writer->failed = nlp_attr_put_be64(writer->buffer, writer->capacity, &writer->at, kind, value);
 }
 
+NLP_NONNULL(1)
 static inline void nlp_writer_put_flag(struct nlp_writer *writer, uint16_t kind)
 {
     if (writer->failed == NLP_OK)
@@ -972,6 +1022,7 @@ static inline void nlp_writer_put_flag(struct nlp_writer *writer, uint16_t kind)
 }
 
 /* Puts an attribute whose value is a C string, with its zero. */
+NLP_NONNULL(1, 3)
 static inline void nlp_writer_put_str(struct nlp_writer *writer, uint16_t kind, const char *text)
 {
     if (writer->failed == NLP_OK)

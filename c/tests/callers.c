@@ -61,6 +61,33 @@ static void finds(void)
     expect("none before an error", nlp_attrs_find(block, sizeof block, 4, &attr, &fault) == NLP_ATTR_CUT && is_attr(&attr, 0x8002, 0, 4));
 }
 
+/* Returns whether the last attribute of a kind has this index; SIZE_MAX if there is none, which changes nothing. */
+static bool is_index(const uint8_t *bytes, size_t len, uint16_t kind, size_t wanted)
+{
+    const uint32_t result = wanted == SIZE_MAX ? NLP_NO_PLACE : NLP_OK;
+    size_t index = SIZE_MAX;
+    return nlp_attrs_index(bytes, len, kind, &index) == result && index == wanted;
+}
+
+static void indexes(void)
+{
+    uint8_t copy[WHOLE];
+    size_t index = 0;
+    expect("the index of the last of two", is_index(block, WHOLE, 1, 2));
+    expect("the index of the first attribute", is_index(block, 16, 1, 0));
+    expect("the index of a kind without its flag", is_index(block, WHOLE, 2, 1));
+    expect("the index of the other flag", is_index(block, WHOLE, 3, 3));
+    expect("the index of kind 0", is_index(block, WHOLE, 0, 4));
+    expect("the index of the last attribute", is_index(block, WHOLE, 5, 5));
+    expect("no index of a kind with its flag", is_index(block, WHOLE, 0x8002, SIZE_MAX));
+    expect("no index of another kind", is_index(block, WHOLE, 4, SIZE_MAX));
+    expect("no index in no bytes", is_index(NULL, 0, 0, SIZE_MAX));
+    expect("an index before an error", is_index(block, sizeof block, 2, 1));
+    memcpy(copy, block, sizeof copy);
+    expect("the value at an index is written", nlp_attrs_index(copy, WHOLE, 1, &index) == NLP_OK
+        && nlp_attr_write(copy, WHOLE, index, (const uint8_t *)"xy", 2) == NLP_OK && copy[4] == 0xaa && copy[20] == 'x' && copy[21] == 'y');
+}
+
 /* Each length up to 20: what the search for kind 1 and the table return, and where the attribute then is. */
 static void lengths(void)
 {
@@ -330,6 +357,7 @@ static void attributes(void)
 int main(void)
 {
     finds();
+    indexes();
     lengths();
     tables();
     policies();

@@ -264,6 +264,23 @@ static void writes(void)
         && buffer[4] == 18 && buffer[20] == 0x34 && buffer[21] == 0x12 && buffer[22] == 0);
 }
 
+/* A frame that is taken back, and one that is written in its place. */
+static void takes_back(void)
+{
+    const struct nlp_header header = { 0, 18, 0, 0, 0 };
+    uint8_t buffer[40];
+    struct nlp_writer writer = nlp_writer_begin(buffer, sizeof buffer);
+    const struct nlp_frame_mark first = nlp_writer_frame(&writer, &header, NULL, 0);
+    nlp_writer_frame_end(&writer, first);
+    const struct nlp_frame_mark none = nlp_writer_frame(&writer, &header, "x", 1);
+    nlp_writer_put_flag(&writer, 1);
+    nlp_writer_frame_cancel(&writer, none);
+    expect("a frame is taken back", writer.failed == NLP_OK && writer.at == 16 && buffer[0] == 16);
+    const struct nlp_frame_mark second = nlp_writer_frame(&writer, &header, NULL, 0);
+    nlp_writer_frame_end(&writer, second);
+    expect("another frame in its place", writer.failed == NLP_OK && writer.at == 32 && second.start == 16 && buffer[16] == 16);
+}
+
 /* A buffer that is too small: the writer fails once, and writes nothing after that. */
 static void fails(void)
 {
@@ -279,6 +296,7 @@ static void fails(void)
         const size_t at = writer.at;
         nlp_writer_put_flag(&writer, 1);
         nlp_writer_nest_end(&writer, (struct nlp_nest_mark){ SIZE_MAX });
+        nlp_writer_frame_cancel(&writer, (struct nlp_frame_mark){ 0 });
         stays = stays && writer.at == at && writer.failed == NLP_NO_ROOM;
     }
     expect("a failure stays", stays);
@@ -309,11 +327,14 @@ static void misuses(void)
         other = writer;
         nlp_writer_nest_cancel(&other, (struct nlp_nest_mark){ starts[i] });
         cancels = cancels && other.at == (i == 0 ? 1u : 16u) && other.failed == (i == 0 ? NLP_OK : NLP_NO_PLACE);
+        other = writer;
+        nlp_writer_frame_cancel(&other, (struct nlp_frame_mark){ starts[i] });
+        cancels = cancels && other.at == (i == 0 ? 1u : 16u) && other.failed == (i == 0 ? NLP_OK : NLP_NO_PLACE);
     }
     expect("the end of no frame", frames_end);
     expect("the end of no nest", nests_end);
     expect("the flags of no frame", set);
-    expect("no nest is taken back", cancels);
+    expect("no nest and no frame is taken back", cancels);
     struct nlp_writer writer = nlp_writer_begin(buffer, sizeof buffer);
     nlp_writer_put(&writer, 1, value, sizeof value);
     expect("a value that is too long", writer.failed == NLP_TOO_LONG && writer.at == 0);
@@ -332,6 +353,7 @@ int main(void)
     normalized();
     answers();
     writes();
+    takes_back();
     fails();
     misuses();
     printf("%d passed, %d failed\n", passed, failed);

@@ -5,7 +5,8 @@ All code is in fences, and each fence names its language:
 
 rattle, antt, c, rust  The block must occur word for word, apart from its indentation, in the file that the nearest link
                        above it names. A link to a Markdown file or to a folder does not count. c/test compiles the
-                       first `c` and the first `rust` block of README.md, so this script skips those two.
+                       first `c` and the first `rust` block of README.md, and the first `c` block of docs/C.md, so this
+                       script skips those three.
 console                Each line `$ COMMAND` is followed by exactly the lines that the command prints: its standard
                        output and, if it fails, its standard error. bash runs the command at the top of the repository.
                        `./netlink_NAME` in it runs the built program and ignores `--quick` and `--verbose`.
@@ -40,7 +41,7 @@ EXEMPT = set()
 QUOTED = {"rattle", "antt", "c", "rust"}
 
 # The languages of which c/test compiles the first block, by document.
-COMPILED = {"README.md": {"c", "rust"}}
+COMPILED = {"README.md": {"c", "rust"}, "docs/C.md": {"c"}}
 
 FENCE = re.compile(r" *(`{3,}|~{3,})([^`]*)")
 LIST_ITEM = re.compile(r" *(?:[-*+]|\d+[.)]) +(?=\S)")
