@@ -35,9 +35,9 @@ ANSWERS = {
     "link-new-bridge-0": b"ack\n",
     "link-delete-0": b"ack\n",
     "noop-0": b"ack\n",
-    "link-mtu-refused-0": b"error -22: mtu less than device minimum\n",
-    "link-unknown-0": b"error -19\n",
-    "type-unknown-0": b"error -95\n",
+    "link-mtu-refused-0": b"error -22 (Invalid argument): mtu less than device minimum\n",
+    "link-unknown-0": b"error -19 (No such device)\n",
+    "type-unknown-0": b"error -95 (Operation not supported)\n",
     "bridge-ports-1": b"done\n",
 }
 
@@ -51,6 +51,9 @@ MODES = {0: "DEFAULT"}
 GROUPS = {0: "default"}
 # The flags of the captured addresses, in the order of `ip`. All of these are permanent.
 ADDRESS_FLAGS = [(0x2, "nodad"), (0x40, "tentative")]
+
+# The errors that have a name.
+ERRNO = [*range(1, 41), *range(42, 58), *range(59, 134)]
 
 BAD = "a message is malformed"
 USAGE = (2, b"", "usage: netlink_show < FILE")
@@ -268,22 +271,25 @@ REQUEST = struct.pack("<IHHII", 18, 16, 5, 1, 0) + b"\7\7\0\0"
 # a text, other attributes, a damaged attribute after and before the text, and bytes that are not printable. Then messages
 # with NLM_F_DUMP_INTR.
 LINES += [
-    (error(TEXT), b"error -22: a b\n"),
-    (error(TEXT, flags=0x200, request=REQUEST), b"error -22: a b\n"),
-    (error(TEXT, flags=0x100), b"error -22\n"),
+    (error(TEXT), b"error -22 (Invalid argument): a b\n"),
+    (error(TEXT, flags=0x200, request=REQUEST), b"error -22 (Invalid argument): a b\n"),
+    (error(TEXT, flags=0x100), b"error -22 (Invalid argument)\n"),
     (error(TEXT, code=0), b"ack: a b\n"),
-    (error(attribute(2, bytes(4)) + attribute(0x8001, b"c") + TEXT), b"error -22: c\n"),
-    (error(attribute(2, bytes(4))), b"error -22\n"),
-    (error(TEXT + b"\3\0\1\0"), b"error -22: a b\n"),
-    (error(b"\3\0\2\0" + TEXT), b"error -22\n"),
-    (error(attribute(1, b"a\n\0")), b"error -22: a\\x0a\n"),
-    (error(attribute(1, b"\xc3\xa9\0")), b"error -22: \\xc3\\xa9\n"),
-    (error(attribute(1, b"\0")), b"error -22: \n"),
-    (frame(3, struct.pack("<i", -22) + TEXT, flags=0x202), b"done -22: a b\n"),
-    (frame(3, struct.pack("<i", -22) + TEXT, flags=2), b"done -22\n"),
+    (error(attribute(2, bytes(4)) + attribute(0x8001, b"c") + TEXT), b"error -22 (Invalid argument): c\n"),
+    (error(attribute(2, bytes(4))), b"error -22 (Invalid argument)\n"),
+    (error(TEXT + b"\3\0\1\0"), b"error -22 (Invalid argument): a b\n"),
+    (error(b"\3\0\2\0" + TEXT), b"error -22 (Invalid argument)\n"),
+    (error(attribute(1, b"a\n\0")), b"error -22 (Invalid argument): a\\x0a\n"),
+    (error(attribute(1, b"\xc3\xa9\0")), b"error -22 (Invalid argument): \\xc3\\xa9\n"),
+    (error(attribute(1, b"\0")), b"error -22 (Invalid argument): \n"),
+    (frame(3, struct.pack("<i", -22) + TEXT, flags=0x202), b"done -22 (Invalid argument): a b\n"),
+    (frame(3, struct.pack("<i", -22) + TEXT, flags=2), b"done -22 (Invalid argument)\n"),
     (frame(3, bytes(4), flags=DUMP_INTR), b"interrupted\ndone\n"),
     (link(NAMED, flags=DUMP_INTR), b"interrupted\n" + LINE),
 ]
+# The name of each error, by the C library, and codes without one.
+LINES += [(error(b"", code=-number), f"error -{number} ({os.strerror(number)})\n".encode()) for number in ERRNO]
+LINES += [(error(b"", code=code), b"error %d\n" % code) for code in (-41, -58, -134, -256, -524, -(1 << 31))]
 
 
 def time(seconds, micros):
@@ -337,7 +343,7 @@ ASKED = 5
 STREAMS += [
     (
         NAME + link(attribute(3, b"b\0"), index=3, flags=ASKED) + error(b"", code=-16) + frame(28, NEIGHBOUR),
-        NAMED_LINE + b"request 3: b: <> link/netrom\nerror -16\n" + SHOWN.replace(b"if3", b"a"),
+        NAMED_LINE + b"request 3: b: <> link/netrom\nerror -16 (Device or resource busy)\n" + SHOWN.replace(b"if3", b"a"),
     ),
     (
         NAME + frame(17, GONE[16:], flags=ASKED) + frame(28, NEIGHBOUR),
@@ -481,7 +487,7 @@ def live_checks(program):
     """Yields what differs on pipes that stay open, that are closed early, or that carry many messages, or None. Padding
     comes late, with the next message; a packet is whole before its lines appear."""
     messages = [(link(NAMED), LINE), (frame(40, b"abc"), b"type 40, 19 bytes\n"), LINES[0]]
-    messages += [(MALFORMED[0][0], f"byte 80: {MALFORMED[0][1]}\n".encode()), (error(TEXT), b"error -22: a b\n")]
+    messages += [(MALFORMED[0][0], f"byte 80: {MALFORMED[0][1]}\n".encode()), (error(TEXT), b"error -22 (Invalid argument): a b\n")]
     pieces, at = [], 0
     for data, line in messages:
         pieces.append((bytes(-at % 4), data, line))

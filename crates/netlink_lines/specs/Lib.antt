@@ -7,4 +7,5 @@ pub mod Packet
 pub mod Requests
 pub mod Run
 pub mod Stream
+pub mod SystemErrors
 pub mod Time

@@ -1,9 +1,9 @@
 -- The lines of messages. Every line ends with a line feed.
 use Rattle.std.specs.Prelude.{ℕ, ℤ, List, [], ◌∷◌, ◌++◌, Option, Some, None, codes, pos, if◌then◌else◌}
-use Rattle.std.specs.Fmt.{signed_decimal}
 use Rattle.std.specs.Ordering.{int_eq}
 use Rattle.netlink_family.specs.Shapes.{has_type}
 use Rattle.netlink_lines.specs.Ack.{text_words}
+use Rattle.netlink_lines.specs.SystemErrors.{code_text}
 use Rattle.netlink_address_lines.specs.Address.{address_line}
 use Rattle.netlink_names.specs.Known.{link_known}
 use Rattle.netlink_link_lines.specs.Link.{link_line}
@@ -14,9 +14,9 @@ use Rattle.netlink_route_lines.specs.Route.{route_entry_line}
 use Rattle.netlink_route_lines.specs.Rule.{rule_line}
 use Rattle.netlink_names.specs.declared.device.Known.{Known}
 
--- a code other than 0
+-- a code other than 0, and its name
 abbrev pub code_words : ℤ → List ℕ
-code_words code = if int_eq code (pos 0) then [] else codes " " ++ signed_decimal code
+code_words code = if int_eq code (pos 0) then [] else codes " " ++ code_text code
 
 -- a done message by its code and its text
 abbrev pub done_line : ℤ → Option (List ℕ) → List ℕ
@@ -25,7 +25,7 @@ done_line code text = codes "done" ++ (code_words code ++ (text_words text ++ co
 -- an error by its code, which is 0 in an acknowledgement, and its text
 abbrev pub error_line : ℤ → Option (List ℕ) → List ℕ
 error_line code text =
-    (if int_eq code (pos 0) then codes "ack" else codes "error " ++ signed_decimal code)
+    (if int_eq code (pos 0) then codes "ack" else codes "error " ++ code_text code)
     ++ (text_words text ++ codes "\n")
 
 -- the message types of links and addresses (linux/rtnetlink.h)

@@ -16,6 +16,7 @@
 //! | `done` | `line::done_line` | `Lines::done_line` |
 //! | ` -4`, the code after `done` | `line::code_words` | `Lines::code_words` |
 //! | `ack`, `error -22` | `line::error_line` | `Lines::error_line` |
+//! | ` (Invalid argument)` after a code | `line::code_text`, `system_errors::error_name` | `SystemErrors::code_text` |
 //! | `: mtu less than device minimum` | `ack::text_words` | `Ack::text_words` |
 //! | `noop`, `overrun` | `messages::item_shown` | `Messages::item_lines` |
 //! | `type 26, 28 bytes` | `messages::type_line` | `Messages::type_line` |
@@ -45,6 +46,7 @@ mod packet;
 mod requests;
 mod runs;
 mod state;
+mod system_errors;
 mod time;
 
 pub use crate::line::Line;

@@ -3,8 +3,10 @@
 ghost use Rattle.std.specs.Prelude.{◌≡◌, IfOk, OnOk, string_bytes};
 ghost use Rattle.std.specs.Option.{option_copied, option_map};
 ghost use Rattle.netlink_lines.specs.Lines.{code_words, done_line, error_line, known_by, later_line, other_line, route_line};
+ghost use Rattle.netlink_lines.specs.SystemErrors.{code_text};
 
 use crate::ack::text_words;
+use crate::system_errors::error_name;
 use netlink_address_lines::address::address_line;
 use netlink_address_lines::neighbour::neighbour_line;
 use netlink_address_lines::neighbour_table::neighbour_table_line;
@@ -178,8 +180,8 @@ fn later_line(
     }
 }
 
-/// Returns the line of a done message by its code and its text: `done`, the code if it is not 0, and
-/// the text.
+/// Returns the line of a done message by its code and its text: `done`, the code and its name if it is
+/// not 0, and the text.
 pub(crate) fn done_line(alloc: Global, code: i32, text: Option<&[u8]>) -> Result<String, AllocError>
     ensures { IfOk result (λ line. string_bytes line ≡ done_line code (option_copied text.entry)) }
 {
@@ -188,8 +190,8 @@ pub(crate) fn done_line(alloc: Global, code: i32, text: Option<&[u8]>) -> Result
     format!(in alloc; "done{code}{words}\n")
 }
 
-/// Returns the line of an error by its code and its text: `error` and the code, or `ack` if it is 0,
-/// and the text.
+/// Returns the line of an error by its code and its text: `error`, the code and its name, or `ack` if it
+/// is 0, and the text.
 pub(crate) fn error_line(
     alloc: Global,
     code: i32,
@@ -202,15 +204,28 @@ pub(crate) fn error_line(
     if code == 0 {
         return format!(in alloc; "ack{words}\n");
     }
+    let code = code_text(alloc, code)?;
     format!(in alloc; "error {code}{words}\n")
 }
 
-/// Returns a code other than 0.
+/// Returns a code other than 0, and its name.
 fn code_words(alloc: Global, code: i32) -> Result<String, AllocError>
     ensures { IfOk result (λ text. string_bytes text ≡ code_words code) }
 {
     if code == 0 {
         return Ok(String::new(alloc));
     }
-    format!(in alloc; " {code}")
+    let text = code_text(alloc, code)?;
+    format!(in alloc; " {text}")
+}
+
+/// Returns a code, and in parentheses the name of the error, if it has one.
+fn code_text(alloc: Global, code: i32) -> Result<String, AllocError>
+    ensures { IfOk result (λ text. string_bytes text ≡ code_text code) }
+{
+    let name = error_name(code.unsigned_abs());
+    if name.is_empty() {
+        return format!(in alloc; "{code}");
+    }
+    format!(in alloc; "{code} ({name})")
 }

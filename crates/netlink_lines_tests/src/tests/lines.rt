@@ -71,7 +71,7 @@ const MESSAGES: [(&[u8], &str); 6] = [
     (&ADDRESS, LINE),
     (
         &OTHERS,
-        "error -2\nack\ndone -22\ninterrupted\nnoop\noverrun\nerror -22: a b\n",
+        "error -2 (No such file or directory)\nack\ndone -22 (Invalid argument)\ninterrupted\nnoop\noverrun\nerror -22 (Invalid argument): a b\n",
     ),
     (&NEIGHBOURS, "miss\n"),
     (&REQUEST, "type 26, 28 bytes\n"),
