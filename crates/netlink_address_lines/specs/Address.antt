@@ -8,7 +8,7 @@ use Rattle.netlink_packet_core.specs.Numbers.{number_le}
 use Rattle.netlink_route.specs.declared.addresses.TheConstants.{IFA_ADDRESS, IFA_ANYCAST, IFA_BROADCAST, IFA_CACHEINFO, IFA_FLAGS, IFA_LABEL, IFA_LOCAL, IFA_RT_PRIORITY}
 use Rattle.netlink_address_lines.specs.AddressFlags.{flags_text, lifetime_parts}
 use Rattle.netlink_names.specs.Device.{device_text}
-use Rattle.netlink_words.specs.Names.{address_verb_text, family_text, scope_text}
+use Rattle.netlink_words.specs.NumberNames.{address_verb_text, family_text, scope_text}
 use Rattle.netlink_words.specs.Parts.{keyed, number_part, or_empty, with_part, with_parts}
 use Rattle.netlink_words.specs.Text.{ip_words, name_text}
 use Rattle.netlink_names.specs.declared.device.Known.{Known}

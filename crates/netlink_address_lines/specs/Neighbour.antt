@@ -9,7 +9,7 @@ use Rattle.netlink_packet_core.specs.Numbers.{number_le}
 use Rattle.netlink_route.specs.declared.neighbours.TheConstants.{NDA_DST, NDA_FLAGS_EXT, NDA_LLADDR, NDA_PROTOCOL}
 use Rattle.netlink_words.specs.Parts.{or_empty}
 use Rattle.netlink_names.specs.Device.{device_text}
-use Rattle.netlink_words.specs.Names.{protocol_text}
+use Rattle.netlink_words.specs.NumberNames.{protocol_text}
 use Rattle.netlink_words.specs.Parts.{keyed, or_zero, when, with_part, with_parts}
 use Rattle.netlink_words.specs.Text.{bytes_text, ip_words}
 use Rattle.netlink_names.specs.declared.device.Known.{Known}

@@ -6,7 +6,7 @@ use Rattle.netlink_family.specs.Strings.{until_nul}
 use Rattle.netlink_packet_core.specs.Numbers.{number_le}
 use Rattle.netlink_route.specs.declared.neighbour_tables.TheConstants.{NDTA_GC_INTERVAL, NDTA_NAME, NDTA_PARMS, NDTA_THRESH1, NDTA_THRESH2, NDTA_THRESH3, NDTPA_ANYCAST_DELAY, NDTPA_APP_PROBES, NDTPA_BASE_REACHABLE_TIME, NDTPA_DELAY_PROBE_TIME, NDTPA_GC_STALETIME, NDTPA_IFINDEX, NDTPA_LOCKTIME, NDTPA_MCAST_PROBES, NDTPA_PROXY_DELAY, NDTPA_PROXY_QLEN, NDTPA_QUEUE_LEN, NDTPA_REACHABLE_TIME, NDTPA_REFCNT, NDTPA_RETRANS_TIME, NDTPA_UCAST_PROBES}
 use Rattle.netlink_names.specs.Device.{device_part}
-use Rattle.netlink_words.specs.Names.{family_text}
+use Rattle.netlink_words.specs.NumberNames.{family_text}
 use Rattle.netlink_words.specs.Parts.{number_part, with_parts}
 use Rattle.netlink_words.specs.Text.{name_text}
 use Rattle.netlink_names.specs.declared.device.Known.{Known}

@@ -4,7 +4,7 @@ ghost use Rattle.std.specs.Prelude.{◌≡◌, IfOk, OnOk, codes, string_bytes};
 ghost use Rattle.std.specs.Option.{option_copied};
 ghost use Rattle.netlink_route.specs.declared.addresses.TheConstants.{IFA_ADDRESS, IFA_ANYCAST, IFA_BROADCAST, IFA_LOCAL};
 ghost use Rattle.netlink_address_lines.specs.Address.{address_flags, address_front, address_ip, address_line, label_part, metric_part, or_byte, own_text, peer_words, place_parts};
-ghost use Rattle.netlink_words.specs.Names.{address_verb_text, scope_text};
+ghost use Rattle.netlink_words.specs.NumberNames.{address_verb_text, scope_text};
 ghost use Rattle.netlink_words.specs.Text.{name_text};
 ghost use Rattle.netlink_words.specs.Parts.{AddsPart, AddsParts, keyed, or_empty};
 
@@ -18,7 +18,7 @@ use netlink_route::addresses::{
     IFA_LABEL, IFA_LOCAL, IFA_LOW_FLAGS, IFA_PREFIXLEN, IFA_RT_PRIORITY, IFA_SCOPE, RTM_DELADDR,
     RTM_GETADDR,
 };
-use netlink_words::names::{family_text, push_scope};
+use netlink_words::number_names::{family_text, push_scope};
 use netlink_words::parts::{or_empty, push_address, push_key, push_number, push_part, push_space};
 use netlink_words::text::{ip_words, push_name};
 use std::alloc::{AllocError, Global};

@@ -8,10 +8,10 @@
 //!
 //! | word of a line | function | definition |
 //! |---|---|---|
-//! | `Deleted `, `Get ` | `address::verb_text` | `netlink_words::Names::address_verb_text` |
+//! | `Deleted `, `Get ` | `address::verb_text` | `netlink_words::NumberNames::address_verb_text` |
 //! | `3: `, the index of the link | `address::front_text` | `Address::address_front` |
 //! | `d0`, its name | `netlink_names::device::device_name` | `netlink_names::Device::device_text` |
-//! | `inet` | `netlink_words::names::family_text` | `netlink_words::Names::family_text` |
+//! | `inet` | `netlink_words::number_names::family_text` | `netlink_words::NumberNames::family_text` |
 //! | `10.1.0.4` | `address::own_text` | `Address::own_text` |
 //! | `peer 10.1.0.5` | `address::peer_words` | `Address::peer_words` |
 //! | `/32` | `address::own_text` | `Address::own_text` |
@@ -42,7 +42,7 @@
 //!
 //! | word of a line | function | definition |
 //! |---|---|---|
-//! | `inet` | `netlink_words::names::family_text` | `netlink_words::Names::family_text` |
+//! | `inet` | `netlink_words::number_names::family_text` | `netlink_words::NumberNames::family_text` |
 //! | `arp_cache` | `neighbour_table::push_name` | `NeighbourTable::table_name` |
 //! | `thresh1 128` | `neighbour_table::push_limits` | `NeighbourTable::limit_parts` |
 //! | `thresh2 512` | `neighbour_table::push_limits` | `NeighbourTable::limit_parts` |

@@ -15,7 +15,7 @@ use netlink_route::neighbours::{
     NDA_DST, NDA_FLAGS_EXT, NDA_LLADDR, NDA_PROTOCOL, NDM_FLAGS, NDM_IFINDEX, NDM_STATE,
     RTM_DELNEIGH, RTM_GETNEIGH,
 };
-use netlink_words::names::push_protocol;
+use netlink_words::number_names::push_protocol;
 use netlink_words::parts::{
     or_empty, or_zero, push_hardware, push_ip, push_key, push_part, push_when,
 };

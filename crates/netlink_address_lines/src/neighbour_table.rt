@@ -18,7 +18,7 @@ use netlink_route::neighbour_tables::{
     NDTPA_PROXY_QLEN, NDTPA_QUEUE_LEN, NDTPA_REACHABLE_TIME, NDTPA_REFCNT, NDTPA_RETRANS_TIME,
     NDTPA_UCAST_PROBES, RTM_NEWNEIGHTBL,
 };
-use netlink_words::names::family_text;
+use netlink_words::number_names::family_text;
 use netlink_words::parts::{push_number, push_part};
 use netlink_words::text::name_text;
 use std::alloc::{AllocError, Global};
@@ -81,7 +81,7 @@ fn push_parms(
     known: &Names<'_>,
     parms: &BlockView<'_>,
 ) -> Result<(), AllocError>
-    requires rows { rows_in parms.now.rows.now ≡ ⟦<NeighbourTables as Table>⟧.rows 64 }
+    requires rows { rows_in parms.now.rows.list.now ≡ ⟦<NeighbourTables as Table>⟧.rows 64 }
     requires policy { parms.now.policy ≡ PARMS }
     ensures { OnOk result (AddsParts text.old text.new (parm_parts known.now parms.now.block.now)) }
 {
@@ -135,7 +135,7 @@ fn push_limits(
 /// Appends the number of references, the times and the length of the queue.
 #[tactic(auto, unfolding(crate::specs::NeighbourTable::time_parts))]
 fn push_times(alloc: Global, text: &mut String, parms: &BlockView<'_>) -> Result<(), AllocError>
-    requires rows { rows_in parms.now.rows.now ≡ ⟦<NeighbourTables as Table>⟧.rows 64 }
+    requires rows { rows_in parms.now.rows.list.now ≡ ⟦<NeighbourTables as Table>⟧.rows 64 }
     requires policy { parms.now.policy ≡ PARMS }
     ensures { OnOk result (AddsParts text.old text.new (time_parts parms.now.block.now)) }
 {
@@ -161,7 +161,7 @@ fn push_times(alloc: Global, text: &mut String, parms: &BlockView<'_>) -> Result
 /// Appends the numbers of probes.
 #[tactic(auto, unfolding(crate::specs::NeighbourTable::probe_parts))]
 fn push_probes(text: &mut String, parms: &BlockView<'_>) -> Result<(), AllocError>
-    requires rows { rows_in parms.now.rows.now ≡ ⟦<NeighbourTables as Table>⟧.rows 64 }
+    requires rows { rows_in parms.now.rows.list.now ≡ ⟦<NeighbourTables as Table>⟧.rows 64 }
     requires policy { parms.now.policy ≡ PARMS }
     ensures { OnOk result (AddsParts text.old text.new (probe_parts parms.now.block.now)) }
 {
@@ -173,7 +173,7 @@ fn push_probes(text: &mut String, parms: &BlockView<'_>) -> Result<(), AllocErro
 /// Appends the delays and the queue for addresses of others, and how long an entry is kept.
 #[tactic(auto, unfolding(crate::specs::NeighbourTable::delay_parts))]
 fn push_delays(alloc: Global, text: &mut String, parms: &BlockView<'_>) -> Result<(), AllocError>
-    requires rows { rows_in parms.now.rows.now ≡ ⟦<NeighbourTables as Table>⟧.rows 64 }
+    requires rows { rows_in parms.now.rows.list.now ≡ ⟦<NeighbourTables as Table>⟧.rows 64 }
     requires policy { parms.now.policy ≡ PARMS }
     ensures { OnOk result (AddsParts text.old text.new (delay_parts parms.now.block.now)) }
 {

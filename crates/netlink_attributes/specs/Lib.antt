@@ -16,3 +16,4 @@ pub mod Steps
 pub mod Views
 pub mod Walk
 pub mod WalkLaws
+pub mod ZeroPadding

@@ -20,7 +20,7 @@ use Rattle.netlink_attributes.specs.WalkLaws.{has_walk}
 
 -- ---- up to a number of attributes
 
-starts-whole : (bytes : List ℕ) (a : Attribute) (rest : List ℕ) → Starts bytes a rest
+pub starts-whole : (bytes : List ℕ) (a : Attribute) (rest : List ℕ) → Starts bytes a rest
     → starts_whole bytes ≡ true
 starts-whole bytes a rest starts =
     let field = starts-length_field bytes a rest starts in
@@ -44,7 +44,7 @@ after-attribute_of bytes a rest starts =
     ap (λ (x : Attribute). drop (padded_size x) bytes) (starts-attribute_of bytes a rest starts)
     ∙ sym (starts-rest bytes a rest starts)
 
-fault-whole : (bytes : List ℕ) (fault : DecodeError) → IsFault bytes fault
+pub fault-whole : (bytes : List ℕ) (fault : DecodeError) → IsFault bytes fault
     → starts_whole bytes ≡ false
 fault-whole bytes (NlaBufferTooSmall size least) is = and_left _ _ (lt-leb _ _ is.0)
 fault-whole bytes (NlaLengthMismatch size said) is =

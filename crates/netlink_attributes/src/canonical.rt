@@ -31,7 +31,7 @@ pub fn is_canonical_nlas(bytes: &[u8]) -> bool
 /// Returns whether zeros follow the first `size` bytes, up to a multiple of 4. Requires that there
 /// are at least `size` bytes, and that `size` is less than 2^16.
 #[inline(always)]
-fn is_zero_padded(bytes: &[u8], size: usize) -> bool
+pub fn is_zero_padded(bytes: &[u8], size: usize) -> bool
     requires inside { (size ≤ length bytes.now) × (size < 2 ^ 16) }
     ensures { IsTrue result
         ↔ (take (padding size) (drop size bytes.now) ≡ replicate (padding size) 0) }

@@ -19,7 +19,7 @@ mod place;
 pub use crate::align::nla_align;
 pub use crate::block::{append_nla, append_padding, normalize_nlas};
 pub use crate::buffer::NlaBuffer;
-pub use crate::canonical::is_canonical_nlas;
+pub use crate::canonical::{is_canonical_nlas, is_zero_padded};
 pub use crate::constants::{
     NLA_ALIGNTO, NLA_F_NESTED, NLA_F_NET_BYTEORDER, NLA_HEADER_SIZE, NLA_TYPE_MASK, NLA_VALUE_MAX,
 };

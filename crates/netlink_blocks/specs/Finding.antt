@@ -25,7 +25,7 @@ abbrev pub found_at : BlockView → ℕ → Option (List ℕ)
 found_at view kind = found_in view.block.now kind
 
 abbrev pub shape_at : BlockView → ℕ → Shape
-shape_at view kind = shape_among (within (rows_in view.rows.now) view.block.now) view.policy kind
+shape_at view kind = shape_among (within (rows_in view.rows.list.now) view.block.now) view.policy kind
 
 -- in a nest that may be missing
 abbrev pub found_within : Option (List ℕ) → ℕ → Option (List ℕ)

@@ -80,6 +80,33 @@ is_satisfied _ = true
 
 -- a nest has this table
 abbrev pub NestHasRows : List Row → Value → Type 0
-NestHasRows rows (variant.Nested inner) = rows_in inner.rows.now ≡ rows
-NestHasRows rows (variant.HeaderNested header inner) = rows_in inner.rows.now ≡ rows
+NestHasRows rows (variant.Nested inner) = rows_in inner.rows.list.now ≡ rows
+NestHasRows rows (variant.HeaderNested header inner) = rows_in inner.rows.list.now ≡ rows
 NestHasRows rows _ = ⊤
+
+-- the bytes of a name, and of a nest after a header, are those that it was read from
+abbrev pub is_kept : Shape → Bool
+is_kept shape.Str = true
+is_kept (shape.HeaderNested size policy) = true
+is_kept _ = false
+
+pub kept_bytes : (value : Value) (bytes : List ℕ) → is_kept (value_shape value) ≡ true → IsValueOf value bytes
+    → value_bytes value ≡ bytes
+kept_bytes (variant.Str b) bytes kept is = is
+kept_bytes (variant.HeaderNested header inner) bytes kept is = is
+kept_bytes variant.Flag bytes kept is = absurd (cc)
+kept_bytes (variant.U8 n) bytes kept is = absurd (cc)
+kept_bytes (variant.U16 n) bytes kept is = absurd (cc)
+kept_bytes (variant.U32 n) bytes kept is = absurd (cc)
+kept_bytes (variant.U64 n) bytes kept is = absurd (cc)
+kept_bytes (variant.I32 n) bytes kept is = absurd (cc)
+kept_bytes (variant.I64 n) bytes kept is = absurd (cc)
+kept_bytes (variant.Be16 n) bytes kept is = absurd (cc)
+kept_bytes (variant.Be32 n) bytes kept is = absurd (cc)
+kept_bytes (variant.Be64 n) bytes kept is = absurd (cc)
+kept_bytes (variant.ExactLen b) bytes kept is = absurd (cc)
+kept_bytes (variant.Ip b) bytes kept is = absurd (cc)
+kept_bytes (variant.NulStr b) bytes kept is = absurd (cc)
+kept_bytes (variant.MinLen size b) bytes kept is = absurd (cc)
+kept_bytes (variant.Nested inner) bytes kept is = absurd (cc)
+kept_bytes (variant.Bytes b) bytes kept is = absurd (cc)

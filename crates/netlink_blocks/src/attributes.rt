@@ -1,9 +1,9 @@
 //! Iteration over the attributes of a message or a nest.
 
-ghost use Rattle.std.specs.Prelude.{◌≡◌, true};
+ghost use Rattle.std.specs.Prelude.{◌≡◌};
 ghost use Rattle.std.specs.Iterator.{at_most};
 ghost use Rattle.netlink_packet_core.specs.Steps.{item_bound, unread};
-ghost use Rattle.netlink_shapes.specs.Shapes.{CachesOther, rows_in, within, are_sorted};
+ghost use Rattle.netlink_shapes.specs.Shapes.{CachesOther, rows_in, within};
 ghost use Rattle.netlink_shapes.specs.Choices.{AreChoices};
 ghost use Rattle.netlink_blocks.specs.Iteration.{YieldsValue};
 ghost use Rattle.netlink_shapes.specs.Fitting.{AreShaped};
@@ -11,7 +11,8 @@ ghost use Rattle.netlink_shapes.specs.Fitting.{AreShaped};
 use crate::value::{Value, value_in};
 use netlink_packet_core::NlasIterator;
 use netlink_shapes::choice::{Choices, cached_shape_among};
-use netlink_shapes::shape::{Row, Shape};
+use netlink_shapes::rows::Rows;
+use netlink_shapes::shape::Shape;
 
 /// An iterator over the attributes of a message or a nest, in order. It yields the kind and the
 /// value of each. It does not check shapes again and does not allocate.
@@ -20,7 +21,7 @@ pub struct Attributes<'a> {
     /// The rest of the walk.
     pub walk: NlasIterator<&'a [u8]>,
     /// The rows of the family's table.
-    pub rows: &'static [Row],
+    pub rows: Rows,
     /// The policy that the attributes belong to.
     pub policy: u16,
     /// All attributes of the block.
@@ -29,17 +30,16 @@ pub struct Attributes<'a> {
     pub other: Option<Shape>,
     /// The last shapes that were chosen by a value.
     pub choices: Choices,
-    pub ghost sorted: { are_sorted (rows_in rows.now) ≡ true },
-    pub ghost shaped: { ∥ AreShaped (within (rows_in rows.now) block.now) policy (unread walk) ∥₁ },
-    pub ghost kept: { CachesOther (rows_in rows.now) policy other },
-    pub ghost chosen: { AreChoices (within (rows_in rows.now) block.now) choices },
+    pub ghost shaped: { ∥ AreShaped (within (rows_in rows.list.now) block.now) policy (unread walk) ∥₁ },
+    pub ghost kept: { CachesOther (rows_in rows.list.now) policy other },
+    pub ghost chosen: { AreChoices (within (rows_in rows.list.now) block.now) choices },
 }
 
 impl<'a> Iterator for Attributes<'a> {
     type Item = (u16, Value<'a>);
 
     ghost next_gives = { λ before item after.
-        YieldsValue (within (rows_in before.rows.now) before.block.now) before.policy (unread before.walk) item
+        YieldsValue (within (rows_in before.rows.list.now) before.block.now) before.policy (unread before.walk) item
         (unread after.walk)
         × (after.rows ≡ before.rows) × (after.policy ≡ before.policy) × (after.block ≡ before.block) };
 

@@ -30,10 +30,10 @@ pub struct BlockIndex<'a> {
     pub view: BlockView<'a>,
     /// For each kind 0 if no attribute before the rest has it, else 1 more than a quarter of the
     /// offset of the first one that has it.
-    pub places: [u16; 64],
+    places: [u16; 64],
     /// The attributes from the first one on whose offset is too large for a place; mostly none.
     pub rest: &'a [u8],
-    pub ghost placed: { ArePlaces view.block.now rest.now places } by { Prim.hlevel props },
+    ghost placed: { ArePlaces view.block.now rest.now places } by { Prim.hlevel props },
 }
 
 impl<'a> BlockView<'a> {
@@ -58,7 +58,7 @@ impl<'a> BlockIndex<'a> {
     pub fn first(&self, kind: u16) -> Option<&'a [u8]>
         ensures some { IfSome result (λ v. found_at self.now.view kind ≡ Some v.now) }
         ensures none { IfNone result (found_at self.now.view kind ≡ None) }
-        ensures shaped { IfSome result (λ v. fits_in (within (rows_in self.now.view.rows.now) self.now.view.block.now) self.now.view.policy kind v.now ≡ true) }
+        ensures shaped { IfSome result (λ v. fits_in (within (rows_in self.now.view.rows.list.now) self.now.view.block.now) self.now.view.policy kind v.now ≡ true) }
     {
         are_shaped(&self.view, self.view.block);
         first_placed(self, kind)

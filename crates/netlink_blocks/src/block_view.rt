@@ -1,9 +1,9 @@
 //! A block of attributes, read in place.
 
 ghost use Rattle.std.specs.Prelude.{◌≡◌, true, ⊤};
-ghost use Rattle.netlink_shapes.specs.Shapes.{is_block_shaped, nest_levels, rows_in, are_sorted};
+ghost use Rattle.netlink_shapes.specs.Shapes.{is_block_shaped, nest_levels, rows_in};
 
-use netlink_shapes::shape::Row;
+use netlink_shapes::rows::Rows;
 use std::alloc::AllocError;
 
 /// A view of a block of attributes in the received bytes. Each attribute has the shape of its kind
@@ -12,13 +12,12 @@ use std::alloc::AllocError;
 #[derive(Debug, PartialEq, Eq)]
 pub struct BlockView<'a> {
     /// The rows of the family's table.
-    pub rows: &'static [Row],
+    pub rows: Rows,
     /// The policy that the attributes belong to; `TOP` for those of a message.
     pub policy: u16,
     /// The attributes, as received.
     pub block: &'a [u8],
-    pub ghost sorted: { are_sorted (rows_in rows.now) ≡ true },
-    pub ghost shaped: { is_block_shaped nest_levels (rows_in rows.now) policy block.now ≡ true },
+    pub ghost shaped: { is_block_shaped nest_levels (rows_in rows.list.now) policy block.now ≡ true },
 }
 
 impl<'a> Clone for BlockView<'a> {

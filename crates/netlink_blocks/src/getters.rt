@@ -38,7 +38,7 @@ impl<'a> BlockView<'a> {
     pub fn first(&self, kind: u16) -> Option<&'a [u8]>
         ensures some { IfSome result (λ v. found_at self.now kind ≡ Some v.now) }
         ensures none { IfNone result (found_at self.now kind ≡ None) }
-        ensures shaped { IfSome result (λ v. fits_in (within (rows_in self.now.rows.now) self.now.block.now) self.now.policy kind v.now ≡ true) }
+        ensures shaped { IfSome result (λ v. fits_in (within (rows_in self.now.rows.list.now) self.now.block.now) self.now.policy kind v.now ≡ true) }
     {
         are_shaped(self, self.block);
         first_whole(self.block, kind)
@@ -51,7 +51,7 @@ impl<'a> BlockView<'a> {
         ensures some { IfSome result (λ v. IsSomeAnd (found_at self.now kind) (IsValueOf v)) }
         ensures none { IfNone result (found_at self.now kind ≡ None) }
         ensures shape { IfSome result (λ v. value_shape v ≡ shape_at self.now kind) }
-        ensures nest { IfSome result (λ v. NestHasRows (rows_in self.now.rows.now) v) }
+        ensures nest { IfSome result (λ v. NestHasRows (rows_in self.now.rows.list.now) v) }
     {
         let bytes = self.first(kind)?;
         Some(value_in(self.rows, self.shape(kind), bytes))
@@ -65,7 +65,7 @@ impl<'a> BlockView<'a> {
         ensures some { IfSome result (λ v. nest_by (shape_at self.now kind) (found_at self.now kind) ≡ Some v.block.now) }
         ensures none { IfNone result (nest_by (shape_at self.now kind) (found_at self.now kind) ≡ None) }
         ensures policy { IfSome result (λ v. v.policy ≡ policy_by (shape_at self.now kind)) }
-        ensures rows { IfSome result (λ v. v.rows.now ≡ self.now.rows.now) }
+        ensures rows { IfSome result (λ v. v.rows.list.now ≡ self.now.rows.list.now) }
     {
         let shape = self.shape(kind);
         match policy_of(shape) {
@@ -268,7 +268,7 @@ impl<'a> BlockView<'a> {
     /// Returns an iterator over the attributes: the kind and the value of each.
     pub fn attributes(&self) -> Attributes<'a>
         ensures walk { unread result.walk ≡ self.now.block.now }
-        ensures rows { result.rows.now ≡ self.now.rows.now }
+        ensures rows { result.rows.list.now ≡ self.now.rows.list.now }
         ensures policy { result.policy ≡ self.now.policy }
         ensures block { result.block ≡ self.now.block }
     {
@@ -302,5 +302,5 @@ fn far_shape(view: &BlockView<'_>, kind: u16) -> Shape
 /// A law: the attributes have the shapes of their kinds. Does nothing at run time.
 pub(crate) fn are_shaped(view: &BlockView<'_>, block: &[u8])
     requires { block.now ≡ view.now.block.now }
-    ensures { AreShaped (within (rows_in view.now.rows.now) view.now.block.now) view.now.policy block.now }
+    ensures { AreShaped (within (rows_in view.now.rows.list.now) view.now.block.now) view.now.policy block.now }
 {}

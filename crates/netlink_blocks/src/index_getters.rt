@@ -18,7 +18,7 @@ impl<'a> BlockIndex<'a> {
         ensures some { IfSome result (λ v. nest_by (shape_at self.now.view kind) (found_at self.now.view kind) ≡ Some v.block.now) }
         ensures none { IfNone result (nest_by (shape_at self.now.view kind) (found_at self.now.view kind) ≡ None) }
         ensures policy { IfSome result (λ v. v.policy ≡ policy_by (shape_at self.now.view kind)) }
-        ensures rows { IfSome result (λ v. v.rows.now ≡ self.now.view.rows.now) }
+        ensures rows { IfSome result (λ v. v.rows.list.now ≡ self.now.view.rows.list.now) }
     {
         let shape = self.shape_if_placed(kind)?;
         match policy_of(shape) {

@@ -1,11 +1,8 @@
 //! Decoded values.
 
-ghost use Rattle.std.specs.Prelude.{◌≡◌, ◌≤◌, ◌⊎◌, ◌↔◌, [], ◌∷◌, ◌++◌, IfSome, IsSome, drop, length, true};
-ghost use Rattle.std.specs.Str.{IsUtf8};
-ghost use Rattle.netlink_packet_core.specs.Numbers.{number_be, number_le, signed};
-ghost use Rattle.netlink_shapes.specs.Shapes.{has_shape, is_block_shaped, nest_fits, nest_levels, rows_in, nul_only_last, are_sorted};
+ghost use Rattle.std.specs.Prelude.{◌≡◌, ◌≤◌, drop, length, true};
+ghost use Rattle.netlink_shapes.specs.Shapes.{has_shape, is_block_shaped, nest_fits, nest_levels, rows_in};
 ghost use Rattle.netlink_shapes.specs.declared.shape.Shape.TheVariants.{HeaderNested, Nested};
-ghost use Rattle.netlink_shapes.specs.Strings.{until_nul, nul_offset, has_no_nul};
 ghost use Rattle.netlink_blocks.specs.Values.{NestHasRows, IsValueOf, value_shape};
 
 use crate::block_view::BlockView;
@@ -13,7 +10,8 @@ use crate::header_view::HeaderView;
 use netlink_shapes::decoders::{
     be16_in, be32_in, be64_in, bytes_until_nul, i32_in, i64_in, u16_in, u32_in, u64_in,
 };
-use netlink_shapes::shape::{Row, Shape};
+use netlink_shapes::rows::Rows;
+use netlink_shapes::shape::Shape;
 
 /// A decoded value, one variant per shape.
 #[derive(Clone, Copy, Debug, PartialEq, Eq)]
@@ -58,13 +56,12 @@ pub enum Value<'a> {
 
 /// Decodes bytes that have a shape.
 #[inline(always)]
-pub fn value_in<'a>(rows: &'static [Row], shape: Shape, bytes: &'a [u8]) -> Value<'a>
-    requires sorted { are_sorted (rows_in rows.now) ≡ true }
+pub fn value_in<'a>(rows: Rows, shape: Shape, bytes: &'a [u8]) -> Value<'a>
     requires shape { has_shape shape bytes.now ≡ true }
-    requires nest { nest_fits (rows_in rows.now) shape bytes.now ≡ true }
+    requires nest { nest_fits (rows_in rows.list.now) shape bytes.now ≡ true }
     ensures value_is { IsValueOf result bytes.now }
     ensures shape { value_shape result ≡ shape }
-    ensures nest { NestHasRows (rows_in rows.now) result }
+    ensures nest { NestHasRows (rows_in rows.list.now) result }
 {
     match shape {
         Shape::Flag => Value::Flag,
@@ -92,12 +89,11 @@ pub fn value_in<'a>(rows: &'static [Row], shape: Shape, bytes: &'a [u8]) -> Valu
 /// Decodes a nest. It is a separate function so that other values do not initialize the space for
 /// it.
 #[inline(always)]
-fn nest_in<'a>(rows: &'static [Row], policy: u16, bytes: &'a [u8]) -> Value<'a>
-    requires sorted { are_sorted (rows_in rows.now) ≡ true }
-    requires nest { is_block_shaped nest_levels (rows_in rows.now) policy bytes.now ≡ true }
+fn nest_in<'a>(rows: Rows, policy: u16, bytes: &'a [u8]) -> Value<'a>
+    requires nest { is_block_shaped nest_levels (rows_in rows.list.now) policy bytes.now ≡ true }
     ensures value_is { IsValueOf result bytes.now }
     ensures shape { value_shape result ≡ Nested policy }
-    ensures nest { NestHasRows (rows_in rows.now) result }
+    ensures nest { NestHasRows (rows_in rows.list.now) result }
 {
     Value::Nested(BlockView {
         rows,
@@ -107,13 +103,12 @@ fn nest_in<'a>(rows: &'static [Row], policy: u16, bytes: &'a [u8]) -> Value<'a>
 }
 
 /// Decodes a nest after a fixed header. It is a separate function for the same reason as `nest_in`.
-fn header_nest_in<'a>(rows: &'static [Row], size: u16, policy: u16, bytes: &'a [u8]) -> Value<'a>
-    requires sorted { are_sorted (rows_in rows.now) ≡ true }
+fn header_nest_in<'a>(rows: Rows, size: u16, policy: u16, bytes: &'a [u8]) -> Value<'a>
     requires long { size ≤ length bytes.now }
-    requires nest { is_block_shaped nest_levels (rows_in rows.now) policy (drop size bytes.now) ≡ true }
+    requires nest { is_block_shaped nest_levels (rows_in rows.list.now) policy (drop size bytes.now) ≡ true }
     ensures value_is { IsValueOf result bytes.now }
     ensures shape { value_shape result ≡ HeaderNested size policy }
-    ensures nest { NestHasRows (rows_in rows.now) result }
+    ensures nest { NestHasRows (rows_in rows.list.now) result }
 {
     let header = HeaderView {
         bytes: &bytes[..size as usize],

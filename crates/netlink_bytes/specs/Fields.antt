@@ -3,8 +3,8 @@ use Rattle.std.specs.Prelude.{◌≡◌, ◌<◌, ◌≤◌, ℕ, ◌+◌, ◌-�
 use Rattle.std.proofs.Common.{ap, arith, sym, ◌∙◌, append_assoc, length-drop}
 use Rattle.std.proofs.lemmas.List.{drop-drop, drop_at, length-take-le}
 use Rattle.std.proofs.lemmas.List.Sums.{sum_by-cons}
-use Rattle.netlink_bytes.specs.Numbers.{IsBytes, number_le, signed, bytes_le, unsigned}
-use Rattle.netlink_bytes.specs.NumberLaws.{IsBytes-drop, front-fits, number_le-bytes_le, split_number, take-bytes_le, unsigned-signed}
+use Rattle.netlink_bytes.specs.Numbers.{IsBytes, number_le, bytes_le}
+use Rattle.netlink_bytes.specs.NumberLaws.{IsBytes-drop, front-fits, number_le-bytes_le, split_number, take-bytes_le}
 use Rattle.netlink_bytes.specs.Storage.{put_at}
 
 -- the integer in the w bytes at an offset
@@ -56,13 +56,6 @@ number_at-text at w bytes each long =
     ∙ ap (λ (more : List ℕ). bytes_le (number_le (take w (drop at bytes))) w ++ more)
     (drop-drop w at bytes)
     ∙ ap (λ (n : ℕ). bytes_le n w ++ drop (at + w) bytes) (sym (number_at-drop at w bytes))
-
--- an integer that was read as signed is encoded as the bytes of the unsigned one
-pub number_at-signed : (at w : ℕ) (bytes : List ℕ) → IsBytes bytes → at + w ≤ length bytes
-    → bytes_le (unsigned w (signed w (number_at at w bytes))) w ≡ bytes_le (number_at at w bytes) w
-number_at-signed at w bytes each long =
-    ap (λ (n : ℕ). bytes_le n w)
-    (unsigned-signed w (number_at at w bytes) (number_at-fits at w bytes each long))
 
 sum-cons : (w : ℕ) (widths : List ℕ) → sum (w ∷ widths) ≡ w + sum widths
 sum-cons w widths = sum_by-cons (λ (n : ℕ). n) w widths

@@ -4,6 +4,7 @@ pub mod Fields
 pub mod Laws
 pub mod Lending
 pub mod NonZero
+pub mod NumberBytes
 pub mod NumberLaws
 pub mod Numbers
 pub mod Storage

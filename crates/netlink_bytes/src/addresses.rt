@@ -1,5 +1,5 @@
 //! Single bytes and addresses.
-#![tactic(auto, using(crate::proofs::Bytes::single_byte))]
+#![tactic(auto, using(crate::specs::NumberBytes::single_byte))]
 
 ghost use Rattle.std.specs.Prelude.{◌≡◌, ◌≢◌, length, Ok, Err};
 ghost use Rattle.netlink_bytes.specs.Numbers.{Reads, number_le, signed};

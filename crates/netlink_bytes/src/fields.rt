@@ -1,6 +1,6 @@
 //! Integers at byte offsets, in native byte order (little-endian), such as the fields of a fixed
 //! header. No function here allocates.
-#![tactic(auto, using(crate::proofs::Bytes::numbers_as_bytes))]
+#![tactic(auto, using(crate::specs::NumberBytes::numbers_as_bytes))]
 
 ghost use Rattle.std.specs.Prelude.{◌≡◌, ◌≤◌, ◌+◌, length, slice_range};
 ghost use Rattle.netlink_bytes.specs.Fields.{number_at};

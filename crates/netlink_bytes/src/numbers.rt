@@ -1,5 +1,5 @@
 //! Integers as bytes. Native byte order is little-endian here. No function here allocates.
-#![tactic(auto, using(crate::proofs::Bytes::numbers_as_bytes))]
+#![tactic(auto, using(crate::specs::NumberBytes::numbers_as_bytes))]
 
 pub mod signed;
 pub mod unsigned;

@@ -3,3 +3,4 @@ pub mod CanonicalPayloads
 pub mod Frames
 pub mod Lines
 pub mod Payloads
+pub mod PushedNumbers

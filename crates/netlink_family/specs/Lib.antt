@@ -7,6 +7,7 @@ pub mod PayloadErrorLaws
 pub mod PayloadReading
 pub mod PushingLaws
 pub mod ShortLaws
+pub mod Tables
 -- the definitions of the crates below, for users of this crate alone
 pub use Rattle.netlink_shapes.specs.Blocks
 pub use Rattle.netlink_shapes.specs.Choices

@@ -2,15 +2,16 @@
 
 ghost use Rattle.std.specs.Iterator.{at_most};
 ghost use Rattle.std.specs.Option.{option_map};
-ghost use Rattle.std.specs.Prelude.{◌≡◌, ◌≤◌, [], List, Some, false, is_none, IfErr, IfOk, not, drop, length, true};
+ghost use Rattle.std.specs.Prelude.{◌≡◌, ◌≤◌, [], List, Some, false, is_none, IfErr, IfOk, not, drop, length};
 ghost use Rattle.netlink_packet_core.specs.Attribute.{Attribute};
 ghost use Rattle.netlink_packet_core.specs.Reading.{attributes_in};
 ghost use Rattle.netlink_packet_core.specs.Steps.{item_bound, unread};
 ghost use Rattle.netlink_shapes.specs.Blocks.{block_fits};
 ghost use Rattle.netlink_shapes.specs.Choices.{AreChoices};
 ghost use Rattle.netlink_blocks.specs.Iteration.{YieldsChecked};
-ghost use Rattle.netlink_shapes.specs.Errors.{block_error, family_error, rest_error, too_long_error};
-ghost use Rattle.netlink_shapes.specs.Shapes.{or_first, rows_in, within, are_sorted};
+ghost use Rattle.netlink_shapes.specs.Errors.{block_error, rest_error, too_long_error};
+ghost use Rattle.netlink_family.specs.Tables.{table_error};
+ghost use Rattle.netlink_shapes.specs.Shapes.{or_first, rows_in, within};
 
 use crate::family::{Table, is_short, rows_of};
 use netlink_blocks::value::{Value, value_in};
@@ -19,7 +20,8 @@ use netlink_shapes::attribute_error::{AttributeError, error_in};
 use netlink_shapes::block::{block_error, fits_shape};
 use netlink_shapes::choice::{Choices, NO_CHOICES, kept_shape_among};
 use netlink_shapes::error::{FamilyError, header_short};
-use netlink_shapes::shape::{NEST_LEVELS, Row, TOP};
+use netlink_shapes::rows::Rows;
+use netlink_shapes::shape::{NEST_LEVELS, TOP};
 use std::marker::PhantomData;
 
 /// An iterator over the attributes of a payload, in order, that checks each before it yields its
@@ -35,18 +37,18 @@ pub struct CheckedAttributes<'a, F: Table> {
     /// The message type.
     pub message_type: u16,
     /// The rows of the family's table.
-    pub rows: &'static [Row],
+    pub rows: Rows,
     /// The last shapes that were chosen by a value.
     pub choices: Choices,
     /// The family of the message.
     pub family: PhantomData<F>,
-    pub ghost table: { rows_in rows.now ≡ F.rows message_type },
+    pub ghost table: { rows_in rows.list.now ≡ F.rows message_type },
     pub ghost inside: { length block.now ≤ end },
     // an error of the rest is that of the whole
     pub ghost passed: { is_none (rest_error (within (F.rows message_type) block.now) end (unread walk)) ≡ false
         → block_error (F.rows message_type) end block.now
         ≡ rest_error (within (F.rows message_type) block.now) end (unread walk) },
-    pub ghost chosen: { AreChoices (within (rows_in rows.now) block.now) choices },
+    pub ghost chosen: { AreChoices (within (rows_in rows.list.now) block.now) choices },
 }
 
 impl<'a, F: Table> CheckedAttributes<'a, F> {
@@ -55,8 +57,8 @@ impl<'a, F: Table> CheckedAttributes<'a, F> {
     /// else `TooLong`. An error in the attributes is otherwise found by the iteration.
     #[inline(always)]
     pub fn new(message_type: u16, payload: &'a [u8]) -> Result<Self, FamilyError>
-        ensures error { IfErr result (λ e. family_error F.types F.short F.header_len F.rows message_type payload.now ≡ Some e) }
-        ensures later { IfOk result (λ all. family_error F.types F.short F.header_len F.rows message_type payload.now
+        ensures error { IfErr result (λ e. table_error F.Table message_type payload.now ≡ Some e) }
+        ensures later { IfOk result (λ all. table_error F.Table message_type payload.now
             ≡ option_map FamilyError.InvalidAttribute
             (rest_error (within (F.rows message_type) all.block.now) (length payload.now) (unread all.walk))) }
         ensures block { IfOk result (λ all. all.block.now ≡ unread all.walk) }
@@ -146,11 +148,10 @@ fn is_too_long(block: &[u8]) -> bool
 /// else `TooLong`.
 #[cold]
 #[inline(never)]
-fn long_block_error(rows: &[Row], end: usize, block: &[u8]) -> FamilyError
-    requires sorted { are_sorted (rows_in rows.now) ≡ true }
+fn long_block_error(rows: Rows, end: usize, block: &[u8]) -> FamilyError
     requires inside { length block.now ≤ end }
     requires long { (all : List Attribute) → attributes_in block.now ≡ Some all → block_fits all ≡ false }
-    ensures { or_first (option_map FamilyError.InvalidAttribute (block_error (rows_in rows.now) end block.now))
+    ensures { or_first (option_map FamilyError.InvalidAttribute (block_error (rows_in rows.list.now) end block.now))
         (too_long_error (attributes_in block.now)) ≡ Some result }
 {
     match error_in(NEST_LEVELS, rows, TOP, end, block) {

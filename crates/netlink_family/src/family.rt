@@ -7,6 +7,7 @@ ghost use Rattle.netlink_shapes.specs.Short.{is_short};
 
 use crate::late::chooses;
 use netlink_blocks::header_view::Field;
+use netlink_shapes::rows::Rows;
 use netlink_shapes::shape::{Row, Shape, row_shape};
 use std::fmt::Debug;
 
@@ -60,7 +61,10 @@ pub trait Table {
     fn chooses_shape(message_type: u16, kind: u16) -> bool
         ensures chooses { result ≡ chooses (rows message_type) kind }
     {
-        chooses(Self::rows(message_type), kind)
+        let rows = Rows {
+            list: Self::rows(message_type),
+        };
+        chooses(rows, kind)
     }
 
     /// The rows are in ascending order of policy, then kind.
@@ -68,11 +72,12 @@ pub trait Table {
 }
 
 /// Returns the rows, which are sorted.
-pub(crate) fn rows_of<F: Table>(message_type: u16) -> &'static [Row]
-    ensures rows { rows_in result.now ≡ F.rows message_type }
-    ensures sorted { are_sorted (rows_in result.now) ≡ true }
+pub(crate) fn rows_of<F: Table>(message_type: u16) -> Rows
+    ensures rows { rows_in result.list.now ≡ F.rows message_type }
 {
-    F::rows(message_type)
+    Rows {
+        list: F::rows(message_type),
+    }
 }
 
 /// A table whose messages can be the payload of a netlink message: no message type occurs twice,

@@ -5,13 +5,14 @@ ghost use Rattle.std.specs.List.{list_all};
 ghost use Rattle.netlink_packet_core.specs.Views.{masked};
 ghost use Rattle.netlink_shapes.specs.Listing.{first_of, listed};
 ghost use Rattle.netlink_shapes.specs.Pushing.{added_error, chooses, is_chosen_by, is_late, keeps_shape, late_error};
-ghost use Rattle.netlink_shapes.specs.Shapes.{fits_kind, rows_in, within, are_sorted};
+ghost use Rattle.netlink_shapes.specs.Shapes.{fits_kind, rows_in, within};
 
 use crate::family::{Table, rows_of};
 use netlink_packet_core::{NLA_TYPE_MASK, NlasIterator};
 use netlink_shapes::attribute_error::{AttributeError, Reason, value_error};
 use netlink_shapes::find::first_value;
-use netlink_shapes::shape::{NEST_LEVELS, Row, Shape, TOP, row_shape};
+use netlink_shapes::rows::Rows;
+use netlink_shapes::shape::{NEST_LEVELS, Shape, TOP, row_shape};
 
 /// Returns the error of appending an attribute to a block, with the offset counted from the start of
 /// the attribute: that of its value, or else that it would change a shape.
@@ -64,10 +65,9 @@ fn is_late<F: Table>(message_type: u16, block: &[u8], kind: u16) -> bool
 /// Returns whether one more attribute of a kind keeps its own shape and those of the attributes of a
 /// block.
 #[inline(never)]
-fn keeps_shapes(rows: &[Row], block: &[u8], kind: u16) -> bool
-    requires sorted { are_sorted (rows_in rows.now) ≡ true }
-    ensures { result ≡ (keeps_shape (within (rows_in rows.now) block.now) kind kind
-        && list_all (λ a. keeps_shape (within (rows_in rows.now) block.now) kind a.kind) (listed block.now)) }
+fn keeps_shapes(rows: Rows, block: &[u8], kind: u16) -> bool
+    ensures { result ≡ (keeps_shape (within (rows_in rows.list.now) block.now) kind kind
+        && list_all (λ a. keeps_shape (within (rows_in rows.list.now) block.now) kind a.kind) (listed block.now)) }
 {
     let is_there = first_value(block, kind & NLA_TYPE_MASK).is_some();
     keeps_shape(rows, block, kind, kind, is_there) && keeps_all(rows, block, kind, is_there)
@@ -76,11 +76,10 @@ fn keeps_shapes(rows: &[Row], block: &[u8], kind: u16) -> bool
 /// Returns whether a kind chooses the shape of some kind of a message's own attributes. Their rows
 /// are the first ones.
 #[tactic(auto, using(netlink_shapes::specs::PolicyRows::none_chooses))]
-pub(crate) fn chooses(rows: &[Row], kind: u16) -> bool
-    requires sorted { are_sorted (rows_in rows.now) ≡ true }
-    ensures { result ≡ chooses (rows_in rows.now) kind }
+pub(crate) fn chooses(rows: Rows, kind: u16) -> bool
+    ensures { result ≡ chooses (rows_in rows.list.now) kind }
 {
-    let mut rest = rows;
+    let mut rest = rows.list;
     while let [row, more @ ..] = rest {
         if row.0 != TOP {
             return false;
@@ -106,10 +105,9 @@ fn is_chosen_by(kind: u16, shape: Shape) -> bool
 
 /// Returns whether one more attribute of a kind keeps the shapes of the attributes of a block, in which
 /// an attribute of this kind may be already.
-fn keeps_all(rows: &[Row], block: &[u8], kind: u16, is_there: bool) -> bool
-    requires sorted { are_sorted (rows_in rows.now) ≡ true }
+fn keeps_all(rows: Rows, block: &[u8], kind: u16, is_there: bool) -> bool
     requires there { is_there ≡ is_some (first_of (masked kind) (listed block.now)) }
-    ensures { result ≡ list_all (λ a. keeps_shape (within (rows_in rows.now) block.now) kind a.kind) (listed block.now) }
+    ensures { result ≡ list_all (λ a. keeps_shape (within (rows_in rows.list.now) block.now) kind a.kind) (listed block.now) }
 {
     for item in NlasIterator::new(block) {
         match item {
@@ -126,10 +124,9 @@ fn keeps_all(rows: &[Row], block: &[u8], kind: u16, is_there: bool) -> bool
 
 /// Returns whether one more attribute of a kind keeps the shape of a kind, in a block in which an
 /// attribute of that kind may be already.
-fn keeps_shape(rows: &[Row], block: &[u8], kind: u16, other: u16, is_there: bool) -> bool
-    requires sorted { are_sorted (rows_in rows.now) ≡ true }
+fn keeps_shape(rows: Rows, block: &[u8], kind: u16, other: u16, is_there: bool) -> bool
     requires there { is_there ≡ is_some (first_of (masked kind) (listed block.now)) }
-    ensures { result ≡ keeps_shape (within (rows_in rows.now) block.now) kind other }
+    ensures { result ≡ keeps_shape (within (rows_in rows.list.now) block.now) kind other }
 {
     !is_chosen_by(kind, row_shape(rows, TOP, other)) || is_there
 }

@@ -35,7 +35,9 @@ pub use netlink_shapes::attribute_error::{AttributeError, Reason};
 pub use netlink_shapes::choice::{Choice, Choices};
 pub use netlink_shapes::decoders::{bytes_until_nul, str_until_nul};
 pub use netlink_shapes::error::FamilyError;
+pub use netlink_shapes::rows::Rows;
 pub use netlink_shapes::shape::{ANY, Row, Shape, TOP};
 pub use netlink_shapes::{
-    attribute_error as attribute_error, choice as choice, error as error, shape as shape,
+    attribute_error as attribute_error, choice as choice, error as error, rows as rows,
+    shape as shape,
 };

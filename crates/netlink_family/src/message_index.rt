@@ -17,7 +17,7 @@ pub struct MessageIndex<'a, F: Table> {
     pub message: MessageView<'a, F>,
     /// Its attributes.
     pub index: BlockIndex<'a>,
-    pub ghost rows: { rows_in index.view.rows.now ≡ F.rows message.message_type },
+    pub ghost rows: { rows_in index.view.rows.list.now ≡ F.rows message.message_type },
     pub ghost policy: { index.view.policy ≡ 0 },
     pub ghost block: { index.view.block.now ≡ drop (F.header_len message.message_type) message.payload.now },
 }
@@ -47,7 +47,7 @@ impl<'a, F: Table> MessageIndex<'a, F> {
 
     /// Returns the attributes by their places, with getters by kind.
     pub fn index(&self) -> &BlockIndex<'a>
-        ensures rows { rows_in result.now.view.rows.now ≡ F.rows self.now.message.message_type }
+        ensures rows { rows_in result.now.view.rows.list.now ≡ F.rows self.now.message.message_type }
         ensures policy { result.now.view.policy ≡ 0 }
         ensures block { result.now.view.block.now ≡ drop (F.header_len self.now.message.message_type) self.now.message.payload.now }
     {

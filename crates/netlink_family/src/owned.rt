@@ -3,7 +3,8 @@
 ghost use Rattle.std.specs.Prelude.{◌≡◌, Err, ◌+◌, ◌≤◌, ◌<◌, replicate, take, ◌++◌, ◌∷◌, [], false, true, length, ℕ, None, Some, IfErr, IfOk, IfSome, IsTrue, not, refl, vec_capacity};
 ghost use Rattle.netlink_shapes.specs.ErrorTexts.{wants_memory};
 ghost use Rattle.netlink_family.specs.PayloadReading.{short_reading};
-ghost use Rattle.netlink_shapes.specs.Errors.{family_error, short_error};
+ghost use Rattle.netlink_shapes.specs.Errors.{short_error};
+ghost use Rattle.netlink_family.specs.Tables.{table_error};
 ghost use Rattle.netlink_family.specs.Message.{message_decoding, message_reading, is_canonical_payload};
 ghost use Rattle.netlink_shapes.specs.Shapes.{has_type, keeps_by, reading_by};
 ghost use Rattle.netlink_shapes.specs.Short.{filled, is_cut, is_short, sent};
@@ -311,7 +312,7 @@ impl<F: Family> NetlinkDeserializable for OwnedMessage<F> {
             ≡ None) }
         // each error other than `OutOfMemory` is the payload's one error
         ensures error { IfErr result (λ e. wants_memory e ≡ false
-            → family_error F.types F.short F.header_len F.rows header.now.message_type payload.now ≡ Some e) }
+            → table_error F.Table header.now.message_type payload.now ≡ Some e) }
     {
         if F::has(header.message_type) {
             let message = OwnedMessage::decode(alloc, header.message_type, payload)?;
@@ -340,7 +341,7 @@ impl<F: Family> NetlinkDeserializable for OwnedMessage<F> {
             ≡ None) }
         // each error other than `OutOfMemory` is the payload's one error
         ensures error { IfErr result (λ e. wants_memory e ≡ false
-            → family_error F.types F.short F.header_len F.rows header.now.message_type payload.now ≡ Some e) }
+            → table_error F.Table header.now.message_type payload.now ≡ Some e) }
     {
         let message_type = header.message_type;
         if !F::has(message_type) {

@@ -3,7 +3,6 @@
 ghost use Rattle.std.specs.Prelude.{◌≡◌, ◌++◌, drop, Err, None, Some, IfErr, OnOk, false, true};
 ghost use Rattle.netlink_packet_core.specs.Attribute.{padded};
 ghost use Rattle.netlink_packet_core.specs.Nla.{attribute_with};
-ghost use Rattle.netlink_packet_core.specs.Numbers.{bytes_be, bytes_le, unsigned};
 ghost use Rattle.netlink_shapes.specs.ErrorTexts.{wants_memory};
 ghost use Rattle.netlink_shapes.specs.Pushing.{added_error, has_room, late_error, push_error, room_error, satisfied_error};
 ghost use Rattle.netlink_shapes.specs.Shapes.{fits_kind, shape_in, within};
@@ -14,10 +13,7 @@ use crate::family::Table;
 use crate::late::{added_error, late_error};
 use crate::owned::{OwnedMessage, header_fits};
 use netlink_blocks::value::Value;
-use netlink_packet_core::{
-    NLA_BLOCK_MAX, NLA_HEADER_SIZE, NLA_VALUE_MAX, append_nla, emit_i32, emit_i64, emit_u16,
-    emit_u16_be, emit_u32, emit_u32_be, emit_u64, emit_u64_be, nla_align,
-};
+use netlink_packet_core::{NLA_BLOCK_MAX, NLA_HEADER_SIZE, NLA_VALUE_MAX, append_nla, nla_align};
 use netlink_shapes::error::FamilyError;
 use std::alloc::{AllocError, Global};
 
@@ -58,6 +54,7 @@ impl<F: Table> OwnedMessage<F> {
     /// of one before it, `TooLong` if the value or the message would be too long, and `OutOfMemory` if
     /// an allocation fails; the message is then unchanged.
     #[inline(always)]
+    #[tactic(auto, using(crate::proofs::PushedNumbers::pushed_numbers))]
     pub fn push(&mut self, alloc: Global, kind: u16, value: Value<'_>) -> Result<(), FamilyError>
         requires shape { shape_in (F.rows self.old.message_type) 0 kind ≡ value_shape value }
         requires satisfied { is_satisfied value ≡ true }
@@ -80,14 +77,14 @@ impl<F: Table> OwnedMessage<F> {
         match value {
             Value::Flag => self.append_attribute(alloc, kind, &[]),
             Value::U8(number) => self.append_attribute(alloc, kind, &[number]),
-            Value::U16(number) => self.append_attribute(alloc, kind, &u16_bytes(number)),
-            Value::U32(number) => self.append_attribute(alloc, kind, &u32_bytes(number)),
-            Value::U64(number) => self.append_attribute(alloc, kind, &u64_bytes(number)),
-            Value::I32(number) => self.append_attribute(alloc, kind, &i32_bytes(number)),
-            Value::I64(number) => self.append_attribute(alloc, kind, &i64_bytes(number)),
-            Value::Be16(number) => self.append_attribute(alloc, kind, &be16_bytes(number)),
-            Value::Be32(number) => self.append_attribute(alloc, kind, &be32_bytes(number)),
-            Value::Be64(number) => self.append_attribute(alloc, kind, &be64_bytes(number)),
+            Value::U16(number) => self.append_attribute(alloc, kind, &number.to_le_bytes()),
+            Value::U32(number) => self.append_attribute(alloc, kind, &number.to_le_bytes()),
+            Value::U64(number) => self.append_attribute(alloc, kind, &number.to_le_bytes()),
+            Value::I32(number) => self.append_attribute(alloc, kind, &number.to_le_bytes()),
+            Value::I64(number) => self.append_attribute(alloc, kind, &number.to_le_bytes()),
+            Value::Be16(number) => self.append_attribute(alloc, kind, &number.to_be_bytes()),
+            Value::Be32(number) => self.append_attribute(alloc, kind, &number.to_be_bytes()),
+            Value::Be64(number) => self.append_attribute(alloc, kind, &number.to_be_bytes()),
             Value::ExactLen(bytes)
             | Value::Ip(bytes)
             | Value::NulStr(bytes)
@@ -183,75 +180,3 @@ fn value_fits<F: Table>(message: &OwnedMessage<F>, kind: u16, value: Value<'_>)
     ensures { fits_kind (within (F.rows message.now.message_type)
         (drop (F.header_len message.now.message_type) message.now.bytes.items)) kind (value_bytes value.entry) ≡ true }
 {}
-
-/// Encodes a `u16`.
-fn u16_bytes(value: u16) -> [u8; 2]
-    ensures { result ≡ bytes_le value 2 }
-{
-    let mut bytes = [0; 2];
-    emit_u16(&mut bytes, value).unwrap();
-    bytes
-}
-
-/// Encodes a `u32`.
-fn u32_bytes(value: u32) -> [u8; 4]
-    ensures { result ≡ bytes_le value 4 }
-{
-    let mut bytes = [0; 4];
-    emit_u32(&mut bytes, value).unwrap();
-    bytes
-}
-
-/// Encodes a `u64`.
-fn u64_bytes(value: u64) -> [u8; 8]
-    ensures { result ≡ bytes_le value 8 }
-{
-    let mut bytes = [0; 8];
-    emit_u64(&mut bytes, value).unwrap();
-    bytes
-}
-
-/// Encodes an `i32`.
-fn i32_bytes(value: i32) -> [u8; 4]
-    ensures { result ≡ bytes_le (unsigned 4 value) 4 }
-{
-    let mut bytes = [0; 4];
-    emit_i32(&mut bytes, value).unwrap();
-    bytes
-}
-
-/// Encodes an `i64`.
-fn i64_bytes(value: i64) -> [u8; 8]
-    ensures { result ≡ bytes_le (unsigned 8 value) 8 }
-{
-    let mut bytes = [0; 8];
-    emit_i64(&mut bytes, value).unwrap();
-    bytes
-}
-
-/// Encodes a big-endian `u16`.
-fn be16_bytes(value: u16) -> [u8; 2]
-    ensures { result ≡ bytes_be value 2 }
-{
-    let mut bytes = [0; 2];
-    emit_u16_be(&mut bytes, value).unwrap();
-    bytes
-}
-
-/// Encodes a big-endian `u32`.
-fn be32_bytes(value: u32) -> [u8; 4]
-    ensures { result ≡ bytes_be value 4 }
-{
-    let mut bytes = [0; 4];
-    emit_u32_be(&mut bytes, value).unwrap();
-    bytes
-}
-
-/// Encodes a big-endian `u64`.
-fn be64_bytes(value: u64) -> [u8; 8]
-    ensures { result ≡ bytes_be value 8 }
-{
-    let mut bytes = [0; 8];
-    emit_u64_be(&mut bytes, value).unwrap();
-    bytes
-}

@@ -1,8 +1,8 @@
 //! Messages as text.
 
-ghost use Rattle.std.specs.Prelude.{◌≡◌, ◌+◌, ◌<◌, ◌++◌, [], ◌∷◌, IfOk, OnOk, decimal, drop, string_bytes, take, true};
+ghost use Rattle.std.specs.Prelude.{◌≡◌, ◌+◌, ◌<◌, ◌++◌, [], IfOk, OnOk, decimal, drop, string_bytes, take};
 ghost use Rattle.std.specs.Fmt.{signed_decimal};
-ghost use Rattle.netlink_shapes.specs.Shapes.{fields_in, rows_in, shape_among, within, are_sorted};
+ghost use Rattle.netlink_shapes.specs.Shapes.{fields_in, rows_in, shape_among, within};
 ghost use Rattle.netlink_blocks.specs.Show.{value_line, block_lines, each_of, field_lines, fixed_size, label_text, nest_line, indent, escaped, message_text, name_in, value_lines, value_text};
 
 use crate::family::{Table, rows_of};
@@ -13,8 +13,9 @@ use netlink_shapes::choice::{NO_CHOICES, kept_shape_among};
 use netlink_shapes::decoders::{
     be16_in, be32_in, be64_in, bytes_until_nul, i32_in, i64_in, u16_in, u32_in, u64_in,
 };
+use netlink_shapes::rows::Rows;
 use netlink_shapes::shape::{
-    NEST_LEVELS, Row, Shape, TOP, find_row, has_shape, nest_block, nest_start, policy_of,
+    NEST_LEVELS, Shape, TOP, find_row, has_shape, nest_block, nest_start, policy_of,
 };
 use std::alloc::{AllocError, Global};
 use std::fmt::Write;
@@ -99,15 +100,14 @@ pub fn name_of<F: Table>(message_type: u16, policy: u16, kind: u16) -> &'static 
 fn push_block(
     text: &mut String,
     levels: u8,
-    rows: &[Row],
+    rows: Rows,
     policy: u16,
     depth: u8,
     block: &[u8],
 ) -> Result<(), AllocError>
-    requires sorted { are_sorted (rows_in rows.now) ≡ true }
     requires room { depth + levels < 256 }
     ensures { OnOk result (string_bytes text.new ≡ string_bytes text.old
-        ++ block_lines levels (rows_in rows.now) policy depth block.now) }
+        ++ block_lines levels (rows_in rows.list.now) policy depth block.now) }
 {
     let mut choices = NO_CHOICES;
     for item in NlasIterator::new(block) {
@@ -129,7 +129,7 @@ fn push_block(
 fn push_attribute(
     text: &mut String,
     levels: u8,
-    rows: &[Row],
+    rows: Rows,
     policy: u16,
     depth: u8,
     _around: &[u8],
@@ -137,11 +137,10 @@ fn push_attribute(
     kind: u16,
     value: &[u8],
 ) -> Result<(), AllocError>
-    requires sorted { are_sorted (rows_in rows.now) ≡ true }
     requires room { depth + levels < 256 }
-    requires shape { shape ≡ shape_among (within (rows_in rows.now) _around.now) policy kind }
+    requires shape { shape ≡ shape_among (within (rows_in rows.list.now) _around.now) policy kind }
     ensures { OnOk result (string_bytes text.new ≡ string_bytes text.old
-        ++ value_lines levels (within (rows_in rows.now) _around.now) policy depth kind value.now) }
+        ++ value_lines levels (within (rows_in rows.list.now) _around.now) policy depth kind value.now) }
 {
     push_label(text, rows, policy, depth, kind)?;
     match policy_of(shape) {
@@ -178,14 +177,13 @@ fn push_nest_line(text: &mut String, start: usize, value: &[u8]) -> Result<(), A
 /// Appends the name of a kind, indented; its number if it has no name.
 fn push_label(
     text: &mut String,
-    rows: &[Row],
+    rows: Rows,
     policy: u16,
     depth: u8,
     kind: u16,
 ) -> Result<(), AllocError>
-    requires sorted { are_sorted (rows_in rows.now) ≡ true }
     ensures { OnOk result (string_bytes text.new
-        ≡ string_bytes text.old ++ label_text (rows_in rows.now) policy depth kind) }
+        ≡ string_bytes text.old ++ label_text (rows_in rows.list.now) policy depth kind) }
 {
     push_indent(text, depth)?;
     let name = row_name(rows, policy, kind);
@@ -208,9 +206,8 @@ fn push_value_line(text: &mut String, shape: Shape, value: &[u8]) -> Result<(), 
 }
 
 /// Returns the name of a kind in a policy; empty if it has no row.
-fn row_name(rows: &[Row], policy: u16, kind: u16) -> &'static str
-    requires sorted { are_sorted (rows_in rows.now) ≡ true }
-    ensures { result.now ≡ name_in (rows_in rows.now) policy kind }
+fn row_name(rows: Rows, policy: u16, kind: u16) -> &'static str
+    ensures { result.now ≡ name_in (rows_in rows.list.now) policy kind }
 {
     match find_row(rows, policy, kind) {
         Some(row) => row.2,

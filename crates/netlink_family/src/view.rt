@@ -1,13 +1,13 @@
 //! A message read in place, without a copy.
 
-ghost use Rattle.std.specs.Prelude.{◌≡◌, ◌+◌, ◌≤◌, ◌++◌, ℕ, List, Option, None, OnOk, Some, IfErr, IfOk, drop, false, length, take, true, ⊤};
+ghost use Rattle.std.specs.Prelude.{◌≡◌, ◌+◌, ◌++◌, ℕ, List, Option, None, OnOk, Some, IfErr, IfOk, drop, false, length, take, true, ⊤};
 ghost use Rattle.netlink_packet_core.specs.Attribute.{Attribute};
 ghost use Rattle.netlink_packet_core.specs.Block.{canonical_block};
 ghost use Rattle.netlink_packet_core.specs.DecodeError.{DecodeError};
 ghost use Rattle.netlink_packet_core.specs.Frame.{Begins, Frame};
 ghost use Rattle.netlink_packet_core.specs.Walk.{Walk};
 ghost use Rattle.netlink_family.specs.PayloadReading.{short_reading};
-ghost use Rattle.netlink_shapes.specs.Errors.{family_error};
+ghost use Rattle.netlink_family.specs.Tables.{table_error};
 ghost use Rattle.netlink_shapes.specs.Shapes.{has_type, reading_by, rows_in};
 ghost use Rattle.netlink_shapes.specs.Short.{is_short, sent};
 
@@ -35,7 +35,7 @@ pub struct MessageView<'a, F: Table> {
     pub payload: &'a [u8],
     /// The family of the message.
     pub family: PhantomData<F>,
-    pub ghost good: { family_error F.types F.short F.header_len F.rows message_type payload.now ≡ None },
+    pub ghost good: { table_error F.Table message_type payload.now ≡ None },
 }
 
 impl<'a, F: Table> Clone for MessageView<'a, F> {
@@ -56,8 +56,8 @@ impl<'a, F: Table> MessageView<'a, F> {
     pub fn new(message_type: u16, payload: &'a [u8]) -> Result<Self, FamilyError>
         ensures message_type { IfOk result (λ v. v.message_type ≡ message_type) }
         ensures payload { IfOk result (λ v. v.payload.now ≡ payload.now) }
-        ensures good { IfOk result (λ _. family_error F.types F.short F.header_len F.rows message_type payload.now ≡ None) }
-        ensures error { IfErr result (λ e. family_error F.types F.short F.header_len F.rows message_type payload.now ≡ Some e) }
+        ensures good { IfOk result (λ _. table_error F.Table message_type payload.now ≡ None) }
+        ensures error { IfErr result (λ e. table_error F.Table message_type payload.now ≡ Some e) }
     {
         let all = CheckedAttributes::<F>::new(message_type, payload)?;
         if !has_shapes(all.rows, all.block, all.walk) {
@@ -111,7 +111,7 @@ impl<'a, F: Table> MessageView<'a, F> {
 
     /// Returns a view of the attributes, with getters by kind and an iterator.
     pub fn view(&self) -> BlockView<'a>
-        ensures rows { rows_in result.rows.now ≡ F.rows self.now.message_type }
+        ensures rows { rows_in result.rows.list.now ≡ F.rows self.now.message_type }
         ensures policy { result.policy ≡ 0 }
         ensures block { result.block.now ≡ drop (F.header_len self.now.message_type) self.now.payload.now }
     {
@@ -200,7 +200,7 @@ impl<F: Table> OwnedMessage<F> {
     /// Returns a view of the attributes, with getters by kind and an iterator.
     #[tactic(auto, using(crate::specs::ShortLaws::sent_block))]
     pub fn view(&self) -> BlockView<'_>
-        ensures rows { rows_in result.rows.now ≡ F.rows self.now.message_type }
+        ensures rows { rows_in result.rows.list.now ≡ F.rows self.now.message_type }
         ensures policy { result.policy ≡ 0 }
         ensures block { result.block.now ≡ drop (F.header_len self.now.message_type) self.now.bytes.items }
     {

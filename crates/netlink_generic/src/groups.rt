@@ -21,7 +21,7 @@ use netlink_family::{Attributes, BlockView, Value};
 pub struct Groups<'a> {
     /// The rest of the array.
     pub array: Attributes<'a>,
-    pub ghost rows: { rows_in array.rows.now ≡ controller_rows },
+    pub ghost rows: { rows_in array.rows.list.now ≡ controller_rows },
     pub ghost policy: { array.policy ≡ GROUPS },
 }
 
@@ -37,7 +37,7 @@ pub fn family_groups<'a>(message: &ControllerView<'a>) -> Groups<'a>
 
 /// Returns a view of the array of multicast groups in a message, an empty one if there is none.
 fn groups_view<'a>(message: &ControllerView<'a>) -> BlockView<'a>
-    ensures rows { rows_in result.rows.now ≡ controller_rows }
+    ensures rows { rows_in result.rows.list.now ≡ controller_rows }
     ensures policy { result.policy ≡ GROUPS }
     ensures block { result.block.now ≡ groups_in message.now.payload.now }
 {

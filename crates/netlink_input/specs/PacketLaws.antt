@@ -1,17 +1,15 @@
 -- One step over the packets of a pcap file, where its bytes are known.
-use Rattle.std.proofs.Common.{◌≡◌, ◌≢◌, ◌<◌, ◌≤◌, ◌+◌, ◌∙◌, ℕ, List, [], ◌++◌, Option, Some, None, IfSome, length, ap, sym, subst, arith, inl, inr, append-nil, length-append}
+use Rattle.std.proofs.Common.{◌≡◌, ◌<◌, ◌≤◌, ◌+◌, ◌∙◌, ℕ, List, ◌++◌, Option, Some, None, IfSome, length, ap, sym, subst, arith, inl, inr, append-nil, length-append}
 use Rattle.std.proofs.KnownBytes.{Consumes-trans}
 use Rattle.std.specs.Io.KnownBytes.{Consumes, IsAtEnd}
 use Rattle.std.specs.Prelude.{◌⊎◌}
-use Rattle.netlink_input.specs.Packet.{IsPacketFault, IsWholePacket, captured_of}
+use Rattle.netlink_input.specs.Packet.{IsWholePacket, captured_of}
 use Rattle.netlink_input.specs.Reading.{TriesPacket, TriesUpTo}
 use Rattle.netlink_input.specs.Stream.{longest}
 use Rattle.netlink_input.specs.declared.pcap.Order.{Order}
-use Rattle.netlink_input.specs.declared.pcap.PcapFault.TheVariants.{PacketShort, PacketLong, PacketCut}
 use Rattle.netlink_input.specs.declared.fault.Fault.{Fault}
 use Rattle.netlink_input.specs.declared.fault.Fault.TheVariants.{OutOfMemory, Read}
 use Rattle.netlink_input.specs.LayoutLaws.{number_in_first}
-use Rattle.netlink_input.specs.ReadingLaws.{some_bytes}
 
 -- the captured length is in the first 16 bytes
 pub captured_in : (order : Order) (head more : List ℕ) → 16 ≤ length head
@@ -19,42 +17,6 @@ pub captured_in : (order : Order) (head more : List ℕ) → 16 ≤ length head
 captured_in order head more long = number_in_first order 8 4 head more (omega (arith, long))
 
 -- ---- how a file ends
-
-pub packet_short : (order : Order) (old new : Option (List ℕ)) (front : List ℕ) (n : ℕ) → Consumes old new front
-    → length front ≡ n → 0 < n → n < 16 → IsAtEnd new
-    → IfSome old (λ rest. (rest ≢ []) × IsPacketFault order rest (PacketShort n))
-packet_short order None new front n took size some short end = tt
-packet_short order (Some xs) None front n took size some short end = absurd took
-packet_short order (Some xs) (Some ys) front n took size some short end =
-    let whole : xs ≡ front = took ∙ ap (λ (l : List ℕ). front ++ l) end ∙ append-nil front in
-    let long : length xs ≡ n = ap length whole ∙ size in
-    (some_bytes xs (omega (arith, long, some)), (omega (arith, long, short), sym long))
-
-pub packet_long : (order : Order) (old new : Option (List ℕ)) (head : List ℕ) (said : ℕ) → Consumes old new head
-    → length head ≡ 16 → said ≡ captured_of order head → longest < said
-    → IfSome old (λ rest. (rest ≢ []) × IsPacketFault order rest (PacketLong said))
-packet_long order None new head said took size is high = tt
-packet_long order (Some xs) None head said took size is high = absurd took
-packet_long order (Some xs) (Some ys) head said took size is high =
-    let same = ap (captured_of order) took ∙ captured_in order head ys (omega (arith, size)) in
-    let long : length xs ≡ length head + length ys = ap length took ∙ length-append head ys in
-    (some_bytes xs (omega (arith, long, size)), (omega (arith, long, size), is ∙ sym same, high))
-
-pub packet_cut : (order : Order) (old middle new : Option (List ℕ)) (head body : List ℕ) (said n : ℕ)
-    → Consumes old middle head → Consumes middle new body → length head ≡ 16 → said ≡ captured_of order head
-    → n ≡ length body → n < said → said ≤ longest → IsAtEnd new
-    → IfSome old (λ rest. (rest ≢ []) × IsPacketFault order rest (PacketCut said n))
-packet_cut order None middle new head body said n took more size is whole short most end = tt
-packet_cut order (Some xs) None new head body said n took more size is whole short most end = absurd took
-packet_cut order (Some xs) (Some ys) None head body said n took more size is whole short most end = absurd more
-packet_cut order (Some xs) (Some ys) (Some zs) head body said n took more size is whole short most end =
-    let rest : ys ≡ body = more ∙ ap (λ (l : List ℕ). body ++ l) end ∙ append-nil body in
-    let same = ap (captured_of order) took ∙ captured_in order head ys (omega (arith, size)) in
-    let long : length xs ≡ length head + length ys = ap length took ∙ length-append head ys in
-    let left : length ys ≡ length body = ap length rest in (
-      some_bytes xs (omega (arith, long, size)),
-      (omega (arith, long, size), is ∙ sym same, most, omega (arith, long, left, whole, size), short),
-    )
 
 -- all bytes of a packet that they end in were read
 pub keeps_cut : (old middle new : Option (List ℕ)) (head body packet : List ℕ) → Consumes old middle head

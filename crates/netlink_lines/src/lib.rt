@@ -67,5 +67,5 @@ pub use netlink_names::name_table::{NameTable, Names};
 pub use netlink_route_lines::namespace::namespace_text;
 pub use netlink_route_lines::route::route_text;
 pub use netlink_route_lines::rule::rule_text;
-pub use netlink_words::names::{family_text, scope_text, state_text};
+pub use netlink_words::number_names::{family_text, scope_text, state_text};
 pub use netlink_words::text::{ip_words, name_text, sentence_text};

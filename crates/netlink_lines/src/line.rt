@@ -10,14 +10,12 @@ use crate::system_errors::error_name;
 use netlink_address_lines::address::address_line;
 use netlink_address_lines::neighbour::neighbour_line;
 use netlink_address_lines::neighbour_table::neighbour_table_line;
-use netlink_family::{Both, Family, Joined, MessageView};
+use netlink_family::{Family, Joined, MessageView};
 use netlink_link_lines::link::link_line;
 use netlink_names::device::Known;
 use netlink_names::known::learn_link;
 use netlink_names::name_table::{NameTable, Names};
-use netlink_route::{
-    Addresses, Links, Namespaces, NeighbourTables, Neighbours, RouteTables, Routes, Rules,
-};
+use netlink_route::{AllTables, LaterTables, OtherTables, RouteTables};
 use netlink_route_lines::namespace::namespace_text;
 use netlink_route_lines::route::route_entry_line;
 use netlink_route_lines::rule::rule_text;
@@ -136,13 +134,6 @@ fn line_of(
         },
     }
 }
-
-/// The tables of route netlink, those that follow links and addresses, and those that follow routes.
-type AllTables = Both<Links, Both<Addresses, OtherTables>>;
-
-type OtherTables = Both<Neighbours, Both<Routes, LaterTables>>;
-
-type LaterTables = Both<Rules, Both<NeighbourTables, Namespaces>>;
 
 /// Returns the line of a message about neither a link nor an address, if it has one.
 fn other_line(

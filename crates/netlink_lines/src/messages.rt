@@ -2,7 +2,7 @@
 
 ghost use Rattle.std.specs.Prelude.{◌≡◌, false, IfOk, OnOk, if◌then◌else◌, string_bytes};
 ghost use Rattle.std.specs.Option.{option_copied};
-ghost use Rattle.netlink_family.specs.Errors.{family_error};
+ghost use Rattle.netlink_family.specs.Tables.{table_error};
 ghost use Rattle.netlink_packet_core.specs.FrameWalk.{IsWholeFrame};
 ghost use Rattle.netlink_packet_core.specs.Header.{header_of, payload_of};
 ghost use Rattle.netlink_replies.specs.Meaning.{shown_item};
@@ -49,7 +49,7 @@ pub(crate) fn next_lines<F: Line>(
     frame: &[u8],
 ) -> Result<Shown, AllocError>
     requires whole { IsWholeFrame frame.now }
-    ensures tells { IfOk result (λ s. Tells (family_error F.types F.short F.header_len F.rows) at frame.now
+    ensures tells { IfOk result (λ s. Tells (table_error F.Table) at frame.now
         (memory_of state.old) (string_bytes s.text, s.is_malformed) (memory_of state.new)) }
 {
     let before = state.time;
@@ -80,10 +80,10 @@ fn family_shown<F: Line>(
     frame: &[u8],
 ) -> Result<Shown, AllocError>
     requires whole { IsWholeFrame frame.now }
-    ensures names { OnOk result (known.new ≡ known_after (family_error F.types F.short F.header_len F.rows)
+    ensures names { OnOk result (known.new ≡ known_after (table_error F.Table)
         frame.now known.old) }
     ensures lines { IfOk result (λ s. (string_bytes s.text, s.is_malformed) ≡ family_lines known.new at frame.now
-        (family_error F.types F.short F.header_len F.rows (header_of frame.now).message_type (payload_of frame.now))) }
+        (table_error F.Table (header_of frame.now).message_type (payload_of frame.now))) }
 {
     let view = NetlinkBuffer::new(frame);
     let flags = view.flags();
@@ -155,7 +155,7 @@ fn lines_of<F: Line>(
     frame: &[u8],
 ) -> Result<Shown, AllocError>
     requires whole { IsWholeFrame frame.now }
-    ensures lines { IfOk result (λ s. HasLines (family_error F.types F.short F.header_len F.rows) known.now at
+    ensures lines { IfOk result (λ s. HasLines (table_error F.Table) known.now at
         frame.now (string_bytes s.text, s.is_malformed)) }
 {
     let item = meaning_of(frame);
@@ -190,7 +190,7 @@ fn item_shown<F: Line>(
 ) -> Result<Shown, AllocError>
     requires whole { IsWholeFrame frame.now }
     ensures { IfOk result (λ s. (string_bytes s.text, s.is_malformed)
-        ≡ item_lines (family_error F.types F.short F.header_len F.rows) known.now at frame.now
+        ≡ item_lines (table_error F.Table) known.now at frame.now
         (option_copied text.entry) (shown_item item.entry)) }
 {
     let line = match item {
@@ -216,7 +216,7 @@ fn own_shown<F: Line>(
 ) -> Result<Shown, AllocError>
     requires whole { IsWholeFrame frame.now }
     ensures { IfOk result (λ s. (string_bytes s.text, s.is_malformed)
-        ≡ own_lines (family_error F.types F.short F.header_len F.rows) known.now at frame.now) }
+        ≡ own_lines (table_error F.Table) known.now at frame.now) }
 {
     let view = NetlinkBuffer::new(frame);
     let message_type = view.message_type();

@@ -7,35 +7,12 @@ use Rattle.netlink_packet_core.specs.Walk.{Starts}
 use Rattle.netlink_family.specs.Listing.{listed}
 use Rattle.netlink_family.specs.ListingLaws.{before_step}
 use Rattle.netlink_family.specs.Strings.{until_nul}
-use Rattle.netlink_family.specs.Values.{IsValueOf, value_bytes, value_shape}
+use Rattle.netlink_family.specs.Values.{IsValueOf, is_kept, kept_bytes, value_bytes, value_shape}
 use Rattle.netlink_family.specs.declared.shape.Shape.TheVariants as shape
 use Rattle.netlink_family.specs.declared.value.Value.{Value}
-use Rattle.netlink_family.specs.declared.value.Value.TheVariants as variant
 use Rattle.netlink_route.specs.declared.links.TheConstants.{IFLA_ALT_IFNAME}
-use Rattle.netlink_link_lines.specs.LinkNames.{alternative_part, with_alternative}
+use Rattle.netlink_link_lines.specs.LinkProperties.{alternative_part, with_alternative}
 use Rattle.netlink_words.specs.Parts.{string_part, with_part}
-
--- the value of a name has the bytes that it was read from
-value_is : (value : Value) (bytes : List ℕ) → value_shape value ≡ shape.Str → IsValueOf value bytes
-    → value_bytes value ≡ bytes
-value_is (variant.Str b) bytes same is = is
-value_is variant.Flag bytes same is = absurd (cc)
-value_is (variant.U8 n) bytes same is = absurd (cc)
-value_is (variant.U16 n) bytes same is = absurd (cc)
-value_is (variant.U32 n) bytes same is = absurd (cc)
-value_is (variant.U64 n) bytes same is = absurd (cc)
-value_is (variant.I32 n) bytes same is = absurd (cc)
-value_is (variant.I64 n) bytes same is = absurd (cc)
-value_is (variant.Be16 n) bytes same is = absurd (cc)
-value_is (variant.Be32 n) bytes same is = absurd (cc)
-value_is (variant.Be64 n) bytes same is = absurd (cc)
-value_is (variant.ExactLen b) bytes same is = absurd (cc)
-value_is (variant.Ip b) bytes same is = absurd (cc)
-value_is (variant.NulStr b) bytes same is = absurd (cc)
-value_is (variant.MinLen size b) bytes same is = absurd (cc)
-value_is (variant.Nested inner) bytes same is = absurd (cc)
-value_is (variant.HeaderNested header inner) bytes same is = absurd (cc)
-value_is (variant.Bytes b) bytes same is = absurd (cc)
 
 -- only the bytes of a name matter
 by_name : (named : Bool) (one two : List ℕ) → (named ≡ true → one ≡ two)
@@ -60,7 +37,7 @@ property_step text new bytes rest whole a kind value starts same_kind is named p
     let property : new ≡ with_alternative text a =
     pushed
     ∙ ap (λ (part : List ℕ). with_part text part)
-    (same_part kind (value_bytes value) a.value (λ at. value_is value a.value (named at) is))
+    (same_part kind (value_bytes value) a.value (λ at. kept_bytes value a.value (ap is_kept (named at)) is))
     ∙ ap (λ (k : ℕ). with_part text (alternative_part k a.value)) same_kind in
     ap (λ (t : List ℕ). fold with_alternative t (listed rest)) property
     ∙ sym (ap (fold with_alternative text) (before_step bytes a rest starts)) ∙ before

@@ -2,5 +2,6 @@ pub mod Flags
 pub mod Hardware
 pub mod Link
 pub mod LinkAddress
-pub mod LinkNames
 pub mod LinkParts
+pub mod LinkProperties
+pub mod LinkSpaces

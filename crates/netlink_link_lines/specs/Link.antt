@@ -11,9 +11,10 @@ use Rattle.netlink_names.specs.Device.{device_text}
 use Rattle.netlink_names.specs.Known.{link_bytes, link_header, link_index, link_number, link_string}
 use Rattle.netlink_link_lines.specs.Flags.{flags_text}
 use Rattle.netlink_link_lines.specs.LinkAddress.{hardware_parts}
-use Rattle.netlink_link_lines.specs.LinkNames.{alternatives_text, space_parts}
+use Rattle.netlink_link_lines.specs.LinkProperties.{alternatives_text}
+use Rattle.netlink_link_lines.specs.LinkSpaces.{space_parts}
 use Rattle.netlink_link_lines.specs.LinkParts.{setting_parts}
-use Rattle.netlink_words.specs.Names.{link_verb_text}
+use Rattle.netlink_words.specs.NumberNames.{link_verb_text}
 use Rattle.netlink_words.specs.Parts.{string_part, with_part, with_parts, words_part}
 use Rattle.netlink_words.specs.Text.{name_text}
 use Rattle.netlink_names.specs.declared.device.Known.{Known}

@@ -6,7 +6,7 @@ use Rattle.netlink_family.specs.Strings.{until_nul}
 use Rattle.netlink_packet_core.specs.Numbers.{number_le}
 use Rattle.netlink_route.specs.declared.links.TheConstants.{IFLA_EVENT, IFLA_GROUP, IFLA_LINKMODE, IFLA_MASTER, IFLA_MTU, IFLA_OPERSTATE, IFLA_QDISC, IFLA_TXQLEN}
 use Rattle.netlink_names.specs.Device.{device_part}
-use Rattle.netlink_words.specs.Names.{state_text}
+use Rattle.netlink_words.specs.NumberNames.{state_text}
 use Rattle.netlink_words.specs.Parts.{keyed, number_part, string_part, when}
 use Rattle.netlink_names.specs.declared.device.Known.{Known}
 

@@ -6,7 +6,7 @@
 //!
 //! | word of a line | function | definition |
 //! |---|---|---|
-//! | `Deleted `, `Get `, `Set ` | `link::verb_text` | `netlink_words::Names::link_verb_text` |
+//! | `Deleted `, `Get `, `Set ` | `link::verb_text` | `netlink_words::NumberNames::link_verb_text` |
 //! | `3: `, the index | `link::push_names` | `Link::link_front` |
 //! | `d0`, the name | `link::push_own_name` | `Link::link_name` |
 //! | `@d1`, `@NONE` | `link::push_below` | `Link::below_words` |
@@ -28,12 +28,12 @@
 //! | `brd`, `peer` | `link_address::broadcast_key` | `LinkAddress::broadcast_key` |
 //! | `ff:ff:ff:ff:ff:ff` after it | `link_address::push_keyed_address` | `LinkAddress::link_address` |
 //! | `permaddr ec:3b:6f:42:cb:fe` | `link_address::push_permanent` | `LinkAddress::permanent_part` |
-//! | `link-netnsid 0` | `link_names::push_lower_space` | `LinkNames::space_part` |
-//! | `new-netnsid 1` | `link_names::push_spaces` | `LinkNames::space_parts` |
-//! | `new-ifindex 7` | `link_names::push_spaces` | `LinkNames::space_parts` |
-//! | `protodown on` | `link_names::push_down` | `LinkNames::down_part` |
+//! | `link-netnsid 0` | `link_spaces::push_lower_space` | `LinkSpaces::space_part` |
+//! | `new-netnsid 1` | `link_spaces::push_spaces` | `LinkSpaces::space_parts` |
+//! | `new-ifindex 7` | `link_spaces::push_spaces` | `LinkSpaces::space_parts` |
+//! | `protodown on` | `link_spaces::push_down` | `LinkSpaces::down_part` |
 //! | `alias uplink of rack 4` | `link::line_of` | `Link::link_line` |
-//! | `altname enp0s4` | `link_names::push_property` | `LinkNames::alternative_part` |
+//! | `altname enp0s4` | `link_properties::push_property` | `LinkProperties::alternative_part` |
 //! | `kind veth` | `link::line_of` | `Link::link_line` |
 #![tactic(auto)]
 
@@ -41,5 +41,6 @@ pub mod flags;
 pub mod hardware;
 pub mod link;
 pub mod link_address;
-pub mod link_names;
 pub mod link_parts;
+pub mod link_properties;
+pub mod link_spaces;

@@ -5,12 +5,13 @@ ghost use Rattle.std.specs.Option.{option_copied};
 ghost use Rattle.netlink_route.specs.declared.links.TheConstants.{IFLA_IFNAME, IFLA_LINK, IFLA_LINK_NETNSID};
 ghost use Rattle.netlink_link_lines.specs.Link.{below_name, below_words, link_front, link_kind, link_line, link_name, link_names, link_signed};
 ghost use Rattle.netlink_names.specs.Known.{link_number, link_string};
-ghost use Rattle.netlink_words.specs.Names.{link_verb_text};
+ghost use Rattle.netlink_words.specs.NumberNames.{link_verb_text};
 
 use crate::flags::push_flags;
 use crate::link_address::push_hardware_parts;
-use crate::link_names::{push_alternatives, push_spaces};
 use crate::link_parts::push_settings;
+use crate::link_properties::push_alternatives;
+use crate::link_spaces::push_spaces;
 use netlink_family::{MessageIndex, MessageView};
 use netlink_names::device::{Known, push_device_name};
 use netlink_names::name_table::Names;

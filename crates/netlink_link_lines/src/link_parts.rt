@@ -13,7 +13,7 @@ use netlink_route::links::{
     IFLA_TXQLEN,
 };
 use netlink_words::digits::push_decimal;
-use netlink_words::names::push_state;
+use netlink_words::number_names::push_state;
 use netlink_words::parts::{push_key, push_keyed, push_number, push_string};
 use std::alloc::{AllocError, Global};
 

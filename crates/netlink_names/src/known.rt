@@ -9,7 +9,7 @@ ghost use Rattle.netlink_names.specs.Known.{has_name, link_known, longest_name, 
 use crate::device::Known;
 use crate::name::Name;
 use crate::name_table::{Names, name_of};
-use crate::short::LONGEST_NAME;
+use crate::short_name::LONGEST_NAME;
 use netlink_family::MessageView;
 use netlink_route::Links;
 use netlink_route::links::{IFI_INDEX, IFLA_IFNAME, RTM_DELLINK, RTM_NEWLINK};

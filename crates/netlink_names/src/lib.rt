@@ -18,4 +18,4 @@ pub mod known;
 pub mod name;
 pub mod name_queue;
 pub mod name_table;
-pub mod short;
+pub mod short_name;

@@ -10,7 +10,7 @@ use crate::device::Known;
 use crate::known::{MOST_LINKS, is_settled};
 use crate::name::Name;
 use crate::name_table::Names;
-use crate::short::Short;
+use crate::short_name::Short;
 use std::alloc::{AllocError, Global};
 use std::collections::BTreeMap;
 use std::marker::Model;

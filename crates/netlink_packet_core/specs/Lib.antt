@@ -31,12 +31,14 @@ pub use Rattle.netlink_attributes.specs.Steps
 pub use Rattle.netlink_attributes.specs.Views
 pub use Rattle.netlink_attributes.specs.Walk
 pub use Rattle.netlink_attributes.specs.WalkLaws
+pub use Rattle.netlink_attributes.specs.ZeroPadding
 pub use Rattle.netlink_attributes.specs.declared.fitting.NlaBlock
 pub use Rattle.netlink_bytes.specs.Causes
 pub use Rattle.netlink_bytes.specs.Contexts
 pub use Rattle.netlink_bytes.specs.Fields
 pub use Rattle.netlink_bytes.specs.Lending
 pub use Rattle.netlink_bytes.specs.NonZero
+pub use Rattle.netlink_bytes.specs.NumberBytes
 pub use Rattle.netlink_bytes.specs.Storage
 pub use Rattle.netlink_bytes.specs.StorageLaws
 pub use Rattle.netlink_bytes.specs.Text

@@ -68,6 +68,7 @@ pub use netlink_attributes::append_nla;
 pub use netlink_attributes::append_padding;
 pub use netlink_attributes::emit_nla;
 pub use netlink_attributes::is_canonical_nlas;
+pub use netlink_attributes::is_zero_padded;
 pub use netlink_attributes::nla_align;
 pub use netlink_attributes::nla_buffer_len;
 pub use netlink_attributes::nla_find;

@@ -29,5 +29,5 @@ hop_by (Some item) = hop_of item.0 item.1
 abbrev pub YieldsHop : Attributes → Option NextHop → Attributes → Type 0
 YieldsHop before hop after =
     (item : Option (ℕ × Value))
-    × YieldsValue (within (rows_in before.rows.now) before.block.now) before.policy (unread before.walk) item (unread after.walk)
+    × YieldsValue (within (rows_in before.rows.list.now) before.block.now) before.policy (unread before.walk) item (unread after.walk)
     × (hop ≡ hop_by item)

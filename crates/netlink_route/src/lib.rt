@@ -23,6 +23,6 @@ pub use crate::namespaces::{NamespaceMessage, Namespaces};
 pub use crate::neighbour_tables::{NeighbourTableMessage, NeighbourTables};
 pub use crate::neighbours::{NeighbourMessage, Neighbours};
 pub use crate::next_hops::{NextHop, NextHops};
-pub use crate::route::{RouteMessage, RouteTables};
+pub use crate::route::{AllTables, LaterTables, OtherTables, RouteMessage, RouteTables};
 pub use crate::routes::{RouteEntryMessage, Routes};
 pub use crate::rules::{RuleMessage, Rules};

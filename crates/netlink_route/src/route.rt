@@ -16,14 +16,17 @@ use netlink_family::{Both, Join, Joined, OwnedMessage};
 #[derive(Clone, Copy, Debug, PartialEq, Eq)]
 pub struct RouteTables;
 
+/// The tables of route netlink. `split` of a message takes off the first.
+pub type AllTables = Both<Links, Both<Addresses, OtherTables>>;
+
 /// The tables that follow those of links and addresses.
-pub type OtherTables = Both<
-    Neighbours,
-    Both<Routes, Both<Rules, Both<NeighbourTables, Namespaces>>>,
->;
+pub type OtherTables = Both<Neighbours, Both<Routes, LaterTables>>;
+
+/// The tables that follow those of routes.
+pub type LaterTables = Both<Rules, Both<NeighbourTables, Namespaces>>;
 
 impl Join for RouteTables {
-    type All = Both<Links, Both<Addresses, OtherTables>>;
+    type All = AllTables;
 
     ghost disjoint = { refl };
 }

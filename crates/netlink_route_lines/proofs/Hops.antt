@@ -5,35 +5,12 @@ use Rattle.netlink_packet_core.specs.Attribute.{Attribute}
 use Rattle.netlink_packet_core.specs.Walk.{Starts}
 use Rattle.netlink_family.specs.Listing.{listed}
 use Rattle.netlink_family.specs.ListingLaws.{before_step}
-use Rattle.netlink_family.specs.Values.{IsValueOf, value_bytes, value_shape}
+use Rattle.netlink_family.specs.Values.{IsValueOf, is_kept, kept_bytes, value_bytes, value_shape}
 use Rattle.netlink_family.specs.declared.shape.Shape.TheVariants as shape
 use Rattle.netlink_family.specs.declared.value.Value.{Value}
-use Rattle.netlink_family.specs.declared.value.Value.TheVariants as variant
 use Rattle.netlink_words.specs.Parts.{with_parts}
 use Rattle.netlink_route_lines.specs.RouteHops.{hop_parts, with_hop}
 use Rattle.netlink_names.specs.declared.device.Known.{Known}
-
--- the value of a next hop has the bytes that it was read from
-value_is : (value : Value) (bytes : List ℕ) → value_shape value ≡ shape.HeaderNested 4 0 → IsValueOf value bytes
-    → value_bytes value ≡ bytes
-value_is (variant.HeaderNested header inner) bytes same is = is
-value_is variant.Flag bytes same is = absurd (cc)
-value_is (variant.U8 n) bytes same is = absurd (cc)
-value_is (variant.U16 n) bytes same is = absurd (cc)
-value_is (variant.U32 n) bytes same is = absurd (cc)
-value_is (variant.U64 n) bytes same is = absurd (cc)
-value_is (variant.I32 n) bytes same is = absurd (cc)
-value_is (variant.I64 n) bytes same is = absurd (cc)
-value_is (variant.Be16 n) bytes same is = absurd (cc)
-value_is (variant.Be32 n) bytes same is = absurd (cc)
-value_is (variant.Be64 n) bytes same is = absurd (cc)
-value_is (variant.ExactLen b) bytes same is = absurd (cc)
-value_is (variant.Ip b) bytes same is = absurd (cc)
-value_is (variant.NulStr b) bytes same is = absurd (cc)
-value_is (variant.Str b) bytes same is = absurd (cc)
-value_is (variant.MinLen size b) bytes same is = absurd (cc)
-value_is (variant.Nested inner) bytes same is = absurd (cc)
-value_is (variant.Bytes b) bytes same is = absurd (cc)
 
 -- after a next hop, the rest leads to the same text
 pub hop_step : (known : List Known) (text new bytes rest whole : List ℕ) (a : Attribute) (word : ℕ) (value : Value)
@@ -43,6 +20,6 @@ pub hop_step : (known : List Known) (text new bytes rest whole : List ℕ) (a : 
 hop_step known text new bytes rest whole a word value starts kind is nest pushed before =
     let hop : new ≡ with_hop known text a =
     pushed ∙ ap (λ (k : ℕ). with_parts text (hop_parts known k (take 4 (value_bytes value)) (drop 4 (value_bytes value)))) kind
-    ∙ ap (λ (v : List ℕ). with_parts text (hop_parts known a.kind (take 4 v) (drop 4 v))) (value_is value a.value nest is) in
+    ∙ ap (λ (v : List ℕ). with_parts text (hop_parts known a.kind (take 4 v) (drop 4 v))) (kept_bytes value a.value (ap is_kept nest) is) in
     ap (λ (t : List ℕ). fold (with_hop known) t (listed rest)) hop
     ∙ sym (ap (fold (with_hop known) text) (before_step bytes a rest starts)) ∙ before

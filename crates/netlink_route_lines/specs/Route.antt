@@ -9,12 +9,12 @@ use Rattle.netlink_packet_core.specs.Numbers.{number_le}
 use Rattle.netlink_route.specs.declared.routes.TheConstants.{RTA_CACHEINFO, RTA_DST, RTA_FLOW, RTA_GATEWAY, RTA_IIF, RTA_MARK, RTA_METRICS, RTA_MULTIPATH, RTA_NH_ID, RTA_OIF, RTA_PREF, RTA_PREFSRC, RTA_PRIORITY, RTA_SRC, RTA_TABLE, RTA_UID, RTA_VIA}
 use Rattle.netlink_words.specs.Parts.{or_empty}
 use Rattle.netlink_names.specs.Device.{device_part}
-use Rattle.netlink_words.specs.Names.{protocol_text, route_type_text, scope_text, table_text}
+use Rattle.netlink_words.specs.NumberNames.{protocol_text, route_type_text, scope_text, table_text}
 use Rattle.netlink_words.specs.Parts.{host_length, keyed, number_part, prefix_text, realms_part, tos_part, when, with_parts}
 use Rattle.netlink_route_lines.specs.RouteCache.{cache_part, lifetime_parts}
 use Rattle.netlink_route_lines.specs.RouteHops.{hops_text, via_part}
 use Rattle.netlink_route_lines.specs.RouteMetrics.{metrics_text}
-use Rattle.netlink_route_lines.specs.RouteNames.{hop_flags_text, preference_text}
+use Rattle.netlink_route_lines.specs.RouteFlags.{hop_flags_text, preference_text}
 use Rattle.netlink_words.specs.Text.{ip_words}
 use Rattle.netlink_names.specs.declared.device.Known.{Known}
 

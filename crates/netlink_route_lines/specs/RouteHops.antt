@@ -14,9 +14,9 @@ use Rattle.netlink_packet_core.specs.Numbers.{number_le}
 use Rattle.netlink_route.specs.declared.routes.TheConstants.{NEXT_HOPS, RTA_FLOW, RTA_GATEWAY, RTA_VIA}
 use Rattle.netlink_words.specs.Parts.{or_empty}
 use Rattle.netlink_names.specs.Device.{device_part}
-use Rattle.netlink_words.specs.Names.{family_text}
+use Rattle.netlink_words.specs.NumberNames.{family_text}
 use Rattle.netlink_words.specs.Parts.{keyed, realms_part, with_parts}
-use Rattle.netlink_route_lines.specs.RouteNames.{hop_flags_text}
+use Rattle.netlink_route_lines.specs.RouteFlags.{hop_flags_text}
 use Rattle.netlink_words.specs.Text.{ip_words}
 use Rattle.netlink_names.specs.declared.device.Known.{Known}
 
@@ -56,10 +56,10 @@ hops_text known text (Some list) = fold (with_hop known) text (listed list)
 -- a view of a list of next hops, of one of them, and of the attributes of one, by the rows of the
 -- table of routes
 abbrev pub IsHops : List Row → BlockView → Type 0
-IsHops rows view = (rows_in view.rows.now ≡ rows) × (view.policy ≡ NEXT_HOPS)
+IsHops rows view = (rows_in view.rows.list.now ≡ rows) × (view.policy ≡ NEXT_HOPS)
 
 abbrev pub IsHop : List Row → Value → Type 0
 IsHop rows value = (value_shape value ≡ HeaderNested 4 0) × NestHasRows rows value
 
 abbrev pub IsOfHop : List Row → BlockView → Type 0
-IsOfHop rows view = (rows_in view.rows.now ≡ rows) × (view.policy ≡ 0)
+IsOfHop rows view = (rows_in view.rows.list.now ≡ rows) × (view.policy ≡ 0)

@@ -117,4 +117,4 @@ metrics_text (Some nest) = nest_text nest
 
 -- a view of the metrics of a route, by the rows of the table of routes
 abbrev pub IsMetrics : List Row → BlockView → Type 0
-IsMetrics rows view = (rows_in view.rows.now ≡ rows) × (view.policy ≡ METRICS)
+IsMetrics rows view = (rows_in view.rows.list.now ≡ rows) × (view.policy ≡ METRICS)

@@ -8,7 +8,7 @@ use Rattle.netlink_packet_core.specs.Fields.{number_at}
 use Rattle.netlink_packet_core.specs.Numbers.{number_le, signed}
 use Rattle.netlink_route.specs.declared.rules.TheConstants.{FRA_FLOW, FRA_GOTO, FRA_SUPPRESS_IFGROUP, FRA_SUPPRESS_PREFIXLEN, FRA_TABLE}
 use Rattle.netlink_words.specs.Parts.{or_empty}
-use Rattle.netlink_words.specs.Names.{protocol_text, route_type_text, table_text}
+use Rattle.netlink_words.specs.NumberNames.{protocol_text, route_type_text, table_text}
 use Rattle.netlink_words.specs.Parts.{keyed, realms_part}
 use Rattle.netlink_words.specs.Text.{name_text}
 

@@ -23,7 +23,7 @@
 //! | `scope link` | `route::push_other_scope` | `Route::scope_part` |
 //! | `src 10.1.0.1` | `route::push_origin` | `Route::origin_parts` |
 //! | `metric 7` | `route::push_origin` | `Route::origin_parts` |
-//! | `dead`, `onlink` and the other flags | `route_names::hop_flag_name` | `RouteNames::hop_flag_name` |
+//! | `dead`, `onlink` and the other flags | `route_flags::hop_flag_name` | `RouteFlags::hop_flag_name` |
 //! | `mark 0x10` | `route::push_mark` | `Route::mark_part` |
 //! | `realm 5`, `realms 3/5` | `route::push_kept` | `Route::kept_parts` |
 //! | `uid 0` | `route::push_kept` | `Route::kept_parts` |
@@ -37,14 +37,14 @@
 //! | `1400`, `5ms` or `ecn` after it | `route_metrics::value_text` | `RouteMetrics::metric_value` |
 //! | `congctl cubic` | `route_metrics::control_text` | `RouteMetrics::control_part` |
 //! | `iif if2` | `route::push_last` | `Route::last_parts` |
-//! | `pref medium` | `route_names::push_preference` | `RouteNames::preference_text` |
+//! | `pref medium` | `route_flags::push_preference` | `RouteFlags::preference_text` |
 //! | `nexthop` | `route_hops::push_hop_parts` | `RouteHops::hop_parts` |
 //! | `via 10.1.0.3` | `route_hops::push_next` | `RouteHops::hop_parts` |
 //! | `via inet6 fe80::1` | `route_hops::push_via` | `RouteHops::via_part` |
 //! | `realm 5`, `realms 3/5` | `route_hops::push_hop_parts` | `RouteHops::hop_parts` |
 //! | `dev if3` | `route_hops::push_hop_parts` | `RouteHops::hop_parts` |
 //! | `weight 3` | `route_hops::push_hop_parts` | `RouteHops::hop_parts` |
-//! | `dead`, `onlink` and the other flags | `route_names::hop_flag_name` | `RouteNames::hop_flag_name` |
+//! | `dead`, `onlink` and the other flags | `route_flags::hop_flag_name` | `RouteFlags::hop_flag_name` |
 //!
 //! `rule::rule_text` makes the line of a rule, and `Rule::rule_line` defines it:
 //!
@@ -89,9 +89,9 @@
 pub mod namespace;
 pub mod route;
 pub mod route_cache;
+pub mod route_flags;
 pub mod route_hops;
 pub mod route_metrics;
-pub mod route_names;
 pub mod rule;
 pub mod rule_ends;
 pub mod rule_matches;

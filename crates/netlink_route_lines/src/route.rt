@@ -7,9 +7,9 @@ ghost use Rattle.netlink_words.specs.Parts.{AddsPart, AddsParts, keyed, prefix_t
 ghost use Rattle.netlink_route_lines.specs.Route.{installer_part, is_own, kept_parts, last_parts, mark_part, origin_parts, preference_part, route_bytes, route_entry_line, route_front, route_next, route_table, route_words, scope_part, table_part, type_part, with_rest, word_or_default};
 
 use crate::route_cache::{push_cache, push_lifetime};
+use crate::route_flags::{push_hop_flags, push_preference};
 use crate::route_hops::{push_hops, push_next};
 use crate::route_metrics::push_metrics;
-use crate::route_names::{push_hop_flags, push_preference};
 use netlink_family::{MessageIndex, MessageView};
 use netlink_names::device::{Known, push_device};
 use netlink_names::name_table::Names;
@@ -20,7 +20,7 @@ use netlink_route::routes::{
     RTM_FAMILY, RTM_FLAGS, RTM_GETROUTE, RTM_PROTOCOL, RTM_SCOPE, RTM_SRC_LEN, RTM_TABLE, RTM_TOS,
     RTM_TYPE,
 };
-use netlink_words::names::{push_protocol, push_scope, push_table, route_type_text};
+use netlink_words::number_names::{push_protocol, push_scope, push_table, route_type_text};
 use netlink_words::parts::{
     host_length, or_empty, prefix_text, push_address, push_keyed, push_length, push_number,
     push_part, push_realms, push_space, push_tos, push_when,

@@ -10,14 +10,14 @@ ghost use Rattle.netlink_words.specs.Parts.{AddsPart, AddsParts, or_empty};
 ghost use Rattle.netlink_words.specs.Parts.{AddsPart, AddsParts};
 ghost use Rattle.netlink_route_lines.specs.RouteHops.{IsHop, IsHops, IsOfHop, hop_parts, hops_text, next_parts, via_part, with_hop};
 
-use crate::route_names::push_hop_flags;
+use crate::route_flags::push_hop_flags;
 use netlink_family::{BlockView, MessageIndex, Table, Value};
 use netlink_names::device::push_device;
 use netlink_names::name_table::Names;
 use netlink_packet_core::parse_u32;
 use netlink_route::Routes;
 use netlink_route::routes::{RTA_FLOW, RTA_GATEWAY, RTA_MULTIPATH, RTA_VIA};
-use netlink_words::names::family_text;
+use netlink_words::number_names::family_text;
 use netlink_words::parts::{or_empty, push_address, push_number, push_part, push_realms};
 use netlink_words::text::ip_words;
 use std::alloc::{AllocError, Global};

@@ -11,7 +11,7 @@ use netlink_route::rules::{
     FRA_FLOW, FRA_GOTO, FRA_SUPPRESS_IFGROUP, FRA_SUPPRESS_PREFIXLEN, FRA_TABLE, FRH_ACTION,
     FRH_FLAGS, FRH_TABLE,
 };
-use netlink_words::names::{push_protocol, push_table, route_type_text};
+use netlink_words::number_names::{push_protocol, push_table, route_type_text};
 use netlink_words::parts::{push_key, push_part, push_realms};
 use std::alloc::{AllocError, Global};
 

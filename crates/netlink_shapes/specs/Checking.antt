@@ -16,7 +16,7 @@ use Rattle.netlink_shapes.specs.Listing.{listed_all}
 use Rattle.netlink_shapes.specs.Shapes.{Row, Scope, all_shaped, are_shaped, fits_kind, is_block_shaped, nest_levels, reading_by, within}
 use Rattle.netlink_shapes.specs.Fitting.{fits}
 use Rattle.netlink_shapes.specs.declared.attribute_error.AttributeError.{AttributeError}
-use Rattle.netlink_shapes.specs.ZeroPadding.{IsZeroPadded, canonical_cons}
+use Rattle.netlink_packet_core.specs.ZeroPadding.{IsZeroPadded, canonical_cons}
 
 -- ---- whether the attributes of a block have their shapes
 
@@ -73,9 +73,9 @@ pub record AreChecked (scope : Scope) (block rest : List ℕ) (canonical : Bool)
   pub shaped : are_shaped nest_levels scope 0 block ≡ are_shaped nest_levels scope 0 rest
   pub whole : canonical ≡ true → IsCanonicalBlock rest → IsCanonicalBlock block
 
-pub none_checked : (scope : Scope) (block rest : List ℕ) → rest ≡ block → AreChecked scope block rest true
-none_checked scope block rest same =
-    subst (λ (r : List ℕ). AreChecked scope block r true) (sym same) (record { shaped = refl; whole = λ yes is. is })
+pub none_checked : (scope : Scope) (block rest : List ℕ) (canonical : Bool) → rest ≡ block → AreChecked scope block rest canonical
+none_checked scope block rest canonical same =
+    subst (λ (r : List ℕ). AreChecked scope block r canonical) (sym same) (record { shaped = refl; whole = λ yes is. is })
 
 -- the next attribute, whose kind and value were read
 at_next : (scope : Scope) (block bytes rest : List ℕ) (was : Bool) (kind : ℕ) (value : List ℕ) (is : Bool)

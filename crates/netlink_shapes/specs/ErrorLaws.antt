@@ -1,13 +1,14 @@
 -- A block has an error if and only if one of its attributes does not have its shape.
-use Rattle.std.specs.Prelude.{ℕ, zero, suc, ◌≡◌, ◌≢◌, ◌+◌, ◌-◌, ◌<◌, ◌≤◌, ◌^◌, Bool, true, false, ◌&&◌, List, [], ◌∷◌, length, drop, nat_lt, is_none, Option, Some, None, refl, if◌then◌else◌}
+use Rattle.std.specs.Prelude.{ℕ, zero, suc, ◌≡◌, ◌≢◌, ◌+◌, ◌-◌, ◌<◌, ◌≤◌, Bool, true, false, ◌&&◌, List, [], ◌∷◌, length, drop, nat_lt, is_none, Option, Some, None, refl, if◌then◌else◌}
 use Rattle.std.specs.List.{list_all}
 use Rattle.std.specs.Option.{option_map}
 use Rattle.std.proofs.Common.{ap, arith, sym, ◌∙◌, length-drop}
-use Rattle.std.proofs.lemmas.Bool.{and_from, and_left, and_right, le-leb, le-ltb, lt-leb, lt-ltb}
+use Rattle.std.proofs.lemmas.Bool.{and_right, le-ltb, lt-ltb}
 use Rattle.netlink_packet_core.specs.Attribute.{Attribute, padded_size}
 use Rattle.netlink_packet_core.specs.DecodeError.{DecodeError}
 use Rattle.netlink_packet_core.specs.DecodeError.TheVariants.{NlaBufferTooSmall, NlaLengthMismatch, NlaInvalidLength}
 use Rattle.netlink_packet_core.specs.Reading.{attributes_in, attributes_within, starts_whole}
+use Rattle.netlink_packet_core.specs.ReadingLaws.{fault-whole, starts-whole}
 use Rattle.netlink_packet_core.specs.StartLaws.{nothing_starts, starts-attribute_of, starts-length, starts-length_field, starts-rest}
 use Rattle.netlink_packet_core.specs.Views.{attribute_of, length_field, raw_kind}
 use Rattle.netlink_packet_core.specs.Walk.{IsFault, Starts}
@@ -20,30 +21,6 @@ use Rattle.netlink_shapes.specs.declared.attribute_error.AttributeError.{Attribu
 use Rattle.netlink_shapes.specs.declared.shape.Shape.{Shape}
 
 -- ---- one attribute
-
-pub whole_starts : (bytes : List ℕ) (a : Attribute) (rest : List ℕ) → Starts bytes a rest → starts_whole bytes ≡ true
-whole_starts bytes a rest starts =
-    let field = starts-length_field bytes a rest starts in
-    let size = starts-length bytes a rest starts in
-    let kind : raw_kind bytes ≡ a.kind =
-    ap (λ (x : Attribute). x.kind) (starts-attribute_of bytes a rest starts) in
-    let value = starts.fits.value in
-    let small : a.kind < 2 ^ 16 = starts.fits.kind in
-    let header : 4 ≤ length bytes = omega arith in
-    let least : 4 ≤ length_field bytes = omega arith in
-    let most : length_field bytes ≤ length bytes = omega arith in
-    let length_fits : length_field bytes < 2 ^ 16 = omega arith in
-    let kind_fits : raw_kind bytes < 2 ^ 16 = omega (arith, kind, small) in
-    and_from _ _ (le-leb _ _ header) (and_from _ _ (le-leb _ _ least)
-    (and_from _ _ (le-leb _ _ most) (and_from _ _ (lt-ltb _ _ length_fits) (lt-ltb _ _ kind_fits))))
-
-pub malformed_whole : (bytes : List ℕ) (e : DecodeError) → IsFault bytes e → starts_whole bytes ≡ false
-malformed_whole bytes (NlaBufferTooSmall size least) is = and_left _ _ (lt-leb _ _ is.0)
-malformed_whole bytes (NlaLengthMismatch size said) is =
-    and_right _ _ (and_right _ _ (and_left _ _ (lt-leb _ _ is.1)))
-malformed_whole bytes (NlaInvalidLength least said) is =
-    and_right _ _ (and_left _ _ (lt-leb _ _ is.1))
-malformed_whole bytes _ is = absurd is
 
 walk_reason_is : (bytes : List ℕ) (e : DecodeError) → IsFault bytes e → walk_reason bytes ≡ decode_reason e
 walk_reason_is bytes (NlaBufferTooSmall size least) is =
@@ -95,7 +72,7 @@ unfolding first_error
 error_step values policy end [] a rest starts = absurd (nothing_starts [] a rest refl starts)
 error_step values policy end (b ∷ more) a rest starts =
     let bytes : List ℕ = b ∷ more in
-    let whole = whole_starts bytes a rest starts in
+    let whole = starts-whole bytes a rest starts in
     let same = starts-attribute_of bytes a rest starts in
     let size = starts-length bytes a rest starts in
     ap (λ (is : Bool). if is then or_first (values (end - length bytes) (raw_kind bytes) (attribute_of bytes).value)
@@ -118,7 +95,7 @@ error_malformed values policy end (b ∷ more) e some is =
     let bytes : List ℕ = b ∷ more in
     ap (λ (w : Bool). if w then or_first (values (end - length bytes) (raw_kind bytes) (attribute_of bytes).value)
     (first_error values policy end (length more) (drop (padded_size (attribute_of bytes)) bytes))
-    else Some (error_at policy (end - length bytes) (walk_reason bytes))) (malformed_whole bytes e is)
+    else Some (error_at policy (end - length bytes) (walk_reason bytes))) (fault-whole bytes e is)
     ∙ ap (λ (why : Reason). Some (error_at policy (end - length bytes) why)) (walk_reason_is bytes e is)
 
 pub error_nothing : (values : ValueError) (policy end : ℕ) (bytes : List ℕ) → bytes ≡ []

@@ -19,4 +19,3 @@ pub mod SortedLaws
 pub mod Strings
 pub mod Whole
 pub mod WholeWalks
-pub mod ZeroPadding

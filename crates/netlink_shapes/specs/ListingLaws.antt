@@ -10,7 +10,7 @@ use Rattle.netlink_packet_core.specs.DecodeError.{DecodeError}
 use Rattle.netlink_packet_core.specs.Reading.{starts_whole}
 use Rattle.netlink_packet_core.specs.StartLaws.{nothing_starts, starts-attribute_of, starts-length, starts-rest}
 use Rattle.netlink_packet_core.specs.Walk.{IsFault, Starts}
-use Rattle.netlink_shapes.specs.ErrorLaws.{malformed_whole, whole_starts}
+use Rattle.netlink_packet_core.specs.ReadingLaws.{fault-whole, starts-whole}
 
 pub first_here : (kind : ℕ) (a : Attribute) (more : List Attribute) → masked a.kind ≡ kind
     → first_of kind (a ∷ more) ≡ Some a.value
@@ -50,7 +50,7 @@ before_step (b ∷ more) a rest starts =
     let size = starts-length bytes a rest starts in
     ap (λ (is : Bool). if is then attribute_of bytes
     ∷ before_error (length more) (drop (padded_size (attribute_of bytes)) bytes)
-    else []) (whole_starts bytes a rest starts)
+    else []) (starts-whole bytes a rest starts)
     ∙ ap (λ (x : Attribute). x ∷ before_error (length more) (drop (padded_size x) bytes))
     (starts-attribute_of bytes a rest starts)
     ∙ ap (λ (r : List ℕ). a ∷ before_error (length more) r) (sym (starts-rest bytes a rest starts))
@@ -63,7 +63,7 @@ before_malformed [] e is = refl
 before_malformed (b ∷ more) e is =
     let bytes : List ℕ = b ∷ more in
     ap (λ (w : Bool). if w then attribute_of bytes
-    ∷ before_error (length more) (drop (padded_size (attribute_of bytes)) bytes) else []) (malformed_whole bytes e is)
+    ∷ before_error (length more) (drop (padded_size (attribute_of bytes)) bytes) else []) (fault-whole bytes e is)
 
 pub before_nothing : (bytes : List ℕ) → bytes ≡ [] → before_error (length bytes) bytes ≡ []
 unfolding before_error

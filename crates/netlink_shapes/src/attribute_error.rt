@@ -1,13 +1,14 @@
 //! Errors in attributes, each with its offset.
 
-ghost use Rattle.std.specs.Prelude.{ℕ, ◌≡◌, ◌+◌, ◌≤◌, ◌<◌, ◌^◌, ◌&&◌, List, Some, false, is_none, length, true};
+ghost use Rattle.std.specs.Prelude.{ℕ, ◌≡◌, ◌+◌, ◌≤◌, ◌<◌, ◌^◌, ◌&&◌, List, Some, false, is_none, length};
 ghost use Rattle.netlink_shapes.specs.ErrorTexts.{attribute_error_text, reason_text};
 ghost use Rattle.netlink_shapes.specs.Errors.{reason_of, decode_reason, error_at, left_after, nest_error, value_error};
 ghost use Rattle.netlink_shapes.specs.Policies.{IsPart};
-ghost use Rattle.netlink_shapes.specs.Shapes.{has_shape, nest_of, rows_in, shape_among, within, are_sorted};
+ghost use Rattle.netlink_shapes.specs.Shapes.{has_shape, nest_of, rows_in, shape_among, within};
 
 use crate::choice::{NO_CHOICES, own_shape_among, shape_among};
-use crate::shape::{Row, Shape, TOP, has_shape, nest_block, policy_of, policy_rows};
+use crate::rows::Rows;
+use crate::shape::{Shape, TOP, has_shape, nest_block, policy_of, policy_rows};
 use netlink_packet_core::{DecodeError, NlasIterator, nla_align};
 use std::fmt;
 
@@ -167,16 +168,15 @@ impl fmt::Display for AttributeError {
 #[inline(always)]
 pub fn value_error(
     levels: u8,
-    rows: &[Row],
+    rows: Rows,
     policy: u16,
     around: &[u8],
     at: usize,
     kind: u16,
     value: &[u8],
 ) -> Option<AttributeError>
-    requires sorted { are_sorted (rows_in rows.now) ≡ true }
     requires inside { at + 4 + length value.now < 2 ^ 64 }
-    ensures { result ≡ value_error levels (within (rows_in rows.now) around.now) policy at kind value.now }
+    ensures { result ≡ value_error levels (within (rows_in rows.list.now) around.now) policy at kind value.now }
 {
     let shape = shape_among(rows, policy, around, kind);
     if !is_fine(shape, value) {
@@ -190,18 +190,17 @@ pub fn value_error(
 #[inline(never)]
 fn other_error(
     levels: u8,
-    rows: &[Row],
+    rows: Rows,
     policy: u16,
     shape: Shape,
     at: usize,
     kind: u16,
     value: &[u8],
 ) -> Option<AttributeError>
-    requires sorted { are_sorted (rows_in rows.now) ≡ true }
     requires inside { at + 4 + length value.now < 2 ^ 64 }
     requires other { (is_none (nest_of shape) && has_shape shape value.now) ≡ false }
-    ensures { (around : List ℕ) → shape ≡ shape_among (within (rows_in rows.now) around) policy kind
-        → result ≡ value_error levels (within (rows_in rows.now) around) policy at kind value.now }
+    ensures { (around : List ℕ) → shape ≡ shape_among (within (rows_in rows.list.now) around) policy kind
+        → result ≡ value_error levels (within (rows_in rows.list.now) around) policy at kind value.now }
 {
     rest_error(levels, rows, policy, shape, at, kind, value)
 }
@@ -212,17 +211,16 @@ fn other_error(
 #[cycle(errors)]
 fn shape_error(
     levels: u8,
-    rows: &[Row],
+    rows: Rows,
     policy: u16,
     shape: Shape,
     at: usize,
     kind: u16,
     value: &[u8],
 ) -> Option<AttributeError>
-    requires sorted { are_sorted (rows_in rows.now) ≡ true }
     requires inside { at + 4 + length value.now < 2 ^ 64 }
-    ensures { (around : List ℕ) → shape ≡ shape_among (within (rows_in rows.now) around) policy kind
-        → result ≡ value_error levels (within (rows_in rows.now) around) policy at kind value.now }
+    ensures { (around : List ℕ) → shape ≡ shape_among (within (rows_in rows.list.now) around) policy kind
+        → result ≡ value_error levels (within (rows_in rows.list.now) around) policy at kind value.now }
 {
     if is_fine(shape, value) {
         return None;
@@ -236,18 +234,17 @@ fn shape_error(
 #[cycle(errors)]
 fn rest_error(
     levels: u8,
-    rows: &[Row],
+    rows: Rows,
     policy: u16,
     shape: Shape,
     at: usize,
     kind: u16,
     value: &[u8],
 ) -> Option<AttributeError>
-    requires sorted { are_sorted (rows_in rows.now) ≡ true }
     requires inside { at + 4 + length value.now < 2 ^ 64 }
     requires other { (is_none (nest_of shape) && has_shape shape value.now) ≡ false }
-    ensures { (around : List ℕ) → shape ≡ shape_among (within (rows_in rows.now) around) policy kind
-        → result ≡ value_error levels (within (rows_in rows.now) around) policy at kind value.now }
+    ensures { (around : List ℕ) → shape ≡ shape_among (within (rows_in rows.list.now) around) policy kind
+        → result ≡ value_error levels (within (rows_in rows.list.now) around) policy at kind value.now }
 {
     match policy_of(shape) {
         None => Some(wrong_shape(policy, shape, at, kind, value)),
@@ -293,14 +290,13 @@ fn is_fine(shape: Shape, value: &[u8]) -> bool
 #[cycle(errors)]
 pub fn error_in(
     levels: u8,
-    rows: &[Row],
+    rows: Rows,
     policy: u16,
     end: usize,
     block: &[u8],
 ) -> Option<AttributeError>
-    requires sorted { are_sorted (rows_in rows.now) ≡ true }
     requires inside { length block.now ≤ end }
-    ensures { result ≡ nest_error levels (rows_in rows.now) policy end block.now }
+    ensures { result ≡ nest_error levels (rows_in rows.list.now) policy end block.now }
 {
     // Rows among which are all of the policy.
     let own = rows_for(rows, policy, block);
@@ -335,9 +331,8 @@ pub fn error_in(
 /// all rows if the block is too short for two attributes with values of 4 bytes, because finding the
 /// rows of the policy takes longer than one lookup.
 #[inline(always)]
-pub(crate) fn rows_for<'a>(rows: &'a [Row], policy: u16, block: &[u8]) -> &'a [Row]
-    requires sorted { are_sorted (rows_in rows.now) ≡ true }
-    ensures { IsPart policy (rows_in rows.now) (rows_in result.now) }
+pub(crate) fn rows_for(rows: Rows, policy: u16, block: &[u8]) -> Rows
+    ensures { IsPart policy (rows_in rows.list.now) (rows_in result.list.now) }
 {
     if policy == TOP || block.len() < SEVERAL {
         return rows;

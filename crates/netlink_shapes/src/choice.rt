@@ -1,15 +1,16 @@
 //! Shapes that are chosen by the value of another attribute.
 
-ghost use Rattle.std.specs.Prelude.{ℕ, ◌≡◌, ◌==◌, ◌&&◌, IfNone, IfSome, List, None, Some, bytes_eq, true};
+ghost use Rattle.std.specs.Prelude.{ℕ, ◌≡◌, ◌==◌, ◌&&◌, IfNone, IfSome, List, None, Some, bytes_eq};
 ghost use Rattle.netlink_shapes.specs.Choices.{AreChoices};
 ghost use Rattle.netlink_shapes.specs.Listing.{first_of, listed};
 ghost use Rattle.netlink_shapes.specs.Policies.{IsPart};
-ghost use Rattle.netlink_shapes.specs.Shapes.{CachesOther, choice_at, choice_by, resolved, rows_in, shape_among, shape_in, within, are_sorted};
+ghost use Rattle.netlink_shapes.specs.Shapes.{CachesOther, choice_at, choice_by, resolved, rows_in, shape_among, shape_in, within};
 
 use crate::decoders::bytes_until_nul;
 use crate::find::first_value;
+use crate::rows::Rows;
 use crate::shape::{
-    ANY, Row, Shape, TOP, cached_shape, near_row, row_shape, rows_after, searched_shape,
+    ANY, Shape, TOP, cached_shape, near_row, row_shape, rows_after, searched_shape,
 };
 use netlink_packet_core::NLA_TYPE_MASK;
 
@@ -18,9 +19,8 @@ const FIRST: usize = 8;
 
 /// Returns the shape of a kind in a policy, among the attributes of a block.
 #[inline(always)]
-pub(crate) fn shape_among(rows: &[Row], policy: u16, block: &[u8], kind: u16) -> Shape
-    requires sorted { are_sorted (rows_in rows.now) ≡ true }
-    ensures { result ≡ shape_among (within (rows_in rows.now) block.now) policy kind }
+pub(crate) fn shape_among(rows: Rows, policy: u16, block: &[u8], kind: u16) -> Shape
+    ensures { result ≡ shape_among (within (rows_in rows.list.now) block.now) policy kind }
 {
     resolved(rows, block, row_shape(rows, policy, kind))
 }
@@ -28,9 +28,8 @@ pub(crate) fn shape_among(rows: &[Row], policy: u16, block: &[u8], kind: u16) ->
 /// Returns the shape of a kind if its row is found without a search and no value chooses it. Only
 /// looks for kinds outside nests, since the rows of `TOP` come first.
 #[inline(always)]
-pub fn near_shape(rows: &[Row], policy: u16, kind: u16) -> Option<Shape>
-    requires sorted { are_sorted (rows_in rows.now) ≡ true }
-    ensures { IfSome result (λ shape. (block : List ℕ) → shape ≡ shape_among (within (rows_in rows.now) block) policy kind) }
+pub fn near_shape(rows: Rows, policy: u16, kind: u16) -> Option<Shape>
+    ensures { IfSome result (λ shape. (block : List ℕ) → shape ≡ shape_among (within (rows_in rows.list.now) block) policy kind) }
 {
     if policy != TOP {
         return None;
@@ -44,9 +43,8 @@ pub fn near_shape(rows: &[Row], policy: u16, kind: u16) -> Option<Shape>
 /// Returns the shape of a kind for which `near_shape` returned `None`. Outside nests, that may be because
 /// a value chooses the shape, and its row is near. In nests, searches at once.
 #[inline(always)]
-pub fn far_row_shape(rows: &[Row], policy: u16, kind: u16) -> Shape
-    requires sorted { are_sorted (rows_in rows.now) ≡ true }
-    ensures { result ≡ shape_in (rows_in rows.now) policy kind }
+pub fn far_row_shape(rows: Rows, policy: u16, kind: u16) -> Shape
+    ensures { result ≡ shape_in (rows_in rows.list.now) policy kind }
 {
     if policy == TOP {
         return row_shape(rows, policy, kind);
@@ -58,16 +56,15 @@ pub fn far_row_shape(rows: &[Row], policy: u16, kind: u16) -> Shape
 /// `choices`.
 #[inline(always)]
 pub fn kept_shape_among(
-    rows: &[Row],
+    rows: Rows,
     policy: u16,
     block: &[u8],
     kind: u16,
     choices: &mut Choices,
 ) -> Shape
-    requires sorted { are_sorted (rows_in rows.now) ≡ true }
-    requires choices { AreChoices (within (rows_in rows.now) block.now) choices.old }
-    ensures shape { result ≡ shape_among (within (rows_in rows.now) block.now) policy kind }
-    ensures choices { AreChoices (within (rows_in rows.now) block.now) choices.new }
+    requires choices { AreChoices (within (rows_in rows.list.now) block.now) choices.old }
+    ensures shape { result ≡ shape_among (within (rows_in rows.list.now) block.now) policy kind }
+    ensures choices { AreChoices (within (rows_in rows.list.now) block.now) choices.new }
 {
     kept(rows, block, row_shape(rows, policy, kind), choices)
 }
@@ -76,18 +73,17 @@ pub fn kept_shape_among(
 /// `own`, rows among which are all of the policy, and keeps what the attributes chose in `choices`.
 #[inline(always)]
 pub(crate) fn own_shape_among(
-    rows: &[Row],
-    own: &[Row],
+    rows: Rows,
+    own: Rows,
     policy: u16,
     block: &[u8],
     kind: u16,
     choices: &mut Choices,
 ) -> Shape
-    requires sorted { are_sorted (rows_in rows.now) ≡ true }
-    requires own { IsPart policy (rows_in rows.now) (rows_in own.now) }
-    requires choices { AreChoices (within (rows_in rows.now) block.now) choices.old }
-    ensures shape { result ≡ shape_among (within (rows_in rows.now) block.now) policy kind }
-    ensures choices { AreChoices (within (rows_in rows.now) block.now) choices.new }
+    requires own { IsPart policy (rows_in rows.list.now) (rows_in own.list.now) }
+    requires choices { AreChoices (within (rows_in rows.list.now) block.now) choices.old }
+    ensures shape { result ≡ shape_among (within (rows_in rows.list.now) block.now) policy kind }
+    ensures choices { AreChoices (within (rows_in rows.list.now) block.now) choices.new }
 {
     kept(rows, block, row_shape(own, policy, kind), choices)
 }
@@ -97,21 +93,20 @@ pub(crate) fn own_shape_among(
 /// `choices`.
 #[inline(always)]
 pub(crate) fn cached_own_shape(
-    rows: &[Row],
-    own: &[Row],
+    rows: Rows,
+    own: Rows,
     policy: u16,
     block: &[u8],
     kind: u16,
     other: &mut Option<Shape>,
     choices: &mut Choices,
 ) -> Shape
-    requires sorted { are_sorted (rows_in rows.now) ≡ true }
-    requires own { IsPart policy (rows_in rows.now) (rows_in own.now) }
-    requires other { CachesOther (rows_in own.now) policy other.old }
-    requires choices { AreChoices (within (rows_in rows.now) block.now) choices.old }
-    ensures shape { result ≡ shape_among (within (rows_in rows.now) block.now) policy kind }
-    ensures other { CachesOther (rows_in own.now) policy other.new }
-    ensures choices { AreChoices (within (rows_in rows.now) block.now) choices.new }
+    requires own { IsPart policy (rows_in rows.list.now) (rows_in own.list.now) }
+    requires other { CachesOther (rows_in own.list.now) policy other.old }
+    requires choices { AreChoices (within (rows_in rows.list.now) block.now) choices.old }
+    ensures shape { result ≡ shape_among (within (rows_in rows.list.now) block.now) policy kind }
+    ensures other { CachesOther (rows_in own.list.now) policy other.new }
+    ensures choices { AreChoices (within (rows_in rows.list.now) block.now) choices.new }
 {
     kept(rows, block, cached_shape(own, policy, kind, other), choices)
 }
@@ -120,19 +115,18 @@ pub(crate) fn cached_own_shape(
 /// kinds without a row in `other`, and what the attributes chose in `choices`.
 #[inline(always)]
 pub fn cached_shape_among(
-    rows: &[Row],
+    rows: Rows,
     policy: u16,
     block: &[u8],
     kind: u16,
     other: &mut Option<Shape>,
     choices: &mut Choices,
 ) -> Shape
-    requires sorted { are_sorted (rows_in rows.now) ≡ true }
-    requires other { CachesOther (rows_in rows.now) policy other.old }
-    requires choices { AreChoices (within (rows_in rows.now) block.now) choices.old }
-    ensures shape { result ≡ shape_among (within (rows_in rows.now) block.now) policy kind }
-    ensures other { CachesOther (rows_in rows.now) policy other.new }
-    ensures choices { AreChoices (within (rows_in rows.now) block.now) choices.new }
+    requires other { CachesOther (rows_in rows.list.now) policy other.old }
+    requires choices { AreChoices (within (rows_in rows.list.now) block.now) choices.old }
+    ensures shape { result ≡ shape_among (within (rows_in rows.list.now) block.now) policy kind }
+    ensures other { CachesOther (rows_in rows.list.now) policy other.new }
+    ensures choices { AreChoices (within (rows_in rows.list.now) block.now) choices.new }
 {
     kept(
         rows,
@@ -178,11 +172,10 @@ pub const NO_CHOICES: Choices = Choices {
 
 /// Returns the chosen shape, or the shape itself if it is not chosen by a value. Keeps what was chosen.
 #[inline(always)]
-fn kept(rows: &[Row], block: &[u8], shape: Shape, choices: &mut Choices) -> Shape
-    requires sorted { are_sorted (rows_in rows.now) ≡ true }
-    requires choices { AreChoices (within (rows_in rows.now) block.now) choices.old }
-    ensures shape { result ≡ resolved (within (rows_in rows.now) block.now) shape }
-    ensures choices { AreChoices (within (rows_in rows.now) block.now) choices.new }
+fn kept(rows: Rows, block: &[u8], shape: Shape, choices: &mut Choices) -> Shape
+    requires choices { AreChoices (within (rows_in rows.list.now) block.now) choices.old }
+    ensures shape { result ≡ resolved (within (rows_in rows.list.now) block.now) shape }
+    ensures choices { AreChoices (within (rows_in rows.list.now) block.now) choices.new }
 {
     match shape {
         Shape::Chosen { by, policy } => kept_choice(rows, policy, block, by, choices),
@@ -193,11 +186,10 @@ fn kept(rows: &[Row], block: &[u8], shape: Shape, choices: &mut Choices) -> Shap
 /// Returns the shape that the first attribute of a kind chooses. Walks the block only if it is not one
 /// of the last two that were looked up.
 #[inline(always)]
-fn kept_choice(rows: &[Row], policy: u16, block: &[u8], by: u16, choices: &mut Choices) -> Shape
-    requires sorted { are_sorted (rows_in rows.now) ≡ true }
-    requires choices { AreChoices (within (rows_in rows.now) block.now) choices.old }
-    ensures shape { result ≡ choice_by (rows_in rows.now) policy (first_of by (listed block.now)) }
-    ensures choices { AreChoices (within (rows_in rows.now) block.now) choices.new }
+fn kept_choice(rows: Rows, policy: u16, block: &[u8], by: u16, choices: &mut Choices) -> Shape
+    requires choices { AreChoices (within (rows_in rows.list.now) block.now) choices.old }
+    ensures shape { result ≡ choice_by (rows_in rows.list.now) policy (first_of by (listed block.now)) }
+    ensures choices { AreChoices (within (rows_in rows.list.now) block.now) choices.new }
 {
     if choices.last.by == by && choices.last.policy == policy {
         return choices.last.shape;
@@ -214,11 +206,10 @@ fn kept_choice(rows: &[Row], policy: u16, block: &[u8], by: u16, choices: &mut C
 /// Walks the block for a choice, and keeps it as the last one. It is a separate function so that its
 /// callers stay small, and returns nothing so that they have no space for a shape to clear.
 #[inline(never)]
-fn new_choice(rows: &[Row], policy: u16, block: &[u8], by: u16, choices: &mut Choices)
-    requires sorted { are_sorted (rows_in rows.now) ≡ true }
-    requires choices { AreChoices (within (rows_in rows.now) block.now) choices.old }
-    ensures last { choices.new.last.shape ≡ choice_by (rows_in rows.now) policy (first_of by (listed block.now)) }
-    ensures choices { AreChoices (within (rows_in rows.now) block.now) choices.new }
+fn new_choice(rows: Rows, policy: u16, block: &[u8], by: u16, choices: &mut Choices)
+    requires choices { AreChoices (within (rows_in rows.list.now) block.now) choices.old }
+    ensures last { choices.new.last.shape ≡ choice_by (rows_in rows.list.now) policy (first_of by (listed block.now)) }
+    ensures choices { AreChoices (within (rows_in rows.list.now) block.now) choices.new }
 {
     let shape = chosen_by(rows, policy, first_value(block, by));
     choices.before = choices.last;
@@ -227,9 +218,8 @@ fn new_choice(rows: &[Row], policy: u16, block: &[u8], by: u16, choices: &mut Ch
 
 /// Returns the chosen shape, or the shape itself if it is not chosen by a value.
 #[inline(always)]
-fn resolved(rows: &[Row], block: &[u8], shape: Shape) -> Shape
-    requires sorted { are_sorted (rows_in rows.now) ≡ true }
-    ensures { result ≡ resolved (within (rows_in rows.now) block.now) shape }
+fn resolved(rows: Rows, block: &[u8], shape: Shape) -> Shape
+    ensures { result ≡ resolved (within (rows_in rows.list.now) block.now) shape }
 {
     match shape {
         Shape::Chosen { by, policy } => chosen_shape(rows, policy, block, by),
@@ -240,19 +230,17 @@ fn resolved(rows: &[Row], block: &[u8], shape: Shape) -> Shape
 /// Returns the shape that the first attribute of a kind chooses. It is a separate function so that its
 /// callers stay small.
 #[inline(never)]
-fn chosen_shape(rows: &[Row], policy: u16, block: &[u8], by: u16) -> Shape
-    requires sorted { are_sorted (rows_in rows.now) ≡ true }
-    ensures { result ≡ choice_by (rows_in rows.now) policy (first_of by (listed block.now)) }
+fn chosen_shape(rows: Rows, policy: u16, block: &[u8], by: u16) -> Shape
+    ensures { result ≡ choice_by (rows_in rows.list.now) policy (first_of by (listed block.now)) }
 {
     chosen_by(rows, policy, first_value(block, by))
 }
 
 /// Returns the shape that the value of an attribute chooses; `Bytes` without an attribute.
 #[inline(always)]
-pub fn chosen_by(rows: &[Row], policy: u16, value: Option<&[u8]>) -> Shape
-    requires sorted { are_sorted (rows_in rows.now) ≡ true }
-    ensures some { IfSome value.entry (λ v. result ≡ choice_by (rows_in rows.now) policy (Some v.now)) }
-    ensures none { IfNone value.entry (result ≡ choice_by (rows_in rows.now) policy None) }
+pub fn chosen_by(rows: Rows, policy: u16, value: Option<&[u8]>) -> Shape
+    ensures some { IfSome value.entry (λ v. result ≡ choice_by (rows_in rows.list.now) policy (Some v.now)) }
+    ensures none { IfNone value.entry (result ≡ choice_by (rows_in rows.list.now) policy None) }
 {
     match value {
         Some(value) => choice_at(rows, policy, bytes_until_nul(value)),
@@ -264,11 +252,10 @@ pub fn chosen_by(rows: &[Row], policy: u16, value: Option<&[u8]>) -> Shape
 /// the names in the policy.
 #[inline(always)]
 #[tactic(auto, using(crate::specs::PolicyRows::begins, crate::specs::PolicyRows::ends))]
-fn choice_at(rows: &[Row], policy: u16, name: &[u8]) -> Shape
-    requires sorted { are_sorted (rows_in rows.now) ≡ true }
-    ensures { result ≡ choice_at (rows_in rows.now) policy name.now }
+fn choice_at(rows: Rows, policy: u16, name: &[u8]) -> Shape
+    ensures { result ≡ choice_at (rows_in rows.list.now) policy name.now }
 {
-    let mut rest = rows_with(rows, policy);
+    let mut rest = rows_with(rows, policy).list;
     while let [row, more @ ..] = rest {
         if is_choice(row.0, row.2, policy, name) {
             return row.3;
@@ -284,12 +271,13 @@ fn choice_at(rows: &[Row], policy: u16, name: &[u8]) -> Shape
 /// Returns the rows in which to look for a name of a policy: all rows if the policy begins among the
 /// first ones, since it takes longer to search for its first row than to read these.
 #[inline(always)]
-fn rows_with(rows: &[Row], policy: u16) -> &[Row]
-    requires sorted { are_sorted (rows_in rows.now) ≡ true }
-    ensures { IsPart policy (rows_in rows.now) (rows_in result.now) }
+fn rows_with(rows: Rows, policy: u16) -> Rows
+    ensures { IsPart policy (rows_in rows.list.now) (rows_in result.list.now) }
 {
-    if rows.len() > FIRST && rows[FIRST].0 < policy {
-        return rows_after(rows, policy, FIRST + 1);
+    if rows.list.len() > FIRST && rows.list[FIRST].0 < policy {
+        return Rows {
+            list: rows_after(rows, policy, FIRST + 1),
+        };
     }
     rows
 }

@@ -9,4 +9,5 @@ pub mod decoders;
 pub mod error;
 pub mod find;
 pub mod nest;
+pub mod rows;
 pub mod shape;

@@ -1,19 +1,19 @@
 //! Whether the attributes of a nest have their shapes.
 
 ghost use Rattle.std.specs.Prelude.{◌≡◌, true};
-ghost use Rattle.netlink_shapes.specs.Shapes.{is_block_shaped, is_shaped, rows_in, are_sorted};
+ghost use Rattle.netlink_shapes.specs.Shapes.{is_block_shaped, is_shaped, rows_in};
 
 use crate::attribute_error::rows_for;
 use crate::choice::{NO_CHOICES, cached_own_shape};
-use crate::shape::{Row, Shape, has_shape, nest_block, policy_of};
+use crate::rows::Rows;
+use crate::shape::{Shape, has_shape, nest_block, policy_of};
 use netlink_packet_core::NlasIterator;
 
 /// Returns whether a value has a shape that is already known. Nests in it may be `levels` deep.
 #[inline(always)]
 #[cycle(nests)]
-pub(crate) fn is_shaped(levels: u8, rows: &[Row], shape: Shape, value: &[u8]) -> bool
-    requires sorted { are_sorted (rows_in rows.now) ≡ true }
-    ensures { result ≡ is_shaped levels (rows_in rows.now) shape value.now }
+pub(crate) fn is_shaped(levels: u8, rows: Rows, shape: Shape, value: &[u8]) -> bool
+    ensures { result ≡ is_shaped levels (rows_in rows.list.now) shape value.now }
 {
     if !has_shape(shape, value) {
         return false;
@@ -36,9 +36,8 @@ pub(crate) fn is_shaped(levels: u8, rows: &[Row], shape: Shape, value: &[u8]) ->
 /// Returns whether the attributes of a block have the shapes of a policy. `error_in` says which
 /// does not; this keeps no offset and has no space for an error.
 #[cycle(nests)]
-fn is_block_shaped(levels: u8, rows: &[Row], policy: u16, block: &[u8]) -> bool
-    requires sorted { are_sorted (rows_in rows.now) ≡ true }
-    ensures { result ≡ is_block_shaped levels (rows_in rows.now) policy block.now }
+fn is_block_shaped(levels: u8, rows: Rows, policy: u16, block: &[u8]) -> bool
+    ensures { result ≡ is_block_shaped levels (rows_in rows.list.now) policy block.now }
 {
     // Rows among which are all of the policy.
     let own = rows_for(rows, policy, block);

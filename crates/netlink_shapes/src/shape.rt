@@ -4,8 +4,9 @@ ghost use Rattle.std.specs.Prelude.{◌≡◌, ◌≤◌, ◌<◌, ◌+◌, ◌*
 ghost use Rattle.std.specs.Option.{option_map};
 ghost use Rattle.netlink_packet_core.specs.Views.{masked};
 ghost use Rattle.netlink_shapes.specs.Policies.{IsPart};
-ghost use Rattle.netlink_shapes.specs.Shapes.{CachesOther, any_kind, borrowed_row, has_shape, nest_block, nest_of, nest_start, row_at, row_in, rows_in, shape_by, shape_in, nul_terminated, nul_only_last, are_sorted, key_before};
+ghost use Rattle.netlink_shapes.specs.Shapes.{CachesOther, any_kind, borrowed_row, has_shape, nest_block, nest_of, nest_start, row_at, row_in, rows_in, shape_by, shape_in, nul_terminated, nul_only_last, key_before};
 
+use crate::rows::Rows;
 use netlink_packet_core::NLA_TYPE_MASK;
 
 /// The shape of an attribute's value. Integers are in native byte order, except those named `Be`,
@@ -79,9 +80,8 @@ pub const NEST_LEVELS: u8 = 8;
 
 /// Returns the shape of a kind in a policy; `Bytes` if it has no row.
 #[inline(always)]
-pub fn row_shape(rows: &[Row], policy: u16, kind: u16) -> Shape
-    requires sorted { are_sorted (rows_in rows.now) ≡ true }
-    ensures { result ≡ shape_in (rows_in rows.now) policy kind }
+pub fn row_shape(rows: Rows, policy: u16, kind: u16) -> Shape
+    ensures { result ≡ shape_in (rows_in rows.list.now) policy kind }
 {
     match find_row(rows, policy, kind) {
         Some(row) => row.3,
@@ -92,11 +92,10 @@ pub fn row_shape(rows: &[Row], policy: u16, kind: u16) -> Shape
 /// Returns the shape of a kind in a policy, for a caller that looks up many kinds: the shape of the
 /// kinds without a row is looked up once and kept in `other`.
 #[inline(always)]
-pub(crate) fn cached_shape(rows: &[Row], policy: u16, kind: u16, other: &mut Option<Shape>) -> Shape
-    requires sorted { are_sorted (rows_in rows.now) ≡ true }
-    requires other { CachesOther (rows_in rows.now) policy other.old }
-    ensures shape { result ≡ shape_in (rows_in rows.now) policy kind }
-    ensures other { CachesOther (rows_in rows.now) policy other.new }
+pub(crate) fn cached_shape(rows: Rows, policy: u16, kind: u16, other: &mut Option<Shape>) -> Shape
+    requires other { CachesOther (rows_in rows.list.now) policy other.old }
+    ensures shape { result ≡ shape_in (rows_in rows.list.now) policy kind }
+    ensures other { CachesOther (rows_in rows.list.now) policy other.new }
 {
     match own_row(rows, policy, kind) {
         Some(row) => row.3,
@@ -113,9 +112,8 @@ pub(crate) fn cached_shape(rows: &[Row], policy: u16, kind: u16, other: &mut Opt
 
 /// Returns the shape of a kind in a policy. Searches at once, without the two tries of `near_row`.
 #[inline(always)]
-pub(crate) fn searched_shape(rows: &[Row], policy: u16, kind: u16) -> Shape
-    requires sorted { are_sorted (rows_in rows.now) ≡ true }
-    ensures { result ≡ shape_in (rows_in rows.now) policy kind }
+pub(crate) fn searched_shape(rows: Rows, policy: u16, kind: u16) -> Shape
+    ensures { result ≡ shape_in (rows_in rows.list.now) policy kind }
 {
     match search(rows, policy, kind & NLA_TYPE_MASK) {
         Some(row) => row.3,
@@ -124,9 +122,8 @@ pub(crate) fn searched_shape(rows: &[Row], policy: u16, kind: u16) -> Shape
 }
 
 /// Returns the shape of the kinds of a policy that have no row of their own.
-fn other_shape(rows: &[Row], policy: u16) -> Shape
-    requires sorted { are_sorted (rows_in rows.now) ≡ true }
-    ensures { result ≡ shape_by (row_at (rows_in rows.now) policy any_kind) }
+fn other_shape(rows: Rows, policy: u16) -> Shape
+    ensures { result ≡ shape_by (row_at (rows_in rows.list.now) policy any_kind) }
 {
     match search_row(rows, policy, ANY) {
         Some(row) => row.3,
@@ -137,9 +134,8 @@ fn other_shape(rows: &[Row], policy: u16) -> Shape
 /// Returns the row of a kind in a policy, or else the policy's row for `ANY`. Ignores the flag bits
 /// of the kind.
 #[inline(always)]
-pub fn find_row(rows: &[Row], policy: u16, kind: u16) -> Option<&Row>
-    requires sorted { are_sorted (rows_in rows.now) ≡ true }
-    ensures { option_map borrowed_row result ≡ row_in (rows_in rows.now) policy kind }
+pub fn find_row(rows: Rows, policy: u16, kind: u16) -> Option<&'static Row>
+    ensures { option_map borrowed_row result ≡ row_in (rows_in rows.list.now) policy kind }
 {
     match own_row(rows, policy, kind) {
         Some(row) => Some(row),
@@ -149,18 +145,16 @@ pub fn find_row(rows: &[Row], policy: u16, kind: u16) -> Option<&Row>
 
 /// Returns the row of a kind in a policy. Ignores the flag bits of the kind.
 #[inline(always)]
-fn own_row(rows: &[Row], policy: u16, kind: u16) -> Option<&Row>
-    requires sorted { are_sorted (rows_in rows.now) ≡ true }
-    ensures { option_map borrowed_row result ≡ row_at (rows_in rows.now) policy (masked kind) }
+fn own_row(rows: Rows, policy: u16, kind: u16) -> Option<&'static Row>
+    ensures { option_map borrowed_row result ≡ row_at (rows_in rows.list.now) policy (masked kind) }
 {
     row_at(rows, policy, kind & NLA_TYPE_MASK)
 }
 
 /// Returns the row of a policy and a kind.
 #[inline(always)]
-fn row_at(rows: &[Row], policy: u16, kind: u16) -> Option<&Row>
-    requires sorted { are_sorted (rows_in rows.now) ≡ true }
-    ensures { option_map borrowed_row result ≡ row_at (rows_in rows.now) policy kind }
+fn row_at(rows: Rows, policy: u16, kind: u16) -> Option<&'static Row>
+    ensures { option_map borrowed_row result ≡ row_at (rows_in rows.list.now) policy kind }
 {
     match near_row(rows, policy, kind) {
         Some(row) => Some(row),
@@ -174,20 +168,19 @@ fn row_at(rows: &[Row], policy: u16, kind: u16) -> Option<&Row>
 /// difference of the two kinds, and tries the row there. Does not try a second row if the first one
 /// belongs to another policy: that row's kind says nothing about this policy.
 #[inline(always)]
-pub(crate) fn near_row(rows: &[Row], policy: u16, kind: u16) -> Option<&Row>
-    requires sorted { are_sorted (rows_in rows.now) ≡ true }
-    ensures { IfSome result (λ row. Some (borrowed_row row) ≡ row_at (rows_in rows.now) policy kind) }
+pub(crate) fn near_row(rows: Rows, policy: u16, kind: u16) -> Option<&'static Row>
+    ensures { IfSome result (λ row. Some (borrowed_row row) ≡ row_at (rows_in rows.list.now) policy kind) }
 {
     let at = usize::from(kind.wrapping_sub(1));
-    if at < rows.len() {
-        let row = &rows[at];
+    if at < rows.list.len() {
+        let row = &rows.list[at];
         if is_same(row.0, row.1, policy, kind) {
             return Some(row);
         }
         if row.0 != policy {
             return None;
         }
-        let near = &rows[earlier(at, row.1, kind)];
+        let near = &rows.list[earlier(at, row.1, kind)];
         if is_same(near.0, near.1, policy, kind) {
             return Some(near);
         }
@@ -207,9 +200,8 @@ fn earlier(at: usize, greater: u16, kind: u16) -> usize
 /// Returns the row of a policy and a kind, by `search`. It is a separate function so that its callers
 /// stay small.
 #[inline(never)]
-fn search_row(rows: &[Row], policy: u16, kind: u16) -> Option<&Row>
-    requires sorted { are_sorted (rows_in rows.now) ≡ true }
-    ensures { option_map borrowed_row result ≡ row_at (rows_in rows.now) policy kind }
+fn search_row(rows: Rows, policy: u16, kind: u16) -> Option<&'static Row>
+    ensures { option_map borrowed_row result ≡ row_at (rows_in rows.list.now) policy kind }
 {
     search(rows, policy, kind)
 }
@@ -217,18 +209,17 @@ fn search_row(rows: &[Row], policy: u16, kind: u16) -> Option<&Row>
 /// Returns the row of a policy and a kind, by binary search. First compares the last row, because
 /// many kinds without a row are greater than all those with one.
 #[inline(always)]
-fn search(rows: &[Row], policy: u16, kind: u16) -> Option<&Row>
-    requires sorted { are_sorted (rows_in rows.now) ≡ true }
-    ensures { option_map borrowed_row result ≡ row_at (rows_in rows.now) policy kind }
+fn search(rows: Rows, policy: u16, kind: u16) -> Option<&'static Row>
+    ensures { option_map borrowed_row result ≡ row_at (rows_in rows.list.now) policy kind }
 {
     if all_precede(rows, policy, kind) {
         return None;
     }
     let mut low = 0;
-    let mut high = rows.len();
+    let mut high = rows.list.len();
     while low < high {
         let middle = low + (high - low) / 2;
-        let row = &rows[middle];
+        let row = &rows.list[middle];
         if is_equal(row.0, row.1, policy, kind) {
             return Some(row);
         }
@@ -239,65 +230,66 @@ fn search(rows: &[Row], policy: u16, kind: u16) -> Option<&Row>
 
 /// Returns whether all rows precede a policy and a kind, which then have no row.
 #[inline(always)]
-fn all_precede(rows: &[Row], policy: u16, kind: u16) -> bool
-    requires sorted { are_sorted (rows_in rows.now) ≡ true }
-    ensures { result ≡ true → row_at (rows_in rows.now) policy kind ≡ None }
+fn all_precede(rows: Rows, policy: u16, kind: u16) -> bool
+    ensures { result ≡ true → row_at (rows_in rows.list.now) policy kind ≡ None }
 {
-    let size = rows.len();
+    let size = rows.list.len();
     if size == 0 {
         return true;
     }
-    let last = &rows[size - 1];
+    let last = &rows.list[size - 1];
     is_before(last.0, last.1, policy, kind)
 }
 
 /// Returns the rows of a policy. A caller that looks up many kinds of the policy searches these in
 /// place of the whole table.
-pub(crate) fn policy_rows(rows: &[Row], policy: u16) -> &[Row]
-    requires sorted { are_sorted (rows_in rows.now) ≡ true }
-    ensures { IsPart policy (rows_in rows.now) (rows_in result.now) }
+pub(crate) fn policy_rows(rows: Rows, policy: u16) -> Rows
+    ensures { IsPart policy (rows_in rows.list.now) (rows_in result.list.now) }
 {
-    rows_until(rows_after(rows, policy, 0), policy)
+    let later = Rows {
+        list: rows_after(rows, policy, 0),
+    };
+    Rows {
+        list: rows_until(later, policy),
+    }
 }
 
 /// Returns the rows from the first row of a policy on. Does not search the first `start` rows, none of
 /// which may be the policy's.
 #[inline(always)]
-pub(crate) fn rows_after(rows: &[Row], policy: u16, start: usize) -> &[Row]
-    requires sorted { are_sorted (rows_in rows.now) ≡ true }
-    requires inside { start ≤ length rows.now }
-    requires part { IsPart policy (rows_in rows.now) (rows_in (drop start rows.now)) }
-    ensures { IsPart policy (rows_in rows.now) (rows_in result.now) }
+pub(crate) fn rows_after(rows: Rows, policy: u16, start: usize) -> &'static [Row]
+    requires inside { start ≤ length rows.list.now }
+    requires part { IsPart policy (rows_in rows.list.now) (rows_in (drop start rows.list.now)) }
+    ensures { IsPart policy (rows_in rows.list.now) (rows_in result.now) }
 {
     let mut low = start;
-    let mut high = rows.len();
+    let mut high = rows.list.len();
     while low < high {
         let middle = low + (high - low) / 2;
-        if rows[middle].0 < policy {
+        if rows.list[middle].0 < policy {
             low = middle + 1;
         } else {
             high = middle;
         }
     }
-    &rows[low..]
+    &rows.list[low..]
 }
 
 /// Returns the rows up to the last row of a policy.
-fn rows_until(rows: &[Row], policy: u16) -> &[Row]
-    requires sorted { are_sorted (rows_in rows.now) ≡ true }
-    ensures { IsPart policy (rows_in rows.now) (rows_in result.now) }
+fn rows_until(rows: Rows, policy: u16) -> &'static [Row]
+    ensures { IsPart policy (rows_in rows.list.now) (rows_in result.now) }
 {
     let mut low = 0;
-    let mut high = rows.len();
+    let mut high = rows.list.len();
     while low < high {
         let middle = low + (high - low) / 2;
-        if rows[middle].0 > policy {
+        if rows.list[middle].0 > policy {
             high = middle;
         } else {
             low = middle + 1;
         }
     }
-    &rows[..high]
+    &rows.list[..high]
 }
 
 /// Returns the bounds of the rows after `middle`, or of those before it.

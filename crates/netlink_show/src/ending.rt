@@ -2,7 +2,7 @@
 
 ghost use Rattle.std.specs.Prelude.{◌≡◌, ◌↔◌, Some, IfSome, IsTrue, false, option_map, true};
 ghost use Rattle.std.specs.Vec.Iter.{into_iter_items};
-ghost use Rattle.netlink_family.specs.Errors.{family_error};
+ghost use Rattle.netlink_family.specs.Tables.{table_error};
 ghost use Rattle.netlink_program.specs.Ending.{IsUsage};
 ghost use Rattle.netlink_show.specs.Ending.{AsksForLines, Ends, usage_text};
 
@@ -52,7 +52,7 @@ pub fn ended<F: Line, R: Read, W: Write>(
     ensures usage { IsUsage result ↔ (is_asked ≡ false) }
     ensures untouched { is_asked ≡ false → (reader.new ≡ reader.old) × (writer.new ≡ writer.old) }
     ensures ends { is_asked ≡ true → IfSome (R.remaining reader.old) (λ input.
-        Ends (family_error F.types F.short F.header_len F.rows) input (R.remaining reader.new)
+        Ends (table_error F.Table) input (R.remaining reader.new)
         (W.contents writer.old) (W.contents writer.new) result) }
 {
     if !is_asked {

@@ -1,5 +1,5 @@
 pub mod Joined
-pub mod Names
+pub mod NumberNames
 pub mod Parts
 pub mod Pieces
 pub mod Signed

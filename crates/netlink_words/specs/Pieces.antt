@@ -4,7 +4,7 @@ use Rattle.std.specs.List.{fold}
 use Rattle.std.specs.Net.Text.{ipv4_text}
 use Rattle.netlink_packet_core.specs.Text.{hex_pair}
 use Rattle.std.proofs.lemmas.Fmt.{decimal_nonempty}
-use Rattle.netlink_words.specs.Names.{protocol_text, scope_text, state_text, table_text}
+use Rattle.netlink_words.specs.NumberNames.{protocol_text, scope_text, state_text, table_text}
 use Rattle.netlink_words.specs.Parts.{keyed, prefix_end, prefix_of, with_part}
 use Rattle.netlink_words.specs.Text.{byte_text, bytes_text, ip_words, name_text, printable_text, sentence_text, pairs, separated, with_byte, with_pair, with_printable}
 

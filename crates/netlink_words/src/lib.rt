@@ -23,15 +23,15 @@
 //! | bytes, `02:00:00:00:00:02` | `text::push_colons` | `Text::bytes_text` |
 //! | a name, `caf\xe9` | `text::name_text` | `Text::name_text` |
 //! | a sentence, with its spaces | `text::sentence_text` | `Text::sentence_text` |
-//! | the name of an operational state, `UP` | `names::push_state` | `Names::state_text` |
-//! | the name of an address family, `inet` | `names::family_text` | `Names::family_text` |
-//! | the name of a scope, `global` | `names::push_scope` | `Names::scope_text` |
-//! | the name of a routing table, `main` | `names::push_table` | `Names::table_text` |
-//! | the name of who installed a route, `kernel` | `names::push_protocol` | `Names::protocol_text` |
-//! | the name of a type of route, `blackhole` | `names::route_type_text` | `Names::route_type_text` |
+//! | the name of an operational state, `UP` | `number_names::push_state` | `NumberNames::state_text` |
+//! | the name of an address family, `inet` | `number_names::family_text` | `NumberNames::family_text` |
+//! | the name of a scope, `global` | `number_names::push_scope` | `NumberNames::scope_text` |
+//! | the name of a routing table, `main` | `number_names::push_table` | `NumberNames::table_text` |
+//! | the name of who installed a route, `kernel` | `number_names::push_protocol` | `NumberNames::protocol_text` |
+//! | the name of a type of route, `blackhole` | `number_names::route_type_text` | `NumberNames::route_type_text` |
 #![tactic(auto)]
 
 pub mod digits;
-pub mod names;
+pub mod number_names;
 pub mod parts;
 pub mod text;

@@ -27,43 +27,59 @@ const FLAGGED: [u8; 48] = [
     8, 0, 2, 0x40, 128, 0, 0, 0, // NDTA_THRESH1 with NLA_F_NET_BYTEORDER
 ];
 
+/// Decodes the payload of a new neighbour.
+fn neighbour_of(alloc: Global, payload: &[u8]) -> Result<NeighbourMessage, FamilyError> {
+    NeighbourMessage::deserialize(alloc, &header(28), payload)
+}
+
+/// Returns the number of probes, and what a getter of another shape returns.
+fn probes_of(message: &NeighbourMessage) -> (Option<u32>, Option<u32>) {
+    (probes(message), no_number(message))
+}
+
+/// Returns the VLAN, and whether there is a destination.
+fn vlan_of(message: &NeighbourMessage) -> (Option<u16>, bool) {
+    let view = message.view();
+    (view.u16(NDA_VLAN), view.value(NDA_DST) != None)
+}
+
 #[test]
 fn getters_return_the_first_of_a_kind(rt: HostRuntime) -> Result<(), Fail> {
-    let header = NetlinkHeader {
-        message_type: 28,
-        ..NetlinkHeader::default()
-    };
-    let message = NeighbourMessage::deserialize(rt.alloc(), &header, &NEIGHBOUR)?;
-    assert!(rt; probes(&message) == Some(5));
-    assert!(rt; message.view().u16(NDA_VLAN) == Some(9));
-    assert!(rt; no_number(&message) == None);
-    assert!(rt; message.view().value(NDA_DST) == None);
+    let message = neighbour_of(rt.alloc(), &NEIGHBOUR)?;
+    assert!(rt; probes_of(&message) == (Some(5), None));
+    assert!(rt; vlan_of(&message) == (Some(9), false));
     assert!(rt; link_address(&message) == Some(&[2, 0, 0, 0, 0, 7]));
     assert!(rt; numbers(&message) == 3);
     Ok(())
 }
 
-/// Decodes the payload of a message about a neighbour table.
-fn table_of(alloc: Global, payload: &[u8]) -> Result<Route, FamilyError> {
-    let header = NetlinkHeader {
-        message_type: 64,
+/// Returns a header with this message type.
+fn header(message_type: u16) -> NetlinkHeader {
+    NetlinkHeader {
+        message_type,
         ..NetlinkHeader::default()
-    };
-    Route::deserialize(alloc, &header, payload)
+    }
+}
+
+/// Returns the first threshold and the name of a neighbour table.
+fn threshold_and_name<'a>(message: &'a Route) -> (Option<u32>, Option<&'a [u8]>) {
+    let view = message.view();
+    (view.u32(NDTA_THRESH1), view.str_bytes(NDTA_NAME))
+}
+
+/// Returns the policy and the attributes of the parameters of a neighbour table.
+fn parms_of<'a>(message: &'a Route) -> Option<(u16, &'a [u8])> {
+    match message.view().value(NDTA_PARMS) {
+        Some(Value::Nested(parms)) => Some((parms.policy, parms.block)),
+        _ => None,
+    }
 }
 
 #[test]
 fn flag_bits_are_ignored(rt: HostRuntime) -> Result<(), Fail> {
-    let message = table_of(rt.alloc(), &FLAGGED[16..])?;
-    assert!(rt; message.view().u32(NDTA_THRESH1) == Some(128));
-    assert!(rt; message.view().str_bytes(NDTA_NAME) == Some(b"a".as_slice()));
-    match message.view().value(NDTA_PARMS) {
-        Some(Value::Nested(parms)) => {
-            assert!(rt; parms.policy == PARMS);
-            assert!(rt; parms.block == [8, 0, 1, 0, 3, 0, 0, 0].as_slice());
-        }
-        _ => assert!(rt; false),
-    }
+    let message = Route::deserialize(rt.alloc(), &header(64), &FLAGGED[16..])?;
+    assert!(rt; threshold_and_name(&message) == (Some(128), Some(b"a".as_slice())));
+    assert!(rt; parms_of(&message) == Some((PARMS, [8, 0, 1, 0, 3, 0, 0, 0].as_slice())));
     Ok(())
 }
 
@@ -81,7 +97,7 @@ fn flag_bits_are_kept(rt: HostRuntime) -> Result<(), Fail> {
 fn errors_keep_flag_bits(rt: HostRuntime) {
     let mut bad = FLAGGED;
     bad[34] = 2; // NDTPA_REFCNT has the same size; NDTPA_REACHABLE_TIME, 3, does not
-    assert!(rt; table_of(rt.alloc(), &bad[16..]).is_ok());
+    assert!(rt; Route::deserialize(rt.alloc(), &header(64), &bad[16..]).is_ok());
     bad[34] = 3;
     bad[35] = 0x80;
     let error = FamilyError::InvalidAttribute(AttributeError {
@@ -94,49 +110,70 @@ fn errors_keep_flag_bits(rt: HostRuntime) {
         },
     });
     assert_eq!(rt; name_of_error(64, &error), "NDTPA_REACHABLE_TIME");
-    assert!(rt; table_of(rt.alloc(), &bad[16..]).err() == Some(error));
+    assert!(rt; Route::deserialize(rt.alloc(), &header(64), &bad[16..]).err() == Some(error));
+}
+
+/// Returns the destination, and what getters of another shape return.
+fn destination_of<'a>(message: &'a NeighbourMessage) -> (Option<&'a [u8]>, Option<&'a [u8]>) {
+    let view = message.view();
+    (view.ip(NDA_DST), view.bytes(NDA_DST))
+}
+
+/// Returns the statistics, and what a getter of another shape returns.
+fn statistics_of<'a>(message: &'a NeighbourMessage) -> (Option<&'a [u8]>, Option<&'a [u8]>) {
+    let view = message.view();
+    (view.exact(NDA_CACHEINFO), view.ip(NDA_CACHEINFO))
+}
+
+/// Returns whether a neighbour has this port.
+fn has_port(message: &NeighbourMessage, number: u16) -> bool {
+    port(message) == Some(number)
 }
 
 #[test]
 fn getters_decode_each_shape(rt: HostRuntime) -> Result<(), Fail> {
-    let alloc = rt.alloc();
-    let header = NetlinkHeader {
-        message_type: 28,
-        ..NetlinkHeader::default()
-    };
     let payload = [
         2, 0, 0, 0, 3, 0, 0, 0, 2, 0, 0x80, 1, // AF_INET, link 3
         8, 0, 1, 0, 192, 0, 2, 7, // NDA_DST
         20, 0, 3, 0, 1, 0, 0, 0, 2, 0, 0, 0, 3, 0, 0, 0, 4, 0, 0, 0, // NDA_CACHEINFO
         6, 0, 6, 0, 0x12, 0x34, 0, 0, // NDA_PORT
     ];
-    let neighbour = NeighbourMessage::deserialize(alloc, &header, &payload)?;
-    assert!(rt; neighbour.view().ip(NDA_DST) == Some([192, 0, 2, 7].as_slice()));
-    assert!(rt; neighbour.view().exact(NDA_CACHEINFO) == Some(&payload[24..40]));
-    assert!(rt; port(&neighbour) == Some(0x1234));
-    assert!(rt; neighbour.view().ip(NDA_CACHEINFO) == None);
-    assert!(rt; neighbour.view().bytes(NDA_DST) == None);
+    let neighbour = neighbour_of(rt.alloc(), &payload)?;
+    assert!(rt; destination_of(&neighbour) == (Some([192, 0, 2, 7].as_slice()), None));
+    assert!(rt; statistics_of(&neighbour) == (Some(&payload[24..40]), None));
+    assert!(rt; has_port(&neighbour, 0x1234));
     Ok(())
+}
+
+/// Returns the name of a rule's interface, as text and as bytes.
+fn names_of<'a>(rule: &'a Route) -> (Option<&'a str>, Option<&'a [u8]>) {
+    let view = rule.view();
+    (view.str(FRA_IIFNAME), view.str_bytes(FRA_IIFNAME))
+}
+
+/// Returns the tunnel of a rule, and what a getter of another shape returns.
+fn tunnel_of(rule: &Route) -> (Option<u64>, Option<u8>) {
+    let view = rule.view();
+    (view.be64(FRA_TUN_ID), view.u8(FRA_TUN_ID))
+}
+
+/// Returns a rule's flag for an l3mdev.
+fn l3mdev_of(rule: &Route) -> Option<u8> {
+    rule.view().u8(FRA_L3MDEV)
 }
 
 #[test]
 fn getters_decode_each_shape_of_a_rule(rt: HostRuntime) -> Result<(), Fail> {
-    let header = NetlinkHeader {
-        message_type: RTM_NEWRULE,
-        ..NetlinkHeader::default()
-    };
     let payload = [
         2, 0, 0, 0, 0, 0, 0, 0, 0, 0, 0, 0, // header
         7, 0, 3, 0, b'e', b't', b'h', 0, // FRA_IIFNAME
         12, 0, 12, 0, 0, 0, 0, 0, 0, 0, 1, 2, // FRA_TUN_ID
         5, 0, 19, 0, 1, 0, 0, 0, // FRA_L3MDEV
     ];
-    let rule = Route::deserialize(rt.alloc(), &header, &payload)?;
-    assert!(rt; rule.view().str(FRA_IIFNAME) == Some("eth"));
-    assert!(rt; rule.view().str_bytes(FRA_IIFNAME) == Some(b"eth".as_slice()));
-    assert!(rt; rule.view().be64(FRA_TUN_ID) == Some(258));
-    assert!(rt; rule.view().u8(FRA_L3MDEV) == Some(1));
-    assert!(rt; rule.view().u8(FRA_TUN_ID) == None);
+    let rule = Route::deserialize(rt.alloc(), &header(RTM_NEWRULE), &payload)?;
+    assert!(rt; names_of(&rule) == (Some("eth"), Some(b"eth".as_slice())));
+    assert!(rt; tunnel_of(&rule) == (Some(258), None));
+    assert!(rt; l3mdev_of(&rule) == Some(1));
     assert!(rt; mark_shape() == Shape::Nested(MARK));
     Ok(())
 }

@@ -3,13 +3,12 @@
 use crate::neighbours::{NDM_IFINDEX, RTM_GETNEIGH};
 use crate::route::{Route, link_of, neighbour_link, threshold_or_priority};
 use crate::rules::{FRH_ACTION, FRH_FLAGS, FRH_TABLE, RTM_NEWRULE};
-use netlink_family::{FamilyError, Field, Shape, Value};
+use netlink_family::{FamilyError, Field, HeaderView, Shape, Value};
 use netlink_packet_core::laws::reads_back;
 use netlink_packet_core::{
-    NetlinkDeserializable, NetlinkHeader, NetlinkMessage, NetlinkPayload, normalize,
+    DecodeError, NetlinkDeserializable, NetlinkHeader, NetlinkMessage, NetlinkPayload, normalize,
 };
 use std::alloc::Global;
-use std::process::Abort;
 use std::test::Fail;
 
 const NEIGHBOUR: [u8; 36] = [
@@ -31,18 +30,43 @@ const RULE: [u8; 36] = [
     8, 0, 6, 0, 0xff, 0x7f, 0, 0, // FRA_PRIORITY
 ];
 
+/// Decodes the message of a frame.
+pub(super) fn message_of(
+    alloc: Global,
+    frame: &[u8],
+) -> Result<NetlinkMessage<Route>, DecodeError> {
+    NetlinkMessage::<Route>::deserialize(alloc, frame)
+}
+
+/// Returns whether a message fits. If it does, its frame obeys the law of reading back.
+pub(super) fn is_read_back(message: &NetlinkMessage<Route>) -> bool {
+    if !message.fits() {
+        return false;
+    }
+    reads_back(message, message, &[7]);
+    true
+}
+
+/// Returns whether a frame is in canonical form.
+pub(super) fn is_normal(alloc: Global, frame: &[u8]) -> Result<bool, DecodeError> {
+    Ok(normalize::<Route>(alloc, frame)?.as_slice() == frame)
+}
+
 #[test]
 fn one_type_decodes_every_family(rt: HostRuntime) -> Result<(), Fail> {
     let alloc = rt.alloc();
-    let rows: [(&[u8], Option<i32>, Option<Value<'_>>); 3] = [
+    let rows: [(&[u8; 36], Option<i32>, Option<Value<'_>>); 3] = [
         (&NEIGHBOUR, Some(3), None),
         (&TABLE, None, Some(Value::U32(128))),
         (&RULE, None, Some(Value::U32(32767))),
     ];
-    for (datagram, link, number) in rows.iter() {
-        reads_and_writes(&rt, alloc, datagram)?;
-        let header = NetlinkMessage::<Route>::deserialize(alloc, datagram)?.header;
-        let inner = Route::deserialize(alloc, &header, &datagram[16..])?;
+    for (frame, link, number) in rows.iter() {
+        let frame = &frame[..];
+        let message = message_of(alloc, frame)?;
+        assert!(rt; is_read_back(&message));
+        assert!(rt; matches!(message.payload, NetlinkPayload::InnerMessage(_)));
+        assert!(rt; is_normal(alloc, frame)?);
+        let inner = Route::deserialize(alloc, &message.header, &frame[16..])?;
         assert!(rt; threshold_or_priority(&inner) == *number);
         assert!(rt; link_of(&inner) == *link);
         assert!(rt; neighbour_link(inner) == *link);
@@ -50,13 +74,9 @@ fn one_type_decodes_every_family(rt: HostRuntime) -> Result<(), Fail> {
     Ok(())
 }
 
-fn reads_and_writes(rt: &impl Abort, alloc: Global, datagram: &[u8]) -> Result<(), Fail> {
-    let message = NetlinkMessage::<Route>::deserialize(alloc, datagram)?;
-    assert!(rt; message.fits());
-    reads_back(&message, &message, &[7]);
-    assert!(rt; matches!(message.payload, NetlinkPayload::InnerMessage(_)));
-    assert_eq!(rt; normalize::<Route>(alloc, datagram)?.as_slice(), datagram);
-    Ok(())
+/// Decodes a payload.
+fn route_of(alloc: Global, header: &NetlinkHeader, payload: &[u8]) -> Result<Route, FamilyError> {
+    Route::deserialize(alloc, header, payload)
 }
 
 /// A frame is written without its message, in a vector of its exact size, also if its last padding
@@ -102,12 +122,12 @@ fn other_payloads_are_rejected(rt: HostRuntime) -> Result<(), Fail> {
         ..NetlinkHeader::default()
     };
     assert!(rt;
-        Route::deserialize(alloc, &header, &NEIGHBOUR[16..]).err()
+        route_of(alloc, &header, &NEIGHBOUR[16..]).err()
             == Some(FamilyError::UnknownType { message_type: 16 })
     );
     header.message_type = 28;
     assert!(rt;
-        Route::deserialize(alloc, &header, &[2]).err()
+        route_of(alloc, &header, &[2]).err()
             == Some(FamilyError::HeaderShort {
                 expected: 12,
                 received: 1,
@@ -142,14 +162,57 @@ const SHORT: Field = ("short", 6, Shape::U16);
 
 const BIG_SHORT: Field = ("big short", 6, Shape::Be16);
 
+/// Sets two fields of a rule.
+fn set_signed_and_short(message: &mut Route) {
+    if message.message_type == RTM_NEWRULE {
+        message.set_i32(SIGNED, -2);
+        message.set_u16(SHORT, 0x0506);
+    }
+}
+
+/// Sets two more fields of a rule.
+fn set_table_and_flags(message: &mut Route) {
+    if message.message_type == RTM_NEWRULE {
+        message.set_u8(FRH_TABLE, 9);
+        message.set_u32(FRH_FLAGS, 0x01020304);
+    }
+}
+
 /// Returns a rule with each of these fields.
 fn rule(alloc: Global) -> Result<Route, Fail> {
     let mut message = Route::new(alloc, RTM_NEWRULE)?;
-    message.set_i32(SIGNED, -2);
-    message.set_u16(SHORT, 0x0506);
-    message.set_u8(FRH_TABLE, 9);
-    message.set_u32(FRH_FLAGS, 0x01020304);
+    set_signed_and_short(&mut message);
+    set_table_and_flags(&mut message);
     Ok(message)
+}
+
+/// Returns the first field as an `i32`, and the second as a `u16` of each byte order.
+fn shorts_of(header: HeaderView<'_>) -> Option<(i32, u16, u16)> {
+    if header.bytes.len() < 12 {
+        return None;
+    }
+    Some((
+        header.i32(SIGNED),
+        header.u16(SHORT),
+        header.be16(BIG_SHORT),
+    ))
+}
+
+/// Returns the action, the flags and the big-endian field.
+fn others_of(header: HeaderView<'_>) -> Option<(u8, u32, u32)> {
+    if header.bytes.len() < 12 {
+        return None;
+    }
+    Some((
+        header.u8(FRH_ACTION),
+        header.u32(FRH_FLAGS),
+        header.be32(BIG),
+    ))
+}
+
+/// Returns whether the view of a message has this header.
+fn has_view(message: &Route, header: HeaderView<'_>) -> bool {
+    message.message_view().header() == header
 }
 
 #[test]
@@ -157,12 +220,8 @@ fn header_fields_are_written_and_read(rt: HostRuntime) -> Result<(), Fail> {
     let message = rule(rt.alloc())?;
     let header = message.header();
     assert!(rt; header.bytes == [0xfe, 0xff, 0xff, 0xff, 9, 0, 6, 5, 4, 3, 2, 1].as_slice());
-    assert!(rt; header.i32(SIGNED) == -2);
-    assert!(rt; header.u16(SHORT) == 0x0506);
-    assert!(rt; header.u8(FRH_ACTION) == 5);
-    assert!(rt; header.u32(FRH_FLAGS) == 0x01020304);
-    assert!(rt; header.be16(BIG_SHORT) == 0x0605);
-    assert!(rt; header.be32(BIG) == 0x09000605);
-    assert!(rt; message.message_view().header() == header);
+    assert!(rt; shorts_of(header) == Some((-2, 0x0506, 0x0605)));
+    assert!(rt; others_of(header) == Some((5, 0x01020304, 0x09000605)));
+    assert!(rt; has_view(&message, header));
     Ok(())
 }

@@ -1,7 +1,10 @@
 //! Nests after a header.
 
 use crate::shapes::{EVERY, Every, EveryMessage, PEER_INDEX};
-use netlink_family::{AttributeError, FamilyError, MessageView, OwnedMessage, Reason, TOP, Value};
+use netlink_family::{
+    AttributeError, BlockView, FamilyError, MessageView, OwnedMessage, Reason, TOP, Value,
+};
+use std::alloc::{AllocError, Global};
 use std::test::Fail;
 
 const PEER: [u8; 24] = [
@@ -10,30 +13,64 @@ const PEER: [u8; 24] = [
     8, 0, 16, 0, 5, 4, 3, 2, // a peer in it, with a header only
 ];
 
+/// Returns a message with one attribute.
+pub(super) fn message_with(
+    alloc: Global,
+    kind: u16,
+    value: &[u8],
+) -> Result<EveryMessage, FamilyError> {
+    let mut message: EveryMessage = OwnedMessage::new(alloc, EVERY)?;
+    message.try_push(alloc, kind, value)?;
+    Ok(message)
+}
+
+/// Returns a message as text.
+pub(super) fn shown(alloc: Global, message: &EveryMessage) -> Result<String, AllocError> {
+    message.message_view().show(alloc)
+}
+
+/// Returns the error of a payload.
+pub(super) fn error_of(payload: &[u8]) -> Option<FamilyError> {
+    MessageView::<Every>::new(EVERY, payload).err()
+}
+
+/// Returns the index in the header of a peer.
+fn index_of(message: &EveryMessage) -> Option<u32> {
+    let header = message.view().nest_header(16)?;
+    Some(header.u32(PEER_INDEX))
+}
+
+/// Returns a view of a peer.
+fn peer_of<'a>(message: &'a EveryMessage) -> Option<BlockView<'a>> {
+    message.view().nest(16)
+}
+
+/// Returns the number in a peer, and whether the number is a nest after a header.
+fn number_of(peer: BlockView<'_>) -> (Option<u16>, bool) {
+    (peer.u16(3), peer.nest_header(3) != None)
+}
+
+/// Returns the header and the attributes of a peer as a value.
+fn parts_of<'a>(message: &'a EveryMessage) -> Option<(&'a [u8], &'a [u8])> {
+    match message.view().value(16) {
+        Some(Value::HeaderNested(header, peer)) => Some((header.bytes, peer.block)),
+        _ => None,
+    }
+}
+
 #[test]
 fn nests_may_follow_a_header(rt: HostRuntime) -> Result<(), Fail> {
     let alloc = rt.alloc();
-    let mut message: EveryMessage = OwnedMessage::new(alloc, EVERY)?;
-    message.try_push(alloc, 16, &PEER[4..])?;
+    let message = message_with(alloc, 16, &PEER[4..])?;
     assert!(rt; message.bytes.as_slice() == PEER.as_slice());
-    let view = message.view();
-    match (view.nest_header(16), view.nest(16)) {
-        (Some(header), Some(peer)) => {
-            assert!(rt; header.u32(PEER_INDEX) == 0x06070809);
-            assert!(rt; peer.u16(3) == Some(0x0102));
-            assert!(rt; peer.nest_header(3) == None);
-        }
-        _ => assert!(rt; false),
+    assert!(rt; index_of(&message) == Some(0x06070809));
+    match peer_of(&message) {
+        Some(peer) => assert!(rt; number_of(peer) == (Some(0x0102), false)),
+        None => assert!(rt; false),
     }
-    match view.value(16) {
-        Some(Value::HeaderNested(header, peer)) => {
-            assert!(rt; header.bytes == [9, 8, 7, 6].as_slice());
-            assert!(rt; peer.block == &PEER[8..]);
-        }
-        _ => assert!(rt; false),
-    }
+    assert!(rt; parts_of(&message) == Some(([9, 8, 7, 6].as_slice(), &PEER[8..])));
     assert_eq!(rt;
-        message.message_view().show(alloc)?.as_str(),
+        shown(alloc, &message)?.as_str(),
         "type 100\npeer: 09080706\n  u16: 258\n  peer: 05040302\n"
     );
     Ok(())
@@ -77,8 +114,7 @@ fn errors_in_nests_after_a_header_have_their_offset(rt: HostRuntime) -> Result<(
             policy: TOP,
             reason: *reason,
         };
-        let found = MessageView::<Every>::new(EVERY, payload).err();
-        assert!(rt; found == Some(FamilyError::InvalidAttribute(error)));
+        assert!(rt; error_of(payload) == Some(FamilyError::InvalidAttribute(error)));
     }
     Ok(())
 }

@@ -1,7 +1,8 @@
 //! Lists of records that carry their own length, as `struct rtnexthop` does.
 
-use crate::shapes::{EVERY, Every, EveryMessage, RECORDS};
-use netlink_family::{AttributeError, FamilyError, MessageView, OwnedMessage, Reason, TOP, Value};
+use super::nests::{error_of, message_with, shown};
+use crate::shapes::{EveryMessage, RECORDS};
+use netlink_family::{AttributeError, Attributes, FamilyError, Reason, TOP, Value};
 use std::test::Fail;
 
 // two records: the length, two bytes, a header of 4 bytes, and attributes
@@ -12,37 +13,40 @@ const LIST: [u8; 28] = [
     8, 0, 0, 0, 5, 4, 3, 2, // without attributes
 ];
 
+/// Returns the parts of the next record: the word after its length, its header, the number in it,
+/// and whether it has attributes.
+fn next_record<'a>(all: &mut Attributes<'a>) -> Option<(u16, &'a [u8], Option<u16>, bool)> {
+    match all.next() {
+        Some((word, Value::HeaderNested(header, inner))) => {
+            Some((word, header.bytes, inner.u16(3), !inner.block.is_empty()))
+        }
+        _ => None,
+    }
+}
+
+/// Returns whether the list is that of `LIST`.
+fn has_records(mut all: Attributes<'_>) -> bool {
+    next_record(&mut all) == Some((0x0201, [9, 8, 7, 6].as_slice(), Some(0x0102), true))
+        && next_record(&mut all) == Some((0, [5, 4, 3, 2].as_slice(), None, false))
+        && all.next() == None
+}
+
+/// Returns the records of a message.
+fn records_of<'a>(message: &'a EveryMessage) -> Option<Attributes<'a>> {
+    Some(message.view().nest(17)?.attributes())
+}
+
 #[test]
 fn records_are_read(rt: HostRuntime) -> Result<(), Fail> {
     let alloc = rt.alloc();
-    let mut message: EveryMessage = OwnedMessage::new(alloc, EVERY)?;
-    message.try_push(alloc, 17, &LIST[4..])?;
+    let message = message_with(alloc, 17, &LIST[4..])?;
     assert!(rt; message.bytes.as_slice() == LIST.as_slice());
-    match message.view().nest(17) {
-        Some(records) => {
-            let mut all = records.attributes();
-            match all.next() {
-                Some((word, Value::HeaderNested(header, inner))) => {
-                    assert!(rt; word == 0x0201);
-                    assert!(rt; header.bytes == [9, 8, 7, 6].as_slice());
-                    assert!(rt; inner.u16(3) == Some(0x0102));
-                }
-                _ => assert!(rt; false),
-            }
-            match all.next() {
-                Some((word, Value::HeaderNested(header, inner))) => {
-                    assert!(rt; word == 0);
-                    assert!(rt; header.bytes == [5, 4, 3, 2].as_slice());
-                    assert!(rt; inner.block.is_empty());
-                }
-                _ => assert!(rt; false),
-            }
-            assert!(rt; all.next() == None);
-        }
+    match records_of(&message) {
+        Some(all) => assert!(rt; has_records(all)),
         None => assert!(rt; false),
     }
     assert_eq!(rt;
-        message.message_view().show(alloc)?.as_str(),
+        shown(alloc, &message)?.as_str(),
         "type 100\nrecords:\n  513: 09080706\n    u16: 258\n  0: 05040302\n"
     );
     Ok(())
@@ -98,15 +102,13 @@ fn errors_in_records_have_their_offset(rt: HostRuntime) -> Result<(), Fail> {
         ),
     ];
     for (value, offset, policy, reason) in rows.iter() {
-        let mut message: EveryMessage = OwnedMessage::new(rt.alloc(), EVERY)?;
         let error = FamilyError::InvalidAttribute(AttributeError {
             offset: *offset,
             policy: *policy,
             reason: *reason,
         });
-        assert!(rt; message.try_push(rt.alloc(), 17, value).err() == Some(error));
+        assert!(rt; message_with(rt.alloc(), 17, value).err() == Some(error));
     }
-    let view = MessageView::<Every>::new(EVERY, &LIST[..26]).err();
     let cut = AttributeError {
         offset: 0,
         policy: TOP,
@@ -115,6 +117,6 @@ fn errors_in_records_have_their_offset(rt: HostRuntime) -> Result<(), Fail> {
             received: 26,
         },
     };
-    assert!(rt; view == Some(FamilyError::InvalidAttribute(cut)));
+    assert!(rt; error_of(&LIST[..26]) == Some(FamilyError::InvalidAttribute(cut)));
     Ok(())
 }

@@ -14,9 +14,16 @@ fn rule() -> NetlinkHeader {
     }
 }
 
+/// Returns the value of a rule's interface.
+fn name_of<'a>(rule: &'a Route) -> Option<&'a [u8]> {
+    match rule.view().value(FRA_IIFNAME) {
+        Some(Value::Str(bytes)) => Some(bytes),
+        _ => None,
+    }
+}
+
 #[test]
 fn strings_need_no_nul(rt: HostRuntime) -> Result<(), Fail> {
-    let alloc = rt.alloc();
     let rows: [(&[u8], Option<&str>); 4] = [
         (
             &[
@@ -39,11 +46,11 @@ fn strings_need_no_nul(rt: HostRuntime) -> Result<(), Fail> {
         ),
     ];
     for (payload, text) in rows.iter() {
-        let message = Route::deserialize(alloc, &rule(), payload)?;
+        let message = Route::deserialize(rt.alloc(), &rule(), payload)?;
         assert_eq!(rt; message.bytes.as_slice(), *payload);
-        match message.view().value(FRA_IIFNAME) {
-            Some(Value::Str(bytes)) => assert!(rt; str_until_nul(bytes) == *text),
-            _ => assert!(rt; false),
+        match name_of(&message) {
+            Some(bytes) => assert!(rt; str_until_nul(bytes) == *text),
+            None => assert!(rt; false),
         }
     }
     Ok(())

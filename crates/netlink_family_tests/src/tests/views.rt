@@ -77,6 +77,14 @@ fn views_return_the_error_of_the_payload(rt: HostRuntime) -> Result<(), Fail> {
     Ok(())
 }
 
+/// Returns whether this is the next item.
+fn is_next(
+    all: &mut CheckedAttributes<'_, Families>,
+    item: Option<Result<(u16, Value<'_>), AttributeError>>,
+) -> bool {
+    all.next() == item
+}
+
 #[test]
 fn attributes_before_an_error_are_yielded(rt: HostRuntime) -> Result<(), Fail> {
     let payload = [
@@ -86,7 +94,7 @@ fn attributes_before_an_error_are_yielded(rt: HostRuntime) -> Result<(), Fail> {
         8, 0, 4, 0, 1, 0, 0, 0, // NDTA_THRESH3
     ];
     let mut all = CheckedAttributes::<Families>::new(RTM_NEWNEIGHTBL, &payload)?;
-    assert!(rt; all.next() == Some(Ok((NDTA_THRESH1, Value::U32(128)))));
+    assert!(rt; is_next(&mut all, Some(Ok((NDTA_THRESH1, Value::U32(128))))));
     let error = AttributeError {
         offset: 12,
         policy: TOP,
@@ -96,8 +104,8 @@ fn attributes_before_an_error_are_yielded(rt: HostRuntime) -> Result<(), Fail> {
             received: 3,
         },
     };
-    assert!(rt; all.next() == Some(Err(error)));
-    assert!(rt; all.next() == None);
+    assert!(rt; is_next(&mut all, Some(Err(error))));
+    assert!(rt; is_next(&mut all, None));
     Ok(())
 }
 

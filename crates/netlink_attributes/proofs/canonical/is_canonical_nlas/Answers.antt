@@ -1,5 +1,6 @@
 use Rattle.std.proofs.Common.{ap, Bor, List, ℕ, IsTrue}
-use Rattle.netlink_attributes.proofs.Canonicals.{canonical_cons, canonical_rest, canonical_fault, same_zeros}
+use Rattle.netlink_attributes.specs.ZeroPadding.{canonical_cons, same_zeros}
+use Rattle.netlink_attributes.proofs.Canonicals.{canonical_fault, canonical_rest}
 use Rattle.netlink_attributes.proofs.canonical.is_canonical_nlas.Goals as goal
 
 pub returns-then-not-is_zero_padded : goal.returns-then-not-is_zero_padded

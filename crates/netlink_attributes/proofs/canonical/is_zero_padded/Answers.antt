@@ -1,6 +1,6 @@
 use Rattle.std.proofs.Common.{◌-◌, ◌<◌, length, arith}
 use Rattle.netlink_attributes.specs.Attribute.{padding}
-use Rattle.netlink_attributes.proofs.Canonicals.{short_padding}
+use Rattle.netlink_attributes.specs.ZeroPadding.{short_padding}
 use Rattle.netlink_attributes.proofs.canonical.is_zero_padded.Goals as goal
 
 pub returns-else-end-bytes : goal.returns-else-end-bytes

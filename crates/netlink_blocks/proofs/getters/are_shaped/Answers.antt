@@ -6,7 +6,7 @@ use Rattle.netlink_blocks.proofs.getters.are_shaped.Goals as goal
 pub returns : goal.returns
 returns c =
     let view = c.args.view.now in
-    block_attributes (within (rows_in view.rows.now) view.block.now) view.policy c.args.block.now
+    block_attributes (within (rows_in view.rows.list.now) view.block.now) view.policy c.args.block.now
     (λ i. omega (arith, c.type_inv.block i))
-    (ap (λ (b : List ℕ). are_shaped nest_levels (within (rows_in view.rows.now) view.block.now) view.policy b) c.requires
+    (ap (λ (b : List ℕ). are_shaped nest_levels (within (rows_in view.rows.list.now) view.block.now) view.policy b) c.requires
     ∙ view.shaped)

@@ -5,4 +5,4 @@ use Rattle.netlink_family.proofs.checked.long_block_error.Goals as goal
 
 pub returns-in-None : goal.returns-in-None
 returns-in-None c =
-    long_none (rows_in c.args.rows.now) c.args.end c.args.block.now (sym c.error_in.ensures ∙ c.in-None.is) c.requires.long
+    long_none (rows_in c.args.rows.list.now) c.args.end c.args.block.now (sym c.error_in.ensures ∙ c.in-None.is) c.requires.long

@@ -12,7 +12,7 @@ pub returns-then-not-keeps_shape : goal.returns-then-not-keeps_shape
 returns-then-not-keeps_shape c =
     let step = rw c.in-Ok.is at c.in-Some.ensures.steps in
     let bytes : List ℕ = unread c.loop-item.item-iterator in
-    let scope = within (rows_in c.args.rows.now) c.args.block.now in
+    let scope = within (rows_in c.args.rows.list.now) c.args.block.now in
     let kind : c.raw_kind.result ≡ (attribute_of bytes).kind = c.raw_kind.ensures.number ∙ ap (λ (b : List ℕ). (attribute_of b).kind) step.0 in
     let other : c.keeps_shape.result ≡ false = search rules in
     sym (keeps_step scope c.args.kind _ bytes (unread c.next.new.self) c.raw_kind.result c.keeps_shape.result c.loop-item.invariant
@@ -23,7 +23,7 @@ pub loop-item-preserved : goal.loop-item-preserved
 loop-item-preserved c =
     let step = rw c.in-Ok.is at c.in-Some.ensures.steps in
     let bytes : List ℕ = unread c.loop-item.item-iterator in
-    let scope = within (rows_in c.args.rows.now) c.args.block.now in
+    let scope = within (rows_in c.args.rows.list.now) c.args.block.now in
     let kind : c.raw_kind.result ≡ (attribute_of bytes).kind = c.raw_kind.ensures.number ∙ ap (λ (b : List ℕ). (attribute_of b).kind) step.0 in
     let own : c.keeps_shape.result ≡ true = search rules in
     keeps_step scope c.args.kind _ bytes (unread c.next.new.self) c.raw_kind.result c.keeps_shape.result c.loop-item.invariant
@@ -33,12 +33,12 @@ loop-item-preserved c =
 pub returns-in-Err : goal.returns-in-Err
 returns-in-Err c =
     let step = rw c.in-Err.is at c.in-Some.ensures.steps in
-    let scope = within (rows_in c.args.rows.now) c.args.block.now in
+    let scope = within (rows_in c.args.rows.list.now) c.args.block.now in
     sym (c.loop-item.invariant
     ∙ ap (list_all (keeps scope c.args.kind)) (before_malformed (unread c.loop-item.item-iterator) _ step.1))
 
 pub returns : goal.returns
 returns c =
-    let scope = within (rows_in c.args.rows.now) c.args.block.now in
+    let scope = within (rows_in c.args.rows.list.now) c.args.block.now in
     sym (c.loop-item.invariant
     ∙ ap (list_all (keeps scope c.args.kind)) (before_nothing (unread c.loop-item.item-iterator) c.in-None.ensures.steps.0))

@@ -8,5 +8,5 @@ use Rattle.netlink_family.proofs.late.keeps_all.Given as goal
 
 abbrev pub invariant-loop-item : goal.invariant-loop-item
 invariant-loop-item l =
-    list_all (keeps (within (rows_in l.rows) l.block) l.kind) (listed l.block)
-    ≡ list_all (keeps (within (rows_in l.rows) l.block) l.kind) (listed (unread l.item-iterator))
+    list_all (keeps (within (rows_in l.rows.list.now) l.block) l.kind) (listed l.block)
+    ≡ list_all (keeps (within (rows_in l.rows.list.now) l.block) l.kind) (listed (unread l.item-iterator))

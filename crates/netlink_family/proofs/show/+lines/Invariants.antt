@@ -14,6 +14,6 @@ decreases-push_block l = 2 * l.levels + 1
 -- the text still to be appended is that of the unread attributes
 abbrev pub invariant-push_block-loop-item : goal.invariant-push_block-loop-item
 invariant-push_block-loop-item l =
-    (string_bytes l.fn.text ++ lines_in (value_lines l.levels (within (rows_in l.rows) l.block) l.policy l.depth) l.block
-    ≡ string_bytes l.text ++ lines_in (value_lines l.levels (within (rows_in l.rows) l.block) l.policy l.depth) (unread l.item-iterator))
-    × AreChoices (within (rows_in l.rows) l.block) l.choices
+    (string_bytes l.fn.text ++ lines_in (value_lines l.levels (within (rows_in l.rows.list.now) l.block) l.policy l.depth) l.block
+    ≡ string_bytes l.text ++ lines_in (value_lines l.levels (within (rows_in l.rows.list.now) l.block) l.policy l.depth) (unread l.item-iterator))
+    × AreChoices (within (rows_in l.rows.list.now) l.block) l.choices

@@ -7,9 +7,8 @@ use Rattle.netlink_generic.proofs.groups.groups_view.Goals as goal
 -- no attributes have their shapes
 pub invariant_of-result : goal.invariant_of-result
 invariant_of-result c =
-    let rows = rows_in c.view-view.result.rows.now in
+    let rows = rows_in c.view-view.result.rows.list.now in
     record {
-      sorted = c.view-view.result.sorted;
       shaped =
           ap (λ (all : Option (List Attribute)). all_shaped (λ a. is_shaped nest_levels rows (shape_among (within rows []) 3 a.kind) a.value) all)
           (attributes_in-walk [] [] refl);

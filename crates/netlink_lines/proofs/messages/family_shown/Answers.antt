@@ -1,5 +1,5 @@
 use Rattle.std.proofs.Common.{rules, ◌≡◌, ◌∙◌, ap, Bor, List, None, Option, Some, ℕ}
-use Rattle.netlink_family.specs.Errors.{family_error}
+use Rattle.netlink_family.specs.Tables.{table_error}
 use Rattle.netlink_family.specs.declared.error.FamilyError.{FamilyError}
 use Rattle.netlink_packet_core.specs.Header.{header_of, payload_of}
 use Rattle.netlink_lines.specs.Messages.{Check}
@@ -8,7 +8,7 @@ use Rattle.netlink_lines.proofs.messages.family_shown.Goals as goal
 
 pub returns-in_ok-learn-in-Ok-clause-names : goal.returns-in_ok-learn-in-Ok-clause-names
 returns-in_ok-learn-in-Ok-clause-names g c =
-    let check : Check = family_error g.F.Table.types g.F.Table.short g.F.Table.header_len g.F.Table.rows in
+    let check : Check = table_error g.F.Table in
     let frame : List ℕ = c.args.frame.now in
     let flags : c.flags-flags.result ≡ (header_of frame).flags =
     c.flags-flags.ensures.number ∙ ap (λ (b : Bor (List ℕ)). (header_of b.now).flags) c.new-view.ensures.keeps in
@@ -19,7 +19,7 @@ returns-in_ok-learn-in-Ok-clause-names g c =
 
 pub returns-in-Err-clause-names : goal.returns-in-Err-clause-names
 returns-in-Err-clause-names g c =
-    let check : Check = family_error g.F.Table.types g.F.Table.short g.F.Table.header_len g.F.Table.rows in
+    let check : Check = table_error g.F.Table in
     let frame : List ℕ = c.args.frame.now in
     let bad : ◌≡◌ {A = Option FamilyError} (check (header_of frame).message_type (payload_of frame)) (Some c.in-Err.error) = search rules in
     on_ok c.rejected.result (knows_error check frame _ c.in-Err.error bad)

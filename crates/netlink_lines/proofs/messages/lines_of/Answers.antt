@@ -1,6 +1,6 @@
 use Rattle.std.proofs.Common.{◌≡◌, ◌∙◌, ap, List, ℕ, Bor, string_bytes}
 use Rattle.std.specs.Option.{option_copied}
-use Rattle.netlink_family.specs.Errors.{family_error}
+use Rattle.netlink_family.specs.Tables.{table_error}
 use Rattle.netlink_packet_core.specs.Header.{header_of}
 use Rattle.netlink_replies.specs.Meaning.{shown_item}
 use Rattle.netlink_lines.proofs.Shown.{has_lines}
@@ -12,7 +12,7 @@ returns g c =
     c.flags.ensures.number ∙ ap (λ (b : Bor (List ℕ)). (header_of b.now).flags) c.new.ensures.keeps in
     record {
       lines =
-          has_lines (family_error g.F.Table.types g.F.Table.short g.F.Table.header_len g.F.Table.rows) c.args.known.now c.args.at
+          has_lines (table_error g.F.Table) c.args.known.now c.args.at
           c.args.frame.now (option_copied c.kernel_text-text.result) (shown_item c.meaning_of-item.result) c.flags.result
           (string_bytes c.in_ok-shown.shown.text, c.in_ok-shown.shown.is_malformed) c.marked.result c.meaning_of-item.ensures.item
           c.kernel_text-text.ensures.text flags c.in_ok-shown.ensures c.marked.ensures;

@@ -10,4 +10,4 @@ abbrev pub invariant-loop-word : goal.invariant-loop-word
 invariant-loop-word l =
     (fold (with_hop l.known) (string_bytes l.text) (listed (unread l.word-iterator.walk))
     ≡ fold (with_hop l.known) (string_bytes l.fn.text) (listed l.hops.block.now))
-    × (l.word-iterator.rows.now ≡ l.hops.rows.now) × (l.word-iterator.policy ≡ l.hops.policy)
+    × (l.word-iterator.rows.list.now ≡ l.hops.rows.list.now) × (l.word-iterator.policy ≡ l.hops.policy)

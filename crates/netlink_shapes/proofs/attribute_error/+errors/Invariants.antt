@@ -16,5 +16,5 @@ decreases-error_in l = 3 * l.levels + 2
 
 abbrev pub invariant-error_in-loop-item : goal.invariant-error_in-loop-item
 invariant-error_in-loop-item l =
-    AreFine l.levels (within (rows_in l.rows) l.block) l.policy l.end l.block l.left (unread l.item-iterator)
-    × AreChoices (within (rows_in l.rows) l.block) l.choices
+    AreFine l.levels (within (rows_in l.rows.list.now) l.block) l.policy l.end l.block l.left (unread l.item-iterator)
+    × AreChoices (within (rows_in l.rows.list.now) l.block) l.choices

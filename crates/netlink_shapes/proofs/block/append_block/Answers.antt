@@ -8,9 +8,9 @@ use Rattle.netlink_shapes.proofs.block.append_block.Goals as goal
 
 pub returns-then-canonical-clause-ok : goal.returns-then-canonical-clause-ok
 returns-then-canonical-clause-ok c =
-    let shaped : is_block_shaped nest_levels (rows_in c.args.rows.now) 0 c.args.block.now ≡ true = search rules in
+    let shaped : is_block_shaped nest_levels (rows_in c.args.rows.list.now) 0 c.args.block.now ≡ true = search rules in
     let walk = canonical_walk c.args.block.now (c.in-Some.ensures.canonical c.if-canonical.true) in
-    let read = shaped_normalized (rows_in c.args.rows.now) c.args.block.now walk.0 None walk.1 shaped in (
+    let read = shaped_normalized (rows_in c.args.rows.list.now) c.args.block.now walk.0 None walk.1 shaped in (
       walk.0,
       walk.1,
       read.1,
@@ -19,14 +19,14 @@ returns-then-canonical-clause-ok c =
 
 pub returns-then-canonical-clause-good : goal.returns-then-canonical-clause-good
 returns-then-canonical-clause-good c =
-    let shaped : is_block_shaped nest_levels (rows_in c.args.rows.now) 0 c.args.block.now ≡ true = search rules in
-    has_no_error (within (rows_in c.args.rows.now) c.args.block.now) c.args.end c.args.block.now shaped
+    let shaped : is_block_shaped nest_levels (rows_in c.args.rows.list.now) 0 c.args.block.now ≡ true = search rules in
+    has_no_error (within (rows_in c.args.rows.list.now) c.args.block.now) c.args.end c.args.block.now shaped
 
 pub returns-in_ok-append_attributes-in-Some-clause-ok : goal.returns-in_ok-append_attributes-in-Some-clause-ok
 returns-in_ok-append_attributes-in-Some-clause-ok c =
-    let shaped : is_block_shaped nest_levels (rows_in c.args.rows.now) 0 c.args.block.now ≡ true = search rules in
+    let shaped : is_block_shaped nest_levels (rows_in c.args.rows.list.now) 0 c.args.block.now ≡ true = search rules in
     let written = c.in_ok-append_attributes-in-Some.ensures in
-    let read = shaped_normalized (rows_in c.args.rows.now) c.args.block.now written.0 written.1 written.2 shaped in (
+    let read = shaped_normalized (rows_in c.args.rows.list.now) c.args.block.now written.0 written.1 written.2 shaped in (
       written.0,
       subst (λ (malformed : Option DecodeError). Walk c.args.block.now written.0 malformed) read.0 written.2,
       read.1,
@@ -35,5 +35,5 @@ returns-in_ok-append_attributes-in-Some-clause-ok c =
 
 pub returns-in_ok-append_attributes-in-Some-clause-good : goal.returns-in_ok-append_attributes-in-Some-clause-good
 returns-in_ok-append_attributes-in-Some-clause-good c =
-    let shaped : is_block_shaped nest_levels (rows_in c.args.rows.now) 0 c.args.block.now ≡ true = search rules in
-    has_no_error (within (rows_in c.args.rows.now) c.args.block.now) c.args.end c.args.block.now shaped
+    let shaped : is_block_shaped nest_levels (rows_in c.args.rows.list.now) 0 c.args.block.now ≡ true = search rules in
+    has_no_error (within (rows_in c.args.rows.list.now) c.args.block.now) c.args.end c.args.block.now shaped

@@ -4,4 +4,4 @@ use Rattle.netlink_shapes.proofs.choice.rows_with.Goals as goal
 
 pub rows_after-requires-clause-part : goal.rows_after-requires-clause-part
 rows_after-requires-clause-part c =
-    drop_smaller c.args.policy c.args.rows.now 8 c.requires.sorted (omega arith) (omega arith)
+    drop_smaller c.args.policy c.args.rows.list.now 8 c.args.rows.sorted (omega arith) (omega arith)

@@ -11,16 +11,16 @@ use Rattle.netlink_shapes.proofs.nest.+nests.Goals as goal
 pub is_shaped-returns-then-not-has_shape : goal.is_shaped-returns-then-not-has_shape
 is_shaped-returns-then-not-has_shape t c =
     let has : has_shape c.args.shape c.args.value.now ≡ false = search rules in
-    sym (misshaped c.args.levels (rows_in c.args.rows.now) c.args.shape c.args.value.now has)
+    sym (misshaped c.args.levels (rows_in c.args.rows.list.now) c.args.shape c.args.value.now has)
 
 pub is_shaped-returns-in-None : goal.is_shaped-returns-in-None
 is_shaped-returns-in-None t c =
     let has : has_shape c.args.shape c.args.value.now ≡ true = search rules in
-    sym (flat_step c.args.levels (rows_in c.args.rows.now) c.args.shape c.args.value.now (sym c.policy_of.ensures ∙ c.in-None.is) ∙ has)
+    sym (flat_step c.args.levels (rows_in c.args.rows.list.now) c.args.shape c.args.value.now (sym c.policy_of.ensures ∙ c.in-None.is) ∙ has)
 
 pub is_shaped-returns-then-levels-eq0 : goal.is_shaped-returns-then-levels-eq0
 is_shaped-returns-then-levels-eq0 t c =
-    sym (too_deep c.args.levels (rows_in c.args.rows.now) c.args.shape c.args.value.now c.in-Some.inner
+    sym (too_deep c.args.levels (rows_in c.args.rows.list.now) c.args.shape c.args.value.now c.in-Some.inner
     (sym c.policy_of.ensures ∙ c.in-Some.is) (omega arith))
 
 pub is_shaped-returns-then-is_empty : goal.is_shaped-returns-then-is_empty
@@ -30,25 +30,25 @@ is_shaped-returns-then-is_empty t c =
     let block : List ℕ = nest_block c.args.shape c.args.value.now in
     let size : length c.nest_block-block.result.now ≡ 0 = search rules in
     let none : block ≡ [] = sym c.nest_block-block.ensures ∙ nil_from_length c.nest_block-block.result.now size in
-    sym (nest_step c.args.levels (rows_in c.args.rows.now) c.args.shape c.args.value.now c.in-Some.inner
+    sym (nest_step c.args.levels (rows_in c.args.rows.list.now) c.args.shape c.args.value.now c.in-Some.inner
     has (sym c.policy_of.ensures ∙ c.in-Some.is) some
-    ∙ end_shaped (c.args.levels - 1) (within (rows_in c.args.rows.now) block) c.in-Some.inner block block refl none)
+    ∙ end_shaped (c.args.levels - 1) (within (rows_in c.args.rows.list.now) block) c.in-Some.inner block block refl none)
 
 pub is_shaped-returns-else-is_empty : goal.is_shaped-returns-else-is_empty
 is_shaped-returns-else-is_empty t c =
     let has : has_shape c.args.shape c.args.value.now ≡ true = search rules in
     let some : 0 < c.args.levels = omega arith in
     c.is_block_shaped.ensures
-    ∙ ap (is_block_shaped (c.args.levels - 1) (rows_in c.args.rows.now) c.in-Some.inner) c.nest_block-block.ensures
-    ∙ sym (nest_step c.args.levels (rows_in c.args.rows.now) c.args.shape c.args.value.now c.in-Some.inner
+    ∙ ap (is_block_shaped (c.args.levels - 1) (rows_in c.args.rows.list.now) c.in-Some.inner) c.nest_block-block.ensures
+    ∙ sym (nest_step c.args.levels (rows_in c.args.rows.list.now) c.args.shape c.args.value.now c.in-Some.inner
     has (sym c.policy_of.ensures ∙ c.in-Some.is) some)
 
 pub is_block_shaped-loop-item-init : goal.is_block_shaped-loop-item-init
 is_block_shaped-loop-item-init t c =
     let same : unread c.into_iter-item-iterator.result ≡ c.args.block.now = search rules in (
-      ap (are_shaped c.args.levels (within (rows_in c.args.rows.now) c.args.block.now) c.args.policy) (sym same),
+      ap (are_shaped c.args.levels (within (rows_in c.args.rows.list.now) c.args.block.now) c.args.policy) (sym same),
       λ shape none. absurd (cc),
-      none_chosen (within (rows_in c.args.rows.now) c.args.block.now),
+      none_chosen (within (rows_in c.args.rows.list.now) c.args.block.now),
     )
 
 pub is_block_shaped-returns-then-not-is_shaped : goal.is_block_shaped-returns-then-not-is_shaped
@@ -58,7 +58,7 @@ is_block_shaped-returns-then-not-is_shaped t c =
     let kind : c.raw_kind.result ≡ (attribute_of bytes).kind = c.raw_kind.ensures.number ∙ ap (λ (b : List ℕ). (attribute_of b).kind) step.0 in
     let value : c.value.result.now ≡ (attribute_of bytes).value = c.value.ensures.bytes ∙ ap (λ (b : List ℕ). (attribute_of b).value) step.0 in
     let is : c.is_shaped.result ≡ false = search rules in
-    sym (next_shaped c.args.levels (within (rows_in c.args.rows.now) c.args.block.now) c.args.policy c.args.block.now bytes (unread c.next.new.self)
+    sym (next_shaped c.args.levels (within (rows_in c.args.rows.list.now) c.args.block.now) c.args.policy c.args.block.now bytes (unread c.next.new.self)
     c.raw_kind.result c.value.result.now c.cached_own_shape-shape.result c.is_shaped.result false
     c.loop-item.invariant.0 step.2 kind value c.cached_own_shape-shape.ensures.shape c.is_shaped.ensures is)
 
@@ -69,7 +69,7 @@ is_block_shaped-loop-item-preserved t c =
     let kind : c.raw_kind.result ≡ (attribute_of bytes).kind = c.raw_kind.ensures.number ∙ ap (λ (b : List ℕ). (attribute_of b).kind) step.0 in
     let value : c.value.result.now ≡ (attribute_of bytes).value = c.value.ensures.bytes ∙ ap (λ (b : List ℕ). (attribute_of b).value) step.0 in
     let is : c.is_shaped.result ≡ true = search rules in (
-      next_shaped c.args.levels (within (rows_in c.args.rows.now) c.args.block.now) c.args.policy c.args.block.now bytes (unread c.next.new.self)
+      next_shaped c.args.levels (within (rows_in c.args.rows.list.now) c.args.block.now) c.args.policy c.args.block.now bytes (unread c.next.new.self)
           c.raw_kind.result c.value.result.now c.cached_own_shape-shape.result c.is_shaped.result true
           c.loop-item.invariant.0 step.2 kind value c.cached_own_shape-shape.ensures.shape c.is_shaped.ensures is,
       c.cached_own_shape-shape.ensures.other,
@@ -79,10 +79,10 @@ is_block_shaped-loop-item-preserved t c =
 pub is_block_shaped-returns-in-Err : goal.is_block_shaped-returns-in-Err
 is_block_shaped-returns-in-Err t c =
     let step = rw c.in-Err.is at c.in-Some.ensures.steps in
-    sym (fault_shaped c.args.levels (within (rows_in c.args.rows.now) c.args.block.now) c.args.policy c.args.block.now
+    sym (fault_shaped c.args.levels (within (rows_in c.args.rows.list.now) c.args.block.now) c.args.policy c.args.block.now
     (unread c.loop-item.item-iterator) _ c.loop-item.invariant.0 step.0 step.1)
 
 pub is_block_shaped-returns : goal.is_block_shaped-returns
 is_block_shaped-returns t c =
-    sym (end_shaped c.args.levels (within (rows_in c.args.rows.now) c.args.block.now) c.args.policy c.args.block.now
+    sym (end_shaped c.args.levels (within (rows_in c.args.rows.list.now) c.args.block.now) c.args.policy c.args.block.now
     (unread c.loop-item.item-iterator) c.loop-item.invariant.0 c.in-None.ensures.steps.0)

@@ -12,7 +12,7 @@ decreases-is_block_shaped l = 2 * l.levels + 1
 
 abbrev pub invariant-is_block_shaped-loop-item : goal.invariant-is_block_shaped-loop-item
 invariant-is_block_shaped-loop-item l =
-    (are_shaped l.levels (within (rows_in l.rows) l.block) l.policy l.block
-    ≡ are_shaped l.levels (within (rows_in l.rows) l.block) l.policy (unread l.item-iterator))
-    × CachesOther (rows_in l.own) l.policy l.other
-    × AreChoices (within (rows_in l.rows) l.block) l.choices
+    (are_shaped l.levels (within (rows_in l.rows.list.now) l.block) l.policy l.block
+    ≡ are_shaped l.levels (within (rows_in l.rows.list.now) l.block) l.policy (unread l.item-iterator))
+    × CachesOther (rows_in l.own.list.now) l.policy l.other
+    × AreChoices (within (rows_in l.rows.list.now) l.block) l.choices

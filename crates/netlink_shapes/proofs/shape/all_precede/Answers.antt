@@ -3,4 +3,4 @@ use Rattle.netlink_shapes.specs.RowSearch.{none_after}
 use Rattle.netlink_shapes.proofs.shape.all_precede.Goals as goal
 
 pub returns : goal.returns
-returns c = λ is. none_after c.args.policy c.args.kind c.args.rows.now (length c.args.rows.now - 1) c.requires.sorted (omega arith) (sym c.is_before.ensures ∙ is)
+returns c = λ is. none_after c.args.policy c.args.kind c.args.rows.list.now (length c.args.rows.list.now - 1) c.args.rows.sorted (omega arith) (sym c.is_before.ensures ∙ is)

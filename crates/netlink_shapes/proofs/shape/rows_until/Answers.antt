@@ -5,4 +5,4 @@ use Rattle.netlink_shapes.proofs.shape.rows_until.Goals as goal
 pub loop-low-preserved-then-rows-middle : goal.loop-low-preserved-then-rows-middle
 loop-low-preserved-then-rows-middle c =
     let middle : ℕ = c.loop-low.low + (c.loop-low.high - c.loop-low.low) / 2 in
-    (omega arith, omega arith, take_smaller c.args.policy c.args.rows.now middle c.requires.sorted (omega arith) (omega arith))
+    (omega arith, omega arith, take_smaller c.args.policy c.args.rows.list.now middle c.args.rows.sorted (omega arith) (omega arith))

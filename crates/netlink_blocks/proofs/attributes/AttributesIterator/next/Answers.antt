@@ -11,9 +11,8 @@ pub invariant_of-self : goal.invariant_of-self
 invariant_of-self c =
     let all = c.args.self.now in
     record {
-      sorted = all.sorted;
       shaped =
-          shaped_rest (within (rows_in all.rows.now) all.block.now) all.policy (unread all.walk) c.next.result (unread c.next.new.self) c.next.ensures.steps all.shaped;
+          shaped_rest (within (rows_in all.rows.list.now) all.block.now) all.policy (unread all.walk) c.next.result (unread c.next.new.self) c.next.ensures.steps all.shaped;
       kept = all.kept;
       chosen = all.chosen;
     }
@@ -21,22 +20,21 @@ invariant_of-self c =
 pub invariant_of-self-in-Ok-clause-shaped : goal.invariant_of-self-in-Ok-clause-shaped
 invariant_of-self-in-Ok-clause-shaped c =
     let all = c.args.self.now in
-    shaped_rest (within (rows_in all.rows.now) all.block.now) all.policy (unread all.walk) c.next.result (unread c.next.new.self) c.next.ensures.steps all.shaped
+    shaped_rest (within (rows_in all.rows.list.now) all.block.now) all.policy (unread all.walk) c.next.result (unread c.next.new.self) c.next.ensures.steps all.shaped
 
 pub value_in-requires : goal.value_in-requires
 value_in-requires c =
     let all = c.args.self.now in
     let step = rw c.in-Ok.is at c.in_ok-item.ensures.steps in
     let fit =
-    shaped_value (within (rows_in all.rows.now) all.block.now) all.policy (unread all.walk) (unread c.next.new.self)
+    shaped_value (within (rows_in all.rows.list.now) all.block.now) all.policy (unread all.walk) (unread c.next.new.self)
     c.raw_kind-kind.result c.value.result.now c.cached_shape_among-shape.result step.2
     (c.raw_kind-kind.ensures.number ∙ ap raw_kind step.0)
     (c.value.ensures.bytes ∙ ap (λ (b : List ℕ). (attribute_of b).value) step.0)
     c.cached_shape_among-shape.ensures.shape all.shaped in
     record {
-      sorted = all.sorted;
-      shape = shaped_has nest_levels (rows_in all.rows.now) c.cached_shape_among-shape.result c.value.result.now fit;
-      nest = shaped_nests (rows_in all.rows.now) c.cached_shape_among-shape.result c.value.result.now fit;
+      shape = shaped_has nest_levels (rows_in all.rows.list.now) c.cached_shape_among-shape.result c.value.result.now fit;
+      nest = shaped_nests (rows_in all.rows.list.now) c.cached_shape_among-shape.result c.value.result.now fit;
     }
 
 pub returns-in-Ok-clause-steps : goal.returns-in-Ok-clause-steps
@@ -53,7 +51,7 @@ returns-in-Ok-clause-steps c =
         kind,
         rw value at c.value_in.ensures.value_is,
         c.value_in.ensures.shape ∙ c.cached_shape_among-shape.ensures.shape
-            ∙ ap (λ (k : ℕ). shape_among (within (rows_in all.rows.now) all.block.now) all.policy k) kind,
+            ∙ ap (λ (k : ℕ). shape_among (within (rows_in all.rows.list.now) all.block.now) all.policy k) kind,
         c.value_in.ensures.nest,
       ),
       refl,
@@ -65,4 +63,4 @@ pub returns-in-Err-clause-steps : goal.returns-in-Err-clause-steps
 returns-in-Err-clause-steps c =
     let all = c.args.self.now in
     let step = rw c.in-Err.is at c.in_ok-item.ensures.steps in
-    absurd (shaped_good (within (rows_in all.rows.now) all.block.now) all.policy (unread all.walk) _ step.0 step.1 all.shaped)
+    absurd (shaped_good (within (rows_in all.rows.list.now) all.block.now) all.policy (unread all.walk) _ step.0 step.1 all.shaped)

@@ -6,7 +6,7 @@ use Rattle.netlink_blocks.proofs.block_view.BlockView.attributes.Goals as goal
 
 pub invariant_of-result-clause-shaped : goal.invariant_of-result-clause-shaped
 invariant_of-result-clause-shaped c =
-    ∣ subst (λ (b : List ℕ). AreShaped (within (rows_in c.args.self.now.rows.now) c.args.self.now.block.now) c.args.self.now.policy b) (sym c.new.ensures.keeps) c.are_shaped.ensures ∣₁
+    ∣ subst (λ (b : List ℕ). AreShaped (within (rows_in c.args.self.now.rows.list.now) c.args.self.now.block.now) c.args.self.now.policy b) (sym c.new.ensures.keeps) c.are_shaped.ensures ∣₁
 
 pub invariant_of-result-clause-chosen : goal.invariant_of-result-clause-chosen
-invariant_of-result-clause-chosen c = none_chosen (within (rows_in c.args.self.now.rows.now) c.args.self.now.block.now)
+invariant_of-result-clause-chosen c = none_chosen (within (rows_in c.args.self.now.rows.list.now) c.args.self.now.block.now)

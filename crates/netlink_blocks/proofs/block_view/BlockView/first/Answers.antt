@@ -8,16 +8,16 @@ pub returns-clause-some : goal.returns-clause-some
 returns-clause-some c =
     let view = c.args.self.now in
     IfSome_then c.first_whole.result c.first_whole.ensures.some
-    (λ v. first_of_block (within (rows_in view.rows.now) view.block.now) view.policy view.block.now c.args.kind (Some v.now) c.are_shaped.ensures)
+    (λ v. first_of_block (within (rows_in view.rows.list.now) view.block.now) view.policy view.block.now c.args.kind (Some v.now) c.are_shaped.ensures)
 
 pub returns-clause-none : goal.returns-clause-none
 returns-clause-none c =
     let view = c.args.self.now in
     none_then c.first_whole.result c.first_whole.ensures.none
-    (first_of_block (within (rows_in view.rows.now) view.block.now) view.policy view.block.now c.args.kind None c.are_shaped.ensures)
+    (first_of_block (within (rows_in view.rows.list.now) view.block.now) view.policy view.block.now c.args.kind None c.are_shaped.ensures)
 
 pub returns-clause-shaped : goal.returns-clause-shaped
 returns-clause-shaped c =
     let view = c.args.self.now in
     IfSome_then c.first_whole.result (returns-clause-some c)
-    (λ v. first_shaped (within (rows_in view.rows.now) view.block.now) view.policy view.block.now c.args.kind v.now c.are_shaped.ensures)
+    (λ v. first_shaped (within (rows_in view.rows.list.now) view.block.now) view.policy view.block.now c.args.kind v.now c.are_shaped.ensures)

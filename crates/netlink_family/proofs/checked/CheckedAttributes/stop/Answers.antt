@@ -7,7 +7,7 @@ use Rattle.netlink_family.proofs.checked.CheckedAttributes.stop.Goals as goal
 pub block_error-error-requires-clause-some : goal.block_error-error-requires-clause-some
 block_error-error-requires-clause-some g c =
     let all = c.args.self.now in
-    error_shaped (rows_in all.rows.now) (g.F.Table.rows all.message_type) all.end all.block.now
+    error_shaped (rows_in all.rows.list.now) (g.F.Table.rows all.message_type) all.end all.block.now
     (rest_error (within (g.F.Table.rows all.message_type) all.block.now) all.end (unread all.walk)) all.table all.passed c.requires
 
 pub invariant_of-self : goal.invariant_of-self

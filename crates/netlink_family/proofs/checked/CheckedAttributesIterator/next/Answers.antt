@@ -4,7 +4,7 @@ use Rattle.netlink_packet_core.specs.Views.{attribute_of, raw_kind}
 use Rattle.netlink_shapes.specs.Errors.{rest_error, value_error}
 use Rattle.netlink_shapes.specs.ErrorLaws.{error_nothing}
 use Rattle.netlink_shapes.specs.NestLaws.{shaped_has, shaped_nests}
-use Rattle.netlink_shapes.specs.Shapes.{Row, fits_kind, is_shaped, nest_levels, rows_in, shape_among, within, are_sorted}
+use Rattle.netlink_shapes.specs.Shapes.{Row, fits_kind, is_shaped, nest_levels, rows_in, shape_among, within}
 use Rattle.netlink_blocks.specs.Values.{NestHasRows}
 use Rattle.netlink_shapes.specs.declared.shape.Shape.{Shape}
 use Rattle.netlink_family.proofs.Payloads.{malformed_next, fit_next, other_next, passed_next}
@@ -43,12 +43,11 @@ value_in-requires g c =
     let all = c.args.self.now in
     let fit : c.fits_shape.result ≡ true = search rules in
     let fits =
-    ap (λ (s : Shape). is_shaped nest_levels (rows_in all.rows.now) s c.value-value.result.now) c.kept_shape_among-shape.ensures.shape
+    ap (λ (s : Shape). is_shaped nest_levels (rows_in all.rows.list.now) s c.value-value.result.now) c.kept_shape_among-shape.ensures.shape
     ∙ sym c.fits_shape.ensures ∙ fit in
     record {
-      sorted = ap are_sorted all.table ∙ g.met.F.Table.sorted all.message_type;
-      shape = shaped_has nest_levels (rows_in all.rows.now) c.kept_shape_among-shape.result c.value-value.result.now fits;
-      nest = shaped_nests (rows_in all.rows.now) c.kept_shape_among-shape.result c.value-value.result.now fits;
+      shape = shaped_has nest_levels (rows_in all.rows.list.now) c.kept_shape_among-shape.result c.value-value.result.now fits;
+      nest = shaped_nests (rows_in all.rows.list.now) c.kept_shape_among-shape.result c.value-value.result.now fits;
     }
 
 pub last-requires : goal.last-requires

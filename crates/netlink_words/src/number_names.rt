@@ -1,7 +1,7 @@
 //! The names of numbers.
 
 ghost use Rattle.std.specs.Prelude.{◌≡◌, ◌++◌, IfOk, OnOk, string_bytes};
-ghost use Rattle.netlink_words.specs.Names.{family_text, protocol_text, route_type_text, scope_text, state_text, table_text};
+ghost use Rattle.netlink_words.specs.NumberNames.{family_text, protocol_text, route_type_text, scope_text, state_text, table_text};
 
 use crate::digits::push_decimal;
 use netlink_route::{RouteProtocol, RouteType};
@@ -77,7 +77,7 @@ pub fn push_scope(text: &mut String, scope: u8) -> Result<(), AllocError>
 
 /// Appends the name of a routing table, an `RT_TABLE_*` of linux/rtnetlink.h; for any other number,
 /// the number in decimal.
-#[tactic(auto, unfolding(crate::specs::Names::table_text))]
+#[tactic(auto, unfolding(crate::specs::NumberNames::table_text))]
 pub fn push_table(text: &mut String, table: u32) -> Result<(), AllocError>
     ensures { OnOk result (string_bytes text.new ≡ string_bytes text.old ++ table_text table) }
 {
@@ -91,7 +91,7 @@ pub fn push_table(text: &mut String, table: u32) -> Result<(), AllocError>
 }
 
 /// Appends the name of who installed a route. `ip` itself knows no name for 17 and 99.
-#[tactic(auto, unfolding(crate::specs::Names::protocol_text))]
+#[tactic(auto, unfolding(crate::specs::NumberNames::protocol_text))]
 pub fn push_protocol(text: &mut String, protocol: u8) -> Result<(), AllocError>
     ensures { OnOk result (string_bytes text.new ≡ string_bytes text.old ++ protocol_text protocol) }
 {
@@ -105,7 +105,7 @@ pub fn push_protocol(text: &mut String, protocol: u8) -> Result<(), AllocError>
 }
 
 /// Returns the name of a type of route; `none` for the type 0.
-#[tactic(auto, unfolding(crate::specs::Names::route_type_text))]
+#[tactic(auto, unfolding(crate::specs::NumberNames::route_type_text))]
 pub fn route_type_text(alloc: Global, route_type: u8) -> Result<String, AllocError>
     ensures { IfOk result (λ text. string_bytes text ≡ route_type_text route_type) }
 {

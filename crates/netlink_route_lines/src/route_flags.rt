@@ -1,8 +1,8 @@
-//! The names of the numbers in routes.
+//! The flags of routes and next hops, and the preference of a router.
 
 ghost use Rattle.std.specs.Prelude.{◌≡◌, IfOk, OnOk, string_bytes};
 ghost use Rattle.netlink_words.specs.Parts.{AddsPart};
-ghost use Rattle.netlink_route_lines.specs.RouteNames.{hop_flag_name, hop_flags_text, preference_text, with_hop_flag};
+ghost use Rattle.netlink_route_lines.specs.RouteFlags.{hop_flag_name, hop_flags_text, preference_text, with_hop_flag};
 
 use netlink_words::parts::push_part;
 use std::alloc::{AllocError, Global};
@@ -42,7 +42,7 @@ pub(crate) fn push_preference(
 }
 
 /// Returns the names of the flags that are set, with spaces between them.
-#[tactic(auto, unfolding(crate::specs::RouteNames::hop_flags_text))]
+#[tactic(auto, unfolding(crate::specs::RouteFlags::hop_flags_text))]
 fn hop_flags_text(alloc: Global, flags: u32) -> Result<String, AllocError>
     ensures { IfOk result (λ text. string_bytes text ≡ hop_flags_text flags) }
 {
@@ -54,7 +54,7 @@ fn hop_flags_text(alloc: Global, flags: u32) -> Result<String, AllocError>
 }
 
 /// Appends these names as a part of a line.
-#[tactic(auto, unfolding(crate::specs::RouteNames::hop_flags_text, netlink_words::specs::Parts::with_part))]
+#[tactic(auto, unfolding(crate::specs::RouteFlags::hop_flags_text, netlink_words::specs::Parts::with_part))]
 pub(crate) fn push_hop_flags(alloc: Global, text: &mut String, flags: u32) -> Result<(), AllocError>
     ensures { OnOk result (AddsPart text.old text.new (hop_flags_text flags)) }
 {
@@ -75,7 +75,7 @@ fn push_hop_flag(text: &mut String, flags: u32, bit: u32) -> Result<(), AllocErr
 }
 
 /// Returns the name of a flag; nothing for other numbers.
-#[tactic(auto, unfolding(crate::specs::RouteNames::hop_flag_name))]
+#[tactic(auto, unfolding(crate::specs::RouteFlags::hop_flag_name))]
 fn hop_flag_name(bit: u32) -> &'static str
     ensures { result.now ≡ hop_flag_name bit }
 {

@@ -1,7 +1,7 @@
 use Rattle.std.proofs.Common.{ℕ, List, [], get_or, ap, sym, ◌∙◌, arith}
 use Rattle.std.proofs.lemmas.List.Sums.{fold_more}
-use Rattle.netlink_route_lines.specs.RouteNames.{hop_flag_order, with_hop_flag}
-use Rattle.netlink_route_lines.proofs.route_names.hop_flags_text.Goals as goal
+use Rattle.netlink_route_lines.specs.RouteFlags.{hop_flag_order, with_hop_flag}
+use Rattle.netlink_route_lines.proofs.route_flags.hop_flags_text.Goals as goal
 
 pub loop-bit-preserved : goal.loop-bit-preserved
 loop-bit-preserved c =

@@ -1,4 +1,4 @@
--- The names of the numbers in routes.
+-- The flags of routes and next hops, and the preference of a router.
 use Rattle.std.specs.Prelude.{ℕ, ◌==◌, List, [], ◌∷◌, codes, decimal, if◌then◌else◌}
 use Rattle.std.specs.Int.Bits.{bit_and}
 use Rattle.std.specs.List.{fold}

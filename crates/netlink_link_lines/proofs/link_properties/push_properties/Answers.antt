@@ -6,9 +6,9 @@ use Rattle.netlink_family.specs.ListingLaws.{before_nothing}
 use Rattle.netlink_family.specs.Values.{value_shape}
 use Rattle.netlink_family.specs.declared.shape.Shape.TheVariants as shape
 use Rattle.netlink_route.specs.declared.links.TheConstants.{IFLA_ALT_IFNAME}
-use Rattle.netlink_link_lines.specs.LinkNames.{with_alternative}
+use Rattle.netlink_link_lines.specs.LinkProperties.{with_alternative}
 use Rattle.netlink_link_lines.proofs.Properties.{property_step}
-use Rattle.netlink_link_lines.proofs.link_names.push_properties.Goals as goal
+use Rattle.netlink_link_lines.proofs.link_properties.push_properties.Goals as goal
 
 pub loop-kind-preserved : goal.loop-kind-preserved
 loop-kind-preserved c =
