@@ -1,8 +1,8 @@
 //! With ample memory, `OutOfMemory` is never returned.
 
-use crate::ping_pong::PingPongMessage;
-use crate::tests::messages::Message;
-use netlink_packet_core::{DecodeError, is_canonical_frame, normalize, normalize_nlas};
+use crate::tests::memory_not_asked::attributes::normal_block;
+use crate::tests::messages::{normal_of, read, verdict_of};
+use netlink_packet_core::DecodeError;
 
 /// Returns whether a result is `Ok` or an error other than `OutOfMemory`.
 fn has_memory<T: Drop>(answer: Result<T, DecodeError>) -> bool {
@@ -22,12 +22,18 @@ fn frames_of_every_small_size(rt: HostRuntime) {
             bytes[0] = 16 + size;
             bytes[4] = kind;
             let frame = &bytes[..16 + usize::from(size)];
-            let read = Message::deserialize(rt.alloc(), frame);
-            assert!(rt; has_memory(read), "type {kind} with {size} bytes");
-            let normal = normalize::<PingPongMessage>(rt.alloc(), frame);
-            assert!(rt; has_memory(normal), "type {kind} with {size} bytes");
-            let verdict = is_canonical_frame::<PingPongMessage>(rt.alloc(), frame);
-            assert!(rt; has_memory(verdict), "type {kind} with {size} bytes");
+            assert!(rt;
+                has_memory(read(rt.alloc(), frame)),
+                "type {kind} with {size} bytes"
+            );
+            assert!(rt;
+                has_memory(normal_of(rt.alloc(), frame)),
+                "type {kind} with {size} bytes"
+            );
+            assert!(rt;
+                has_memory(verdict_of(rt.alloc(), frame)),
+                "type {kind} with {size} bytes"
+            );
         }
     }
 }
@@ -39,7 +45,9 @@ fn attributes_of_every_small_size(rt: HostRuntime) {
         let mut bytes = [1u8; 68];
         bytes[..4].copy_from_slice(&[4 + size, 0, 1, 0]);
         let block = &bytes[..4 + usize::from(size)];
-        let normal = normalize_nlas(rt.alloc(), block);
-        assert!(rt; has_memory(normal), "a value of {size} bytes");
+        assert!(rt;
+            has_memory(normal_block(rt.alloc(), block)),
+            "a value of {size} bytes"
+        );
     }
 }

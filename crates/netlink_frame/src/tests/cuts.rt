@@ -4,7 +4,7 @@ use crate::command::Command;
 use crate::run::{Fault, run};
 use crate::tests::attributes::{SHORT, TWO};
 use netlink_packet_core::DecodeError;
-use std::alloc::Global;
+use std::alloc::{AllocError, Global};
 use std::process::Abort;
 use std::test::Fail;
 
@@ -31,6 +31,17 @@ pub(crate) fn nlas_of(alloc: Global, block: &[u8]) -> Result<(Vec<u8>, Ending), 
     }
 }
 
+/// Returns whether `nlas` writes these lines for a block, and ends so.
+pub(crate) fn is_walked(
+    alloc: Global,
+    block: &[u8],
+    lines: &str,
+    ending: Ending,
+) -> Result<bool, Fail> {
+    let (output, ended) = nlas_of(alloc, block)?;
+    Ok(output.as_slice() == lines.as_bytes() && ended == ending)
+}
+
 fn ending_of(cause: &DecodeError) -> Ending {
     match cause {
         DecodeError::NlaBufferTooSmall {
@@ -49,46 +60,50 @@ fn ending_of(cause: &DecodeError) -> Ending {
     }
 }
 
+/// The lines and the ending of each prefix of `TWO`.
+const CUTS_OF_TWO: [(&str, Ending); 17] = [
+    ("", WELL),
+    ("", (5, 1, 4)),
+    ("", (5, 2, 4)),
+    ("", (5, 3, 4)),
+    ("", (6, 4, 5)),
+    (FIRST, WELL),
+    (FIRST, WELL),
+    (FIRST, WELL),
+    (FIRST, WELL),
+    (FIRST, (5, 1, 4)),
+    (FIRST, (5, 2, 4)),
+    (FIRST, (5, 3, 4)),
+    (FIRST, (6, 4, 8)),
+    (FIRST, (6, 5, 8)),
+    (FIRST, (6, 6, 8)),
+    (FIRST, (6, 7, 8)),
+    (BOTH, WELL),
+];
+
 /// A test case for each prefix, from no bytes to the whole block.
 #[test]
 fn each_cut_of_two_attributes(rt: HostRuntime) -> Result<(), Fail> {
-    let rows: [(&str, Ending); 17] = [
-        ("", WELL),
-        ("", (5, 1, 4)),
-        ("", (5, 2, 4)),
-        ("", (5, 3, 4)),
-        ("", (6, 4, 5)),
-        (FIRST, WELL),
-        (FIRST, WELL),
-        (FIRST, WELL),
-        (FIRST, WELL),
-        (FIRST, (5, 1, 4)),
-        (FIRST, (5, 2, 4)),
-        (FIRST, (5, 3, 4)),
-        (FIRST, (6, 4, 8)),
-        (FIRST, (6, 5, 8)),
-        (FIRST, (6, 6, 8)),
-        (FIRST, (6, 7, 8)),
-        (BOTH, WELL),
-    ];
-    cut_as(&rt, rt.alloc(), &TWO, &rows)
+    cut_as(&rt, rt.alloc(), &TWO, &CUTS_OF_TWO)
 }
+
+/// The lines and the ending of each prefix of `SHORT`.
+const CUTS_OF_SHORT: [(&str, Ending); 10] = [
+    ("", WELL),
+    ("", (5, 1, 4)),
+    ("", (5, 2, 4)),
+    ("", (5, 3, 4)),
+    (EMPTY, WELL),
+    (EMPTY, (5, 1, 4)),
+    (EMPTY, (5, 2, 4)),
+    (EMPTY, (5, 3, 4)),
+    (EMPTY, (7, 4, 3)),
+    (EMPTY, (7, 4, 3)),
+];
 
 #[test]
 fn each_cut_of_a_damaged_block(rt: HostRuntime) -> Result<(), Fail> {
-    let rows: [(&str, Ending); 10] = [
-        ("", WELL),
-        ("", (5, 1, 4)),
-        ("", (5, 2, 4)),
-        ("", (5, 3, 4)),
-        (EMPTY, WELL),
-        (EMPTY, (5, 1, 4)),
-        (EMPTY, (5, 2, 4)),
-        (EMPTY, (5, 3, 4)),
-        (EMPTY, (7, 4, 3)),
-        (EMPTY, (7, 4, 3)),
-    ];
-    cut_as(&rt, rt.alloc(), &SHORT, &rows)
+    cut_as(&rt, rt.alloc(), &SHORT, &CUTS_OF_SHORT)
 }
 
 /// Truncates the block to the index of each test case, and compares the lines and the ending.
@@ -101,27 +116,30 @@ fn cut_as(
     assert_eq!(rt; rows.len(), block.len() + 1);
     for (cut, (lines, ending)) in rows.iter().enumerate() {
         let front = block.get(..cut).unwrap_or(&[]);
-        let (output, ended) = nlas_of(alloc, front)?;
-        assert_eq!(rt; output.as_slice(), lines.as_bytes(), "cut at {cut}");
-        assert!(rt; ended == *ending, "cut at {cut}");
+        assert!(rt; is_walked(alloc, front, lines, *ending)?, "cut at {cut}");
     }
     Ok(())
+}
+
+/// A block, what follows it, and the lines and the ending of both.
+const JOINED: [(&[u8], &[u8], &str, Ending); 2] = [
+    (&[4, 0, 1, 0], &[0xff], EMPTY, (5, 1, 4)),
+    (&[5, 0, 1, 0, 0xaa], &[4, 0, 2, 0], FIRST, (5, 1, 4)),
+];
+
+fn joined(alloc: Global, block: &[u8], after: &[u8]) -> Result<Vec<u8>, AllocError> {
+    let mut joined = block.to_vec(alloc)?;
+    joined.extend_from_slice(after)?;
+    Ok(joined)
 }
 
 /// After a canonical block, the walk continues as the walk of what follows. If a block lacks
 /// padding, what follows serves as its padding.
 #[test]
 fn joined_blocks(rt: HostRuntime) -> Result<(), Fail> {
-    let rows: [(&[u8], &[u8], &str, Ending); 2] = [
-        (&[4, 0, 1, 0], &[0xff], EMPTY, (5, 1, 4)),
-        (&[5, 0, 1, 0, 0xaa], &[4, 0, 2, 0], FIRST, (5, 1, 4)),
-    ];
-    for (block, after, lines, ending) in rows.iter() {
-        let mut joined = block.to_vec(rt.alloc())?;
-        joined.extend_from_slice(after)?;
-        let (output, ended) = nlas_of(rt.alloc(), &joined)?;
-        assert_eq!(rt; output.as_slice(), lines.as_bytes());
-        assert!(rt; ended == *ending);
+    for (block, after, lines, ending) in JOINED {
+        let block = joined(rt.alloc(), block, after)?;
+        assert!(rt; is_walked(rt.alloc(), &block, lines, ending)?);
     }
     Ok(())
 }

@@ -2,7 +2,7 @@
 
 use crate::ping_pong::PingPongMessage;
 use crate::samples::Zeros;
-use crate::tests::cuts::{Ending, WELL, nlas_of};
+use crate::tests::cuts::{Ending, WELL, is_walked};
 use crate::tests::messages::{PING, read};
 use crate::tests::refusals::refuses;
 use netlink_packet_core::{
@@ -59,26 +59,30 @@ fn attribute_with_length(length: u16) -> [u8; 8] {
     block
 }
 
+/// A length, and the lines and the ending of an attribute that has it.
+const LENGTHS: [(u16, &str, Ending); 11] = [
+    (0, "", (7, 4, 0)),
+    (1, "", (7, 4, 1)),
+    (2, "", (7, 4, 2)),
+    (3, "", (7, 4, 3)),
+    (4, "0001 0 -\n", (6, 4, 48042)),
+    (5, "0001 1 aa\n", WELL),
+    (6, "0001 2 aabb\n", WELL),
+    (7, "0001 3 aabbcc\n", WELL),
+    (8, "0001 4 aabbccdd\n", WELL),
+    (9, "", (6, 8, 9)),
+    (65535, "", (6, 8, 65535)),
+];
+
 /// An attribute of kind 1 with other lengths.
 #[test]
 fn lengths_of_an_attribute(rt: HostRuntime) -> Result<(), Fail> {
-    let rows: [(u16, &str, Ending); 11] = [
-        (0, "", (7, 4, 0)),
-        (1, "", (7, 4, 1)),
-        (2, "", (7, 4, 2)),
-        (3, "", (7, 4, 3)),
-        (4, "0001 0 -\n", (6, 4, 48042)),
-        (5, "0001 1 aa\n", WELL),
-        (6, "0001 2 aabb\n", WELL),
-        (7, "0001 3 aabbcc\n", WELL),
-        (8, "0001 4 aabbccdd\n", WELL),
-        (9, "", (6, 8, 9)),
-        (65535, "", (6, 8, 65535)),
-    ];
-    for (length, lines, ending) in rows.iter() {
-        let (output, ended) = nlas_of(rt.alloc(), &attribute_with_length(*length))?;
-        assert_eq!(rt; output.as_slice(), lines.as_bytes(), "length {length}");
-        assert!(rt; ended == *ending, "length {length}");
+    for (length, lines, ending) in LENGTHS {
+        let block = attribute_with_length(length);
+        assert!(rt;
+            is_walked(rt.alloc(), &block, lines, ending)?,
+            "length {length}"
+        );
     }
     Ok(())
 }
@@ -107,7 +111,7 @@ fn error_of_size(rt: &impl Abort, alloc: Global, size: u8) {
                 size: said,
                 inside: true,
             },
-        ) => assert_eq!(rt; *said, usize::from(size)),
+        ) => assert!(rt; *said == usize::from(size)),
         _ => assert!(rt; false, "{size} bytes of an error"),
     }
 }
@@ -149,16 +153,15 @@ pub const FOUR_ZEROS: [u8; 20] = [
 /// creates them.
 #[test]
 fn the_longest_message(rt: HostRuntime) -> Result<(), Fail> {
-    let longest = NetlinkMessage::from_inner(Zeros(4294967279));
-    assert!(rt; longest.fits());
-    let longer = NetlinkMessage::from_inner(Zeros(4294967280));
-    assert!(rt; !longer.fits());
+    assert!(rt; zeros_fit(4294967279) && !zeros_fit(4294967280));
     assert!(rt; refuses(normal_zeros(rt.alloc(), 4294967280), 15));
-    assert_eq!(rt;
-        normal_zeros(rt.alloc(), 4)?.as_slice(),
-        FOUR_ZEROS.as_slice()
-    );
+    assert!(rt; normal_zeros(rt.alloc(), 4)?.as_slice() == FOUR_ZEROS.as_slice());
     Ok(())
+}
+
+/// Returns whether a message of this many zeros fits.
+pub(crate) fn zeros_fit(count: u64) -> bool {
+    NetlinkMessage::from_inner(Zeros(count)).fits()
 }
 
 /// Returns the canonical frame of a count of zeros.
@@ -172,21 +175,23 @@ fn zeros_are_read(rt: HostRuntime) -> Result<(), Fail> {
     let mut three = [0u8; 19];
     three[0] = 19;
     three[4] = 18;
-    assert!(rt; zeros_of(&NetlinkMessage::deserialize(rt.alloc(), &three)?) == Some(3));
+    assert!(rt; zeros_of(rt.alloc(), &three)? == Some(3));
     three[18] = 1;
-    assert!(rt; refuses(NetlinkMessage::<Zeros>::deserialize(rt.alloc(), &three), 14));
+    assert!(rt; refuses(zeros_of(rt.alloc(), &three), 14));
     three[4] = 19;
-    assert!(rt; refuses(NetlinkMessage::<Zeros>::deserialize(rt.alloc(), &three), 14));
+    assert!(rt; refuses(zeros_of(rt.alloc(), &three), 14));
     three[4] = 20;
-    assert!(rt; refuses(NetlinkMessage::<Zeros>::deserialize(rt.alloc(), &three), 14));
-    let count = NetlinkMessage::deserialize(rt.alloc(), &counted(0x0102030405060708))?;
-    assert!(rt; zeros_of(&count) == Some(0x0102030405060708));
+    assert!(rt; refuses(zeros_of(rt.alloc(), &three), 14));
+    let count = counted(0x0102030405060708);
+    assert!(rt; zeros_of(rt.alloc(), &count)? == Some(0x0102030405060708));
     Ok(())
 }
 
-fn zeros_of(message: &NetlinkMessage<Zeros>) -> Option<u64> {
-    match &message.payload {
+/// Reads a message. Returns how many zeros it has.
+fn zeros_of(alloc: Global, bytes: &[u8]) -> Result<Option<u64>, DecodeError> {
+    let message = NetlinkMessage::<Zeros>::deserialize(alloc, bytes)?;
+    Ok(match &message.payload {
         NetlinkPayload::InnerMessage(zeros) => Some(zeros.0),
         _ => None,
-    }
+    })
 }

@@ -3,7 +3,7 @@
 //! `tests/memory` runs each test with every allocation failing, starting at its marker. The test
 //! must pass, and allocate nothing after the marker.
 
-mod above;
+pub(crate) mod above;
 pub(crate) mod attributes;
 mod messages;
 mod views;

@@ -10,20 +10,20 @@ use crate::samples::Zeros;
 use crate::tests::attributes::TWO;
 use crate::tests::datagrams::DATAGRAM;
 use crate::tests::lengths::{FOUR_ZEROS, normal_zeros};
-use crate::tests::memory_not_asked::attributes::Flag;
+use crate::tests::memory_not_asked::above::{append, written};
+use crate::tests::memory_not_asked::attributes::{Flag, nla_of, normal_block};
 use crate::tests::messages::{
-    CODED_DONE, DONE, EMPTY_DONE, Message, NOOP, OVERRUN, PING, PLAIN_DONE, PLAIN_NOOP, read,
-    read_view,
+    CODED_DONE, DONE, EMPTY_DONE, Message, NOOP, OVERRUN, PING, PLAIN_DONE, PLAIN_NOOP, normal_of,
+    read, read_view, verdict_of,
 };
 use crate::tests::refusals::UNKNOWN;
 use crate::text::show_text;
 use netlink_packet_core::{
     DecodeError, DefaultNla, DoneBuffer, DoneMessage, ErrorBuffer, ErrorContext, ErrorMessage,
-    NetlinkSerializable, NlaBuffer, NonZeroI32, Parseable, append_nla, copy_of, is_canonical_frame,
-    normalize, normalize_nlas, parse_string, write_nlas,
+    NetlinkSerializable, NonZeroI32, Parseable, append_nla, copy_of, parse_string, write_nlas,
 };
-use netlink_tree::{TreeFault, append_frame, is_well_formed, read_tree, write_tree};
-use std::alloc::Global;
+use netlink_tree::{TreeFault, read_tree};
+use std::alloc::{AllocError, Global};
 use std::test::Fail;
 
 const LINE: &str = "a line caused by message does not fit a 32-bit length";
@@ -65,13 +65,16 @@ fn causes_with_a_text(rt: HostRuntime) -> Result<(), Fail> {
     let text = "Invalid buffer a name. Expected at least 8 bytes, received 3 bytes";
     assert!(rt; says(alloc, named, text)?);
     assert!(rt; says(alloc, DecodeError::from_text(alloc, LINE), LINE)?);
-    match String::from_utf8([0xffu8].to_vec(alloc)?) {
-        Ok(_) => assert!(rt; false),
-        Err(error) => {
-            assert!(rt; says(alloc, DecodeError::from_utf8_error(alloc, error), NOT_UTF8)?)
-        }
-    }
+    assert!(rt; says(alloc, not_utf8(alloc)?, NOT_UTF8)?);
     Ok(())
+}
+
+/// Returns the error for the byte ff, which is not UTF-8.
+fn not_utf8(alloc: Global) -> Result<DecodeError, AllocError> {
+    Ok(match String::from_utf8([0xffu8].to_vec(alloc)?) {
+        Ok(text) => DecodeError::from(text),
+        Err(error) => DecodeError::from_utf8_error(alloc, error),
+    })
 }
 
 #[test]
@@ -96,10 +99,7 @@ fn strings(rt: HostRuntime) -> Result<(), Fail> {
 fn an_attribute_is_read_and_copied(rt: HostRuntime) -> Result<(), Fail> {
     let alloc = rt.alloc();
     let wanted = DefaultNla::new(1, [0xaau8].to_vec(alloc)?);
-    match NlaBuffer::new_checked(&TWO[..]) {
-        Ok(view) => assert!(rt; DefaultNla::parse(alloc, &view)? == wanted),
-        Err(_) => assert!(rt; false),
-    }
+    assert!(rt; nla_of(alloc, &TWO)? == wanted);
     assert!(rt; wanted.try_clone(alloc)? == wanted);
     Ok(())
 }
@@ -151,8 +151,13 @@ fn a_block_is_written(rt: HostRuntime) -> Result<(), Fail> {
 
 #[test]
 fn a_block_is_normalised(rt: HostRuntime) -> Result<(), Fail> {
-    assert!(rt; normalize_nlas(rt.alloc(), &TWO)?.as_slice() == TWO.as_slice());
+    assert!(rt; normal_block(rt.alloc(), &TWO)?.as_slice() == TWO.as_slice());
     Ok(())
+}
+
+/// Appends an attribute of kind 2 and value aa.
+fn append_aa(alloc: Global, block: &mut Vec<u8>) -> Result<(), DecodeError> {
+    append_nla(alloc, block, 2, &[0xaa])
 }
 
 /// If `append_nla` fails, the block is unchanged, whether it is empty or not.
@@ -160,13 +165,13 @@ fn a_block_is_normalised(rt: HostRuntime) -> Result<(), Fail> {
 fn attributes_are_appended(rt: HostRuntime) -> Result<(), Fail> {
     let alloc = rt.alloc();
     let mut block = Vec::new(alloc);
-    if let Err(cause) = append_nla(alloc, &mut block, 2, &[0xaa]) {
+    if let Err(cause) = append_aa(alloc, &mut block) {
         assert!(rt; block.is_empty());
         return Err(Fail::from(cause));
     }
     assert!(rt; block.as_slice() == [5, 0, 2, 0, 0xaa, 0, 0, 0].as_slice());
     let mut longer = TWO.to_vec(alloc)?;
-    if let Err(cause) = append_nla(alloc, &mut longer, 2, &[0xaa]) {
+    if let Err(cause) = append_aa(alloc, &mut longer) {
         assert!(rt; longer.as_slice() == TWO.as_slice());
         return Err(Fail::from(cause));
     }
@@ -174,11 +179,13 @@ fn attributes_are_appended(rt: HostRuntime) -> Result<(), Fail> {
     Ok(())
 }
 
+/// Frames whose payloads are copied.
+const COPIED: [&[u8]; 4] = [&PING, &DONE, &CODED_DONE, &OVERRUN];
+
 #[test]
 fn messages_are_read(rt: HostRuntime) -> Result<(), Fail> {
     let alloc = rt.alloc();
-    let frames: [&[u8]; 4] = [&PING, &DONE, &CODED_DONE, &OVERRUN];
-    for frame in frames {
+    for frame in COPIED {
         let message = read(alloc, frame)?;
         assert!(rt; message.header.length as usize == frame.len());
         assert!(rt; read_view(alloc, frame)? == message);
@@ -196,19 +203,21 @@ fn a_refused_message(rt: HostRuntime) -> Result<(), Fail> {
     Ok(())
 }
 
+/// Frames, and what they are normalized to.
+const NORMALISED: [(&[u8], &[u8]); 3] = [
+    (&PING, &PING),
+    (&EMPTY_DONE, &PLAIN_DONE),
+    (&NOOP, &PLAIN_NOOP),
+];
+
 #[test]
 fn frames_are_normalised(rt: HostRuntime) -> Result<(), Fail> {
     let alloc = rt.alloc();
-    let rows: [(&[u8], &[u8]); 3] = [
-        (&PING, &PING),
-        (&EMPTY_DONE, &PLAIN_DONE),
-        (&NOOP, &PLAIN_NOOP),
-    ];
-    for (frame, normal) in rows.iter() {
-        assert!(rt; normalize::<PingPongMessage>(alloc, frame)?.as_slice() == *normal);
+    for (frame, normal) in NORMALISED {
+        assert!(rt; normal_of(alloc, frame)?.as_slice() == normal);
     }
     assert!(rt; normal_zeros(alloc, 4)?.as_slice() == FOUR_ZEROS.as_slice());
-    assert!(rt; is_canonical_frame::<PingPongMessage>(alloc, &PING)?);
+    assert!(rt; verdict_of(alloc, &PING)?);
     Ok(())
 }
 
@@ -227,21 +236,35 @@ fn payloads_are_appended(rt: HostRuntime) -> Result<(), Fail> {
     Zeros(4).append(&mut text)?;
     PingPongMessage::Ping([5u8].to_vec(alloc)?).append(&mut text)?;
     assert!(rt; text.as_slice() == [0, 0, 0, 0, 5].as_slice());
-    assert!(rt;
-        Zeros(4).is_written_as(alloc, &text[..4])? && !Zeros(5).is_written_as(alloc, &text)?
-    );
+    assert!(rt; are_zeros(alloc, 4, &text[..4])? && !are_zeros(alloc, 5, &text)?);
     Ok(())
+}
+
+/// Returns whether the bytes are the encoding of this many zeros.
+fn are_zeros(alloc: Global, count: u64, bytes: &[u8]) -> Result<bool, AllocError> {
+    Zeros(count).is_written_as(alloc, bytes)
 }
 
 #[test]
 fn lines_are_written(rt: HostRuntime) -> Result<(), Fail> {
     let alloc = rt.alloc();
-    let ping = Message::deserialize(alloc, &PING)?;
     let of_ping = "length 20\ntype 18\nflags 0\nsequence 0\nport 0\npayload ping 00010203\n";
-    assert!(rt; show_text(alloc, &ping)?.as_str() == of_ping);
-    assert!(rt; nlas_text(alloc, &TWO)?.as_str() == "0001 1 aa\n0002 4 01020304\n");
-    assert!(rt; frames_text(alloc, &DATAGRAM)?.as_str() == "20 18\n17 4\n");
+    assert!(rt; message_lines(alloc, &PING)?.as_str() == of_ping);
+    assert!(rt; nla_lines(alloc, &TWO)?.as_str() == "0001 1 aa\n0002 4 01020304\n");
+    assert!(rt; frame_lines(alloc, &DATAGRAM)?.as_str() == "20 18\n17 4\n");
     Ok(())
+}
+
+fn message_lines(alloc: Global, frame: &[u8]) -> Result<String, DecodeError> {
+    show_text(alloc, &read(alloc, frame)?)
+}
+
+fn nla_lines(alloc: Global, block: &[u8]) -> Result<String, DecodeError> {
+    nlas_text(alloc, block)
+}
+
+fn frame_lines(alloc: Global, datagram: &[u8]) -> Result<String, DecodeError> {
+    frames_text(alloc, datagram)
 }
 
 /// If `append_frame` fails, the datagram is unchanged, whether it is empty or not.
@@ -249,13 +272,13 @@ fn lines_are_written(rt: HostRuntime) -> Result<(), Fail> {
 fn frames_are_appended(rt: HostRuntime) -> Result<(), Fail> {
     let alloc = rt.alloc();
     let mut datagram = Vec::new(alloc);
-    if let Err(cause) = append_frame(alloc, &mut datagram, &PING) {
+    if let Err(cause) = append(alloc, &mut datagram, &PING) {
         assert!(rt; datagram.is_empty());
         return Err(Fail::from(cause));
     }
     assert!(rt; datagram.as_slice() == PING.as_slice());
     let mut longer = PING.to_vec(alloc)?;
-    if let Err(cause) = append_frame(alloc, &mut longer, &DATAGRAM[20..]) {
+    if let Err(cause) = append(alloc, &mut longer, &DATAGRAM[20..]) {
         assert!(rt; longer.as_slice() == PING.as_slice());
         return Err(Fail::from(cause));
     }
@@ -273,9 +296,9 @@ const WRITTEN: [u8; 12] = [12, 0, 1, 0x80, 5, 0, 2, 0, 0xaa, 0, 0, 0];
 fn trees_are_read_and_written(rt: HostRuntime) -> Result<(), Fail> {
     let alloc = rt.alloc();
     let trees = read_tree(alloc, &READ)?;
-    assert!(rt; is_well_formed(&trees));
-    if is_well_formed(&trees) {
-        assert!(rt; write_tree(alloc, &trees)?.as_slice() == WRITTEN.as_slice());
+    match written(alloc, &trees) {
+        Some(bytes) => assert!(rt; bytes?.as_slice() == WRITTEN.as_slice()),
+        None => assert!(rt; false),
     }
     match read_tree(alloc, &[8, 0, 1, 0, 1, 2, 3, 4, 3, 0, 2, 0]) {
         Ok(_) => assert!(rt; false),

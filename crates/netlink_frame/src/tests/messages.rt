@@ -4,9 +4,9 @@ use crate::ping_pong::PingPongMessage;
 use netlink_packet_core::laws::{frame_unique, reads_back, refusal_unique};
 use netlink_packet_core::{
     DecodeError, DoneMessage, Emitable, ErrorMessage, NetlinkBuffer, NetlinkHeader, NetlinkMessage,
-    NetlinkPayload, NetlinkSerializable, NonZeroI32, Parseable, normalize,
+    NetlinkPayload, NetlinkSerializable, NonZeroI32, Parseable, is_canonical_frame, normalize,
 };
-use std::alloc::Global;
+use std::alloc::{AllocError, Global};
 use std::process::Abort;
 use std::test::Fail;
 
@@ -71,6 +71,15 @@ pub(crate) fn read_view(alloc: Global, frame: &[u8]) -> Result<Message, DecodeEr
     Message::parse(alloc, &view)
 }
 
+/// Finalizes a message, if it fits. Returns whether it does.
+pub(crate) fn is_finalized(message: &mut Message) -> bool {
+    let fits = message.fits();
+    if fits {
+        message.finalize();
+    }
+    fits
+}
+
 /// Finalizes a message, and writes it by both of its functions. What follows it is unchanged.
 pub(crate) fn is_written_as(rt: &impl Abort, message: &mut Message, frame: &[u8]) {
     assert!(rt; message.fits());
@@ -87,11 +96,21 @@ pub(crate) fn is_written_as(rt: &impl Abort, message: &mut Message, frame: &[u8]
     assert_eq!(rt; again, buffer);
 }
 
+/// Returns whether a frame is canonical.
+pub(crate) fn verdict_of(alloc: Global, frame: &[u8]) -> Result<bool, DecodeError> {
+    is_canonical_frame::<PingPongMessage>(alloc, frame)
+}
+
+/// Returns the bytes, and one more.
+pub(crate) fn longer(alloc: Global, bytes: &[u8], last: u8) -> Result<Vec<u8>, AllocError> {
+    let mut longer = bytes.to_vec(alloc)?;
+    longer.push(last)?;
+    Ok(longer)
+}
+
 /// Reads a message from its frame and one more byte, and from a view of its frame.
 fn reads_as(rt: &impl Abort, alloc: Global, message: &Message, frame: &[u8]) -> Result<(), Fail> {
-    let mut longer = frame.to_vec(alloc)?;
-    longer.push(0x55)?;
-    assert!(rt; read(alloc, &longer)? == *message);
+    assert!(rt; read(alloc, &longer(alloc, frame, 0x55)?)? == *message);
     assert!(rt; read_view(alloc, frame)? == *message);
     Ok(())
 }
@@ -108,12 +127,10 @@ fn a_ping_is_written_and_read_back(rt: HostRuntime) -> Result<(), Fail> {
 
 #[test]
 fn a_ping_comes_apart(rt: HostRuntime) -> Result<(), Fail> {
-    let message = Message::deserialize(rt.alloc(), &PING)?;
-    assert!(rt; message.fits());
-    reads_back(&message, &message, &[0x21]);
+    let message = read(rt.alloc(), &PING)?;
+    assert!(rt; is_read_back(&message));
     let (header, payload) = message.into_parts();
-    assert_eq!(rt; header.length, 20);
-    assert_eq!(rt; payload.message_type(), 18);
+    assert!(rt; header.length == 20 && payload.message_type() == 18);
     Ok(())
 }
 
@@ -128,6 +145,15 @@ fn a_pong_is_written_and_read_back(rt: HostRuntime) -> Result<(), Fail> {
     Ok(())
 }
 
+/// States the law of reading back for a message, if it fits. Returns whether it does.
+fn is_read_back(message: &Message) -> bool {
+    let fits = message.fits();
+    if fits {
+        reads_back(message, message, &[0x21]);
+    }
+    fits
+}
+
 /// Returns the bytes of a pong.
 fn pong_of(message: &Message) -> Option<&[u8]> {
     match &message.payload {
@@ -139,15 +165,18 @@ fn pong_of(message: &Message) -> Option<&[u8]> {
 #[test]
 fn a_request_is_read(rt: HostRuntime) -> Result<(), Fail> {
     let message = read(rt.alloc(), &REQUEST)?;
-    assert_eq!(rt; message.header.flags, 769);
-    assert_eq!(rt; message.header.sequence_number, 1526271540);
-    match &message.payload {
-        NetlinkPayload::InnerMessage(PingPongMessage::Ping(bytes)) => {
-            assert_eq!(rt; bytes.as_slice(), &REQUEST[16..]);
-        }
-        _ => assert!(rt; false),
-    }
+    assert!(rt; message.header.flags == 769);
+    assert!(rt; message.header.sequence_number == 1526271540);
+    assert!(rt; ping_of(&message) == Some(&REQUEST[16..]));
     Ok(())
+}
+
+/// Returns the bytes of a ping.
+fn ping_of(message: &Message) -> Option<&[u8]> {
+    match &message.payload {
+        NetlinkPayload::InnerMessage(PingPongMessage::Ping(bytes)) => Some(bytes.as_slice()),
+        _ => None,
+    }
 }
 
 #[test]
@@ -193,40 +222,37 @@ fn has_parts(rt: &impl Abort, message: &Message, size: usize, wanted: (u16, i32,
     assert_eq!(rt; read_bytes, bytes);
 }
 
-/// Each frame with its payload's type, code and bytes, and the frame that it is normalized to.
+/// A frame with its payload's type, code and bytes, and the frame that it is normalized to.
+const SHARED: [(&[u8], u16, i32, &[u8], &[u8]); 7] = [
+    (&NOOP, 1, 0, &[], &PLAIN_NOOP),
+    (&EMPTY_DONE, 3, 0, &[], &PLAIN_DONE),
+    (&DONE, 3, 0, &[6, 7, 8, 9], &DONE),
+    (&CODED_DONE, 3, 5, &[1, 2, 3], &CODED_DONE),
+    (&ERROR, 2, -8765, &[], &ERROR),
+    (&LONG_ERROR, 2, -8765, &[6, 7, 8, 9], &LONG_ERROR),
+    (&OVERRUN, 4, 0, &[7, 8, 9], &OVERRUN),
+];
+
 #[test]
 fn shared_payloads(rt: HostRuntime) -> Result<(), Fail> {
-    let nothing: &[u8] = &[];
-    let rows: [(&[u8], u16, i32, &[u8], &[u8]); 7] = [
-        (&NOOP, 1, 0, nothing, &PLAIN_NOOP),
-        (&EMPTY_DONE, 3, 0, nothing, &PLAIN_DONE),
-        (&DONE, 3, 0, &[6, 7, 8, 9], &DONE),
-        (&CODED_DONE, 3, 5, &[1, 2, 3], &CODED_DONE),
-        (&ERROR, 2, -8765, nothing, &ERROR),
-        (&LONG_ERROR, 2, -8765, &[6, 7, 8, 9], &LONG_ERROR),
-        (&OVERRUN, 4, 0, &[7, 8, 9], &OVERRUN),
-    ];
-    for (frame, kind, code, bytes, normal) in rows.iter() {
+    for (frame, kind, code, bytes, normal) in SHARED {
         let message = read(rt.alloc(), frame)?;
-        has_parts(&rt, &message, frame.len(), (*kind, *code, bytes));
-        assert_eq!(rt; normal_of(rt.alloc(), frame)?.as_slice(), *normal);
+        has_parts(&rt, &message, frame.len(), (kind, code, bytes));
+        assert!(rt; normal_of(rt.alloc(), frame)?.as_slice() == normal);
     }
     Ok(())
 }
 
 #[test]
 fn inner_messages_are_normalised(rt: HostRuntime) -> Result<(), Fail> {
-    let mut longer = PING.to_vec(rt.alloc())?;
-    longer.push(0xff)?;
-    assert_eq!(rt; normal_of(rt.alloc(), &longer)?.as_slice(), PING.as_slice());
-    assert_eq!(rt;
-        normal_of(rt.alloc(), &REQUEST)?.as_slice(),
-        REQUEST.as_slice()
-    );
+    let longer = longer(rt.alloc(), &PING, 0xff)?;
+    assert!(rt; normal_of(rt.alloc(), &longer)?.as_slice() == PING.as_slice());
+    assert!(rt; normal_of(rt.alloc(), &REQUEST)?.as_slice() == REQUEST.as_slice());
     refusal_unique::<PingPongMessage>();
     Ok(())
 }
 
-fn normal_of(alloc: Global, bytes: &[u8]) -> Result<Vec<u8>, Fail> {
-    Ok(normalize::<PingPongMessage>(alloc, bytes)?)
+/// Returns the canonical frame of the message at the start of the bytes.
+pub(crate) fn normal_of(alloc: Global, bytes: &[u8]) -> Result<Vec<u8>, DecodeError> {
+    normalize::<PingPongMessage>(alloc, bytes)
 }

@@ -4,47 +4,53 @@ ghost use Rattle.std.specs.Prelude.{◌≡◌, ◌∷◌, []};
 
 use crate::overwrite::overwrite;
 use crate::tests::attributes::{SHORT, TWO};
-use crate::tests::cuts::{Ending, WELL, nlas_of};
+use crate::tests::cuts::{Ending, WELL, is_walked, nlas_of};
 use netlink_packet_core::nlas_value_mut;
 use std::test::Fail;
 
 const REPLACED: [u8; 16] = [5, 0, 1, 0, 0xaa, 0, 0, 0, 8, 0, 2, 0, 8, 0, 2, 0];
 
+const BOTH: &str = "0001 1 aa\n0002 4 01020304\n";
+
+/// A block, an index and a value; whether it is overwritten, the block that results, and its lines.
+const OVERWRITTEN: [(&[u8], usize, &[u8], bool, &[u8], &str, Ending); 7] = [
+    (
+        &TWO,
+        1,
+        &[8, 0, 2, 0],
+        true,
+        &REPLACED,
+        "0001 1 aa\n0002 4 08000200\n",
+        WELL,
+    ),
+    (&TWO, 1, &[1, 2, 3], false, &TWO, BOTH, WELL),
+    (&TWO, 2, &[1, 2, 3, 4], false, &TWO, BOTH, WELL),
+    (&TWO, usize::MAX, &[], false, &TWO, BOTH, WELL),
+    (&SHORT, 0, &[], true, &SHORT, "0001 0 -\n", (7, 4, 3)),
+    (&SHORT, 1, &[], false, &SHORT, "0001 0 -\n", (7, 4, 3)),
+    (
+        &[5, 0, 1, 0, 0xaa, 1, 2, 3, 3, 0, 7, 0],
+        0,
+        &[0xbb],
+        true,
+        &[5, 0, 1, 0, 0xbb, 1, 2, 3, 3, 0, 7, 0],
+        "0001 1 bb\n",
+        (7, 4, 3),
+    ),
+];
+
+/// Overwrites a value. Has no contract, so that the proofs of tests are short.
+pub(crate) fn is_overwritten(block: &mut [u8], index: usize, value: &[u8]) -> bool {
+    overwrite(block, index, value)
+}
+
 #[test]
 fn a_value_is_written_over(rt: HostRuntime) -> Result<(), Fail> {
-    let both = "0001 1 aa\n0002 4 01020304\n";
-    let rows: [(&[u8], usize, &[u8], bool, &[u8], &str, Ending); 7] = [
-        (
-            &TWO,
-            1,
-            &[8, 0, 2, 0],
-            true,
-            &REPLACED,
-            "0001 1 aa\n0002 4 08000200\n",
-            WELL,
-        ),
-        (&TWO, 1, &[1, 2, 3], false, &TWO, both, WELL),
-        (&TWO, 2, &[1, 2, 3, 4], false, &TWO, both, WELL),
-        (&TWO, usize::MAX, &[], false, &TWO, both, WELL),
-        (&SHORT, 0, &[], true, &SHORT, "0001 0 -\n", (7, 4, 3)),
-        (&SHORT, 1, &[], false, &SHORT, "0001 0 -\n", (7, 4, 3)),
-        (
-            &[5, 0, 1, 0, 0xaa, 1, 2, 3, 3, 0, 7, 0],
-            0,
-            &[0xbb],
-            true,
-            &[5, 0, 1, 0, 0xbb, 1, 2, 3, 3, 0, 7, 0],
-            "0001 1 bb\n",
-            (7, 4, 3),
-        ),
-    ];
-    for (old, index, value, answer, new, lines, ending) in rows.iter() {
+    for (old, index, value, answer, new, lines, ending) in OVERWRITTEN {
         let mut block = old.to_vec(rt.alloc())?;
-        assert_eq!(rt; overwrite(block.as_mut_slice(), *index, value), *answer);
-        assert_eq!(rt; block.as_slice(), *new);
-        let (output, ended) = nlas_of(rt.alloc(), &block)?;
-        assert_eq!(rt; output.as_slice(), lines.as_bytes());
-        assert!(rt; ended == *ending);
+        assert!(rt; is_overwritten(&mut block, index, value) == answer);
+        assert!(rt; block.as_slice() == new);
+        assert!(rt; is_walked(rt.alloc(), &block, lines, ending)?);
     }
     Ok(())
 }
@@ -68,26 +74,25 @@ fn a_known_block(rt: HostRuntime) {
 #[test]
 fn a_value_is_lent(rt: HostRuntime) -> Result<(), Fail> {
     let mut block = TWO;
-    match nlas_value_mut(&mut block, 1) {
+    match lent(&mut block, 1) {
         Some(value) => {
-            assert_eq!(rt; value.len(), 4);
-            assert_eq!(rt; &*value, [1u8, 2, 3, 4].as_slice());
+            assert!(rt; value.len() == 4);
+            assert!(rt; &*value == [1u8, 2, 3, 4].as_slice());
             value.copy_from_slice(&[5, 6, 7, 8]);
         }
         None => assert!(rt; false),
     }
-    let (output, ended) = nlas_of(rt.alloc(), &block)?;
-    assert_eq!(rt;
-        output.as_slice(),
-        b"0001 1 aa\n0002 4 05060708\n".as_slice()
-    );
-    assert!(rt; ended == WELL);
-    assert!(rt; nlas_value_mut(&mut block, 2).is_none());
-    assert!(rt; nlas_value_mut(&mut block, usize::MAX).is_none());
-    let (again, ended) = nlas_of(rt.alloc(), &block)?;
-    assert_eq!(rt; again.as_slice(), output.as_slice());
-    assert!(rt; ended == WELL);
+    let lines = "0001 1 aa\n0002 4 05060708\n";
+    assert!(rt; is_walked(rt.alloc(), &block, lines, WELL)?);
+    assert!(rt; lent(&mut block, 2).is_none());
+    assert!(rt; lent(&mut block, usize::MAX).is_none());
+    assert!(rt; is_walked(rt.alloc(), &block, lines, WELL)?);
     Ok(())
+}
+
+/// Borrows a value mutably. Has no contract, so that the proofs of tests are short.
+fn lent(block: &mut [u8], index: usize) -> Option<&mut [u8]> {
+    nlas_value_mut(block, index)
 }
 
 /// An empty value is borrowed, even before an error.

@@ -1,9 +1,8 @@
 //! Bytes that are rejected, with their errors.
 
-use crate::ping_pong::PingPongMessage;
-use crate::tests::messages::{Message, PING};
-use netlink_packet_core::{DecodeError, normalize};
-use std::alloc::Global;
+use crate::tests::messages::{PING, normal_of, read};
+use netlink_packet_core::DecodeError;
+use std::alloc::{AllocError, Global};
 use std::test::Fail;
 
 pub const SHORT_DONE: [u8; 19] = [0x13, 0, 0, 0, 3, 0, 0, 0, 0, 0, 0, 0, 0, 0, 0, 0, 1, 2, 3];
@@ -65,28 +64,31 @@ pub(crate) fn refuses<T: Drop>(answer: Result<T, DecodeError>, number: u8) -> bo
 }
 
 fn refusal_of(alloc: Global, bytes: &[u8]) -> Result<DecodeError, Fail> {
-    match Message::deserialize(alloc, bytes) {
+    match read(alloc, bytes) {
         Ok(_) => Err(Fail::from("the bytes are read")),
         Err(refusal) => Ok(refusal),
     }
 }
 
 fn normal_refusal_of(alloc: Global, bytes: &[u8]) -> Result<DecodeError, Fail> {
-    match normalize::<PingPongMessage>(alloc, bytes) {
+    match normal_of(alloc, bytes) {
         Ok(_) => Err(Fail::from("the bytes are normalised")),
         Err(refusal) => Ok(refusal),
     }
+}
+
+/// Returns whether an error has this number and this text.
+fn says(alloc: Global, refusal: &DecodeError, number: u8, text: &str) -> Result<bool, AllocError> {
+    Ok(refusal.number() == number && refusal.to_string(alloc)?.as_str() == text)
 }
 
 #[test]
 fn each_with_its_cause_and_text(rt: HostRuntime) -> Result<(), Fail> {
     for (bytes, number, text) in REFUSED {
         let refusal = refusal_of(rt.alloc(), bytes)?;
-        assert_eq!(rt; refusal.number(), number);
-        assert_eq!(rt; refusal.to_string(rt.alloc())?.as_str(), text);
+        assert!(rt; says(rt.alloc(), &refusal, number, text)?);
         let refusal = normal_refusal_of(rt.alloc(), bytes)?;
-        assert_eq!(rt; refusal.number(), number);
-        assert_eq!(rt; refusal.to_string(rt.alloc())?.as_str(), text);
+        assert!(rt; says(rt.alloc(), &refusal, number, text)?);
     }
     Ok(())
 }

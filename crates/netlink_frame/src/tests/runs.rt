@@ -8,10 +8,10 @@ use crate::laws::makes_once;
 use crate::ping_pong::DeserializeError;
 use crate::run::{Fault, run};
 use crate::samples::Zeros;
-use crate::tests::messages::PING;
-use std::alloc::Global;
+use crate::tests::messages::{PING, longer};
+use std::alloc::{AllocError, Global};
 use std::io;
-use std::io::Write;
+use std::io::{Read, Write};
 use std::test::Fail;
 
 /// A run in memory, with what it wrote.
@@ -24,12 +24,21 @@ pub(crate) fn written(alloc: Global, command: Command, input: &[u8]) -> Result<V
     Ok(output)
 }
 
+/// Runs a command. Has no contract, so that the proofs of tests are short.
+pub(crate) fn run_on<R: Read, W: Write>(
+    alloc: Global,
+    command: Command,
+    reader: &mut R,
+    writer: &mut W,
+) -> Result<(), Fault> {
+    run(alloc, command, reader, writer)
+}
+
 #[test]
 fn a_ping_and_more_is_normalised(rt: HostRuntime) -> Result<(), Fail> {
-    let mut input = PING.to_vec(rt.alloc())?;
-    input.push(0x21)?;
+    let input = longer(rt.alloc(), &PING, 0x21)?;
     match written(rt.alloc(), Command::Normalize, &input) {
-        Ok(output) => assert_eq!(rt; output.as_slice(), PING.as_slice()),
+        Ok(output) => assert!(rt; output.as_slice() == PING.as_slice()),
         Err(_) => assert!(rt; false),
     }
     makes_once();
@@ -55,46 +64,55 @@ impl Write for Closed {
 #[test]
 fn a_closed_writer(rt: HostRuntime) {
     let mut ping: &[u8] = &PING;
-    let answer = run(rt.alloc(), Command::Normalize, &mut ping, &mut Closed);
+    let answer = run_on(rt.alloc(), Command::Normalize, &mut ping, &mut Closed);
     assert!(rt; matches!(answer, Err(Fault::Write)));
     let mut cut: &[u8] = &PING[..19];
-    let answer = run(rt.alloc(), Command::Normalize, &mut cut, &mut Closed);
+    let answer = run_on(rt.alloc(), Command::Normalize, &mut cut, &mut Closed);
     match answer {
-        Err(Fault::Decode(cause)) => assert_eq!(rt; cause.number(), 10),
+        Err(Fault::Decode(cause)) => assert!(rt; cause.number() == 10),
         _ => assert!(rt; false),
     }
 }
 
+const WORDS: [(&str, Option<Command>); 13] = [
+    ("normalize", Some(Command::Normalize)),
+    ("show", Some(Command::Show)),
+    ("nlas", Some(Command::Nlas)),
+    ("canon", Some(Command::Canon)),
+    ("frames", Some(Command::Frames)),
+    ("", None),
+    ("Normalize", None),
+    ("normalise", None),
+    ("normalize ", None),
+    ("shows", None),
+    ("nla", None),
+    ("canonical", None),
+    ("frame", None),
+];
+
+const EMPTY_INPUT: &str =
+    "failed deserializing NetlinkMessage caused by invalid netlink buffer length caused by invalid netlink buffer: length is 0 but netlink packets are at least 16 bytes";
+
+pub(crate) fn is_same_command(command: Option<Command>, other: Option<Command>) -> bool {
+    command == other
+}
+
+/// Returns whether an error has this text.
+fn says(alloc: Global, fault: &Fault, text: &str) -> Result<bool, AllocError> {
+    Ok(fault.to_string(alloc)?.as_str() == text)
+}
+
 #[test]
 fn words_and_faults(rt: HostRuntime) -> Result<(), Fail> {
-    assert!(rt; Command::from_text("normalize") == Some(Command::Normalize));
-    assert!(rt; Command::from_text("show") == Some(Command::Show));
-    assert!(rt; Command::from_text("nlas") == Some(Command::Nlas));
-    assert!(rt; Command::from_text("canon") == Some(Command::Canon));
-    assert!(rt; Command::from_text("frames") == Some(Command::Frames));
-    for word in [
-        "",
-        "Normalize",
-        "normalise",
-        "normalize ",
-        "shows",
-        "nla",
-        "canonical",
-        "frame",
-    ] {
-        assert!(rt; Command::from_text(word).is_none());
+    for (word, command) in WORDS {
+        assert!(rt; is_same_command(Command::from_text(word), command));
     }
-    let read = Fault::Read.to_string(rt.alloc())?;
-    assert_eq!(rt; read.as_str(), "read failed");
-    let write = Fault::Write.to_string(rt.alloc())?;
-    assert_eq!(rt; write.as_str(), "write failed");
+    assert!(rt; says(rt.alloc(), &Fault::Read, "read failed")?);
+    assert!(rt; says(rt.alloc(), &Fault::Write, "write failed")?);
     let mut nothing: &[u8] = &[];
     let mut output: Vec<u8> = Vec::new(rt.alloc());
-    match run(rt.alloc(), Command::Normalize, &mut nothing, &mut output) {
-        Err(fault) => assert_eq!(rt;
-            fault.to_string(rt.alloc())?.as_str(),
-            "failed deserializing NetlinkMessage caused by invalid netlink buffer length caused by invalid netlink buffer: length is 0 but netlink packets are at least 16 bytes"
-        ),
+    match run_on(rt.alloc(), Command::Normalize, &mut nothing, &mut output) {
+        Err(fault) => assert!(rt; says(rt.alloc(), &fault, EMPTY_INPUT)?),
         Ok(()) => assert!(rt; false),
     }
     assert!(rt; output.is_empty());
@@ -103,18 +121,10 @@ fn words_and_faults(rt: HostRuntime) -> Result<(), Fail> {
 
 #[test]
 fn texts_of_the_protocols_errors(rt: HostRuntime) -> Result<(), Fail> {
-    assert_eq!(rt;
-        DeserializeError::InvalidType
-            .to_string(rt.alloc())?
-            .as_str(),
-        "invalid ping-pong message: invalid message type"
-    );
-    assert_eq!(rt;
-        DeserializeError::OutOfMemory
-            .to_string(rt.alloc())?
-            .as_str(),
-        "out of memory"
-    );
+    let invalid_type = DeserializeError::InvalidType.to_string(rt.alloc())?;
+    assert!(rt; invalid_type.as_str() == "invalid ping-pong message: invalid message type");
+    let out_of_memory = DeserializeError::OutOfMemory.to_string(rt.alloc())?;
+    assert!(rt; out_of_memory.as_str() == "out of memory");
     Ok(())
 }
 

@@ -2,15 +2,16 @@
 
 ghost use Rattle.std.specs.Prelude.{◌∷◌, []};
 
-use crate::overwrite::overwrite;
 use crate::tests::attributes::{FLAGGED, SHORT, TWO};
 use crate::tests::mark::refuse_from_here;
+use crate::tests::overwriting::is_overwritten;
 use crate::tests::refusals::refuses;
 use netlink_packet_core::{
-    DefaultNla, Emitable, Nla, NlaBuffer, Nlas, NlasIterator, Parseable, append_nla,
+    DecodeError, DefaultNla, Emitable, Nla, NlaBuffer, Nlas, NlasIterator, Parseable, append_nla,
     append_padding, emit_nla, is_canonical_nlas, nla_align, nla_buffer_len, nla_find, nla_find_raw,
     nla_fits, nla_place, nlas_fault, nlas_value_mut, normalize_nlas, write_nla_value, write_nlas,
 };
+use std::alloc::Global;
 use std::test::Fail;
 
 #[test]
@@ -148,27 +149,40 @@ fn blocks_are_normalised(rt: HostRuntime) -> Result<(), Fail> {
     let alloc = rt.alloc();
     refuse_from_here(alloc);
     assert!(rt; is_canonical_nlas(&TWO) && !is_canonical_nlas(&SHORT));
-    assert!(rt; normalize_nlas(alloc, &[])?.is_empty());
+    assert!(rt; normal_block(alloc, &[])?.is_empty());
     let damaged: [(&[u8], u8); 3] = [(&TWO[..9], 5), (&TWO[..15], 6), (&SHORT, 7)];
     for (block, number) in damaged.iter() {
-        assert!(rt; refuses(normalize_nlas(alloc, block), *number));
+        assert!(rt; refuses(normal_block(alloc, block), *number));
     }
     Ok(())
+}
+
+/// Normalizes a block. Has no contract, so that the proofs of tests are short.
+pub(crate) fn normal_block(alloc: Global, block: &[u8]) -> Result<Vec<u8>, DecodeError> {
+    normalize_nlas(alloc, block)
 }
 
 #[test]
 fn values_are_written_over(rt: HostRuntime) {
     refuse_from_here(rt.alloc());
     let mut block = TWO;
-    assert!(rt; overwrite(&mut block, 0, &[0xbb]));
-    assert!(rt; !overwrite(&mut block, 1, &[0xbb]));
-    assert!(rt; write_nla_value(&mut block, 0, &[0xbb]) && !write_nla_value(&mut block, 2, &[]));
+    assert!(rt; is_overwritten(&mut block, 0, &[0xbb]));
+    assert!(rt; !is_overwritten(&mut block, 1, &[0xbb]));
+    assert!(rt; is_written(&mut block, 0, &[0xbb]) && !is_written(&mut block, 2, &[]));
     assert!(rt; block == [5, 0, 1, 0, 0xbb, 0, 0, 0, 8, 0, 2, 0, 1, 2, 3, 4]);
-    match nlas_value_mut(&mut block, 0) {
-        Some(value) => assert!(rt; value.len() == 1),
-        None => assert!(rt; false),
+    assert!(rt; lent_size(&mut block, 0) == Some(1) && lent_size(&mut block, 2).is_none());
+}
+
+fn is_written(block: &mut [u8; 16], index: usize, value: &[u8]) -> bool {
+    write_nla_value(block, index, value)
+}
+
+/// Returns the size of a value that is mutably borrowed.
+fn lent_size(block: &mut [u8; 16], index: usize) -> Option<usize> {
+    match nlas_value_mut(block, index) {
+        Some(value) => Some(value.len()),
+        None => None,
     }
-    assert!(rt; nlas_value_mut(&mut block, 2).is_none());
 }
 
 /// An attribute goes into a block with room for it and its padding.
@@ -198,12 +212,12 @@ fn attributes_without_a_value(rt: HostRuntime) -> Result<(), Fail> {
     let alloc = rt.alloc();
     refuse_from_here(alloc);
     let nla = DefaultNla::new(0xc006, Vec::new(alloc));
-    match NlaBuffer::new_checked(&[4, 0, 6, 0xc0][..]) {
-        Ok(view) => {
-            assert!(rt; DefaultNla::parse(alloc, &view)? == nla);
-        }
-        Err(_) => assert!(rt; false),
-    }
+    assert!(rt; nla_of(alloc, &[4, 0, 6, 0xc0])? == nla);
     assert!(rt; nla.try_clone(alloc)? == nla);
     Ok(())
+}
+
+/// Reads an attribute.
+pub(crate) fn nla_of(alloc: Global, bytes: &[u8]) -> Result<DefaultNla, DecodeError> {
+    DefaultNla::parse(alloc, &NlaBuffer::new_checked(bytes)?)
 }

@@ -2,15 +2,14 @@
 
 use crate::ping_pong::PingPongMessage;
 use crate::samples::Zeros;
-use crate::tests::lengths::normal_zeros;
+use crate::tests::lengths::{normal_zeros, zeros_fit};
 use crate::tests::mark::refuse_from_here;
 use crate::tests::messages::{
-    CODED_DONE, EMPTY_DONE, ERROR, Message, NOOP, PING, is_written_as, read, read_view,
+    CODED_DONE, EMPTY_DONE, ERROR, Message, NOOP, PING, is_finalized, is_written_as, read,
+    read_view, verdict_of,
 };
 use crate::tests::refusals::{UNKNOWN, refuses};
-use netlink_packet_core::{
-    NetlinkHeader, NetlinkMessage, NetlinkPayload, NetlinkSerializable, is_canonical_frame,
-};
+use netlink_packet_core::{NetlinkHeader, NetlinkMessage, NetlinkPayload, NetlinkSerializable};
 use std::test::Fail;
 
 #[test]
@@ -30,14 +29,13 @@ fn a_message_is_written(rt: HostRuntime) -> Result<(), Fail> {
 fn a_message_comes_apart(rt: HostRuntime) -> Result<(), Fail> {
     let mut message = read(rt.alloc(), &PING)?;
     refuse_from_here(rt.alloc());
-    assert!(rt; message.fits());
-    message.finalize();
+    assert!(rt; is_finalized(&mut message));
     assert!(rt; message.payload.message_type() == 18);
     let (header, payload) = message.into_parts();
     assert!(rt; header.length == 20);
     let renewed = Message::new(NetlinkHeader::default(), payload);
     assert!(rt; renewed.fits());
-    assert!(rt; !NetlinkMessage::from_inner(Zeros(4294967280)).fits());
+    assert!(rt; !zeros_fit(4294967280));
     Ok(())
 }
 
@@ -47,25 +45,26 @@ const BARE_DONE: [u8; 20] = [
 
 const EMPTY_OVERRUN: [u8; 16] = [0x10, 0, 0, 0, 4, 0, 0, 0, 0, 0, 0, 0, 0, 0, 0, 0];
 
+/// A frame with its type and code, and whether it is canonical.
+const BARE: [(&[u8], u16, i32, bool); 5] = [
+    (&NOOP, 1, 0, false),
+    (&ERROR, 2, -8765, true),
+    (&EMPTY_DONE, 3, 0, false),
+    (&BARE_DONE, 3, 5, true),
+    (&EMPTY_OVERRUN, 4, 0, true),
+];
+
 /// Decoding a noop, a code that no bytes follow, or an empty overrun does not allocate.
 #[test]
 fn messages_with_nothing_to_copy(rt: HostRuntime) -> Result<(), Fail> {
     let alloc = rt.alloc();
     refuse_from_here(alloc);
-    let rows: [(&[u8], u16, i32, bool); 5] = [
-        (&NOOP, 1, 0, false),
-        (&ERROR, 2, -8765, true),
-        (&EMPTY_DONE, 3, 0, false),
-        (&BARE_DONE, 3, 5, true),
-        (&EMPTY_OVERRUN, 4, 0, true),
-    ];
-    for (frame, kind, code, canonical) in rows.iter() {
+    for (frame, kind, code, canonical) in BARE {
         let message = read(alloc, frame)?;
         assert!(rt; message.header.length as usize == frame.len());
-        assert!(rt; kind_and_code(&message) == (*kind, *code));
+        assert!(rt; kind_and_code(&message) == (kind, code));
         assert!(rt; read_view(alloc, frame)? == message);
-        let verdict = is_canonical_frame::<PingPongMessage>(alloc, frame);
-        assert!(rt; verdict.ok() == Some(*canonical));
+        assert!(rt; verdict_of(alloc, frame).ok() == Some(canonical));
     }
     Ok(())
 }
@@ -97,8 +96,7 @@ fn refusals_without_words(rt: HostRuntime) {
     ];
     for (bytes, number) in rows.iter() {
         assert!(rt; refuses(read(alloc, bytes), *number));
-        let verdict = is_canonical_frame::<PingPongMessage>(alloc, bytes);
-        assert!(rt; verdict.ok() == Some(false));
+        assert!(rt; verdict_of(alloc, bytes).ok() == Some(false));
     }
     assert!(rt; refuses(normal_zeros(alloc, 4294967280), 15));
     let long = NetlinkMessage::from_inner(Zeros(4294967280));
@@ -111,9 +109,6 @@ fn refusals_without_words(rt: HostRuntime) {
 fn verdicts(rt: HostRuntime) {
     let alloc = rt.alloc();
     refuse_from_here(alloc);
-    let rows: [(&[u8], bool); 2] = [(&CODED_DONE, true), (&UNKNOWN, false)];
-    for (frame, verdict) in rows.iter() {
-        let answer = is_canonical_frame::<PingPongMessage>(alloc, frame);
-        assert!(rt; answer.ok() == Some(*verdict));
-    }
+    assert!(rt; verdict_of(alloc, &CODED_DONE).ok() == Some(true));
+    assert!(rt; verdict_of(alloc, &UNKNOWN).ok() == Some(false));
 }
