@@ -578,6 +578,23 @@ uint32_t nlp_fault_text(const struct nlp_fault *fault, uint8_t *buffer, size_t c
 uint32_t nlp_describe(const uint8_t *bytes, size_t len, uint8_t *buffer, size_t capacity, size_t *size,
                       struct nlp_fault *fault) NLP_CHECKED(5, 6);
 
+/* Writes that text, but shows the attributes, which begin after a fixed header of `fixed_len` bytes and its
+ * padding, as for nlp_message_attrs. In place of the line `payload` there is a line with the bytes of that header,
+ * and one for each attribute, with its kind, its flag bits, its length field and its value:
+ *
+ *     header 00000000
+ *     attribute 3 -- 7 6c6f00
+ *     attribute 18 N- 4 -
+ *
+ * `N` is NLA_F_NESTED and `B` is NLA_F_NET_BYTEORDER; `-` is a bit that is not set. Nests are not entered. If the
+ * walk of the attributes ends in an error, the last line is `rest`, with the bytes from there on. If the payload has
+ * fewer than `fixed_len` bytes, the line `header` has all of them. The text has at most 8 * len bytes. Returns what
+ * nlp_describe returns. Does not allocate.
+ * Proved: if there is a complete frame, its text, each byte of it, and the fault unchanged; else the error. Only
+ * NLP_OK changes the buffer. */
+uint32_t nlp_describe_attrs(const uint8_t *bytes, size_t len, size_t fixed_len, uint8_t *buffer, size_t capacity,
+                            size_t *size, struct nlp_fault *fault) NLP_CHECKED(6, 7);
+
 /* ---- plain C, not proved ----------------------------------------------------------------------- */
 
 /* The functions from here to the end are compiled into your program, and nothing is proved of them. They call
@@ -744,6 +761,15 @@ static inline NLP_RESULT uint32_t nlp_describe_opt(const uint8_t *bytes, size_t 
 {
     struct nlp_fault own;
     return nlp_describe(bytes, len, buffer, capacity, size, fault == NULL ? &own : fault);
+}
+
+NLP_NONNULL(6)
+static inline NLP_RESULT uint32_t nlp_describe_attrs_opt(const uint8_t *bytes, size_t len, size_t fixed_len,
+                                                         uint8_t *buffer, size_t capacity, size_t *size,
+                                                         struct nlp_fault *fault)
+{
+    struct nlp_fault own;
+    return nlp_describe_attrs(bytes, len, fixed_len, buffer, capacity, size, fault == NULL ? &own : fault);
 }
 
 /* ---- the index of an attribute */

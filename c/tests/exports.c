@@ -219,37 +219,40 @@ static void texts(void)
         && nlp_fault_text(&long_length, NULL, 0, &size) == NLP_NO_PLACE);
 }
 
+/* The text of a frame: with its payload, or with its attributes after a fixed header of this size. */
+static uint32_t describe(const uint8_t *bytes, size_t len, const size_t *fixed, uint8_t *buffer, size_t capacity, size_t *size, struct nlp_fault *fault)
+{
+    return fixed == NULL ? nlp_describe(bytes, len, buffer, capacity, size, fault)
+        : nlp_describe_attrs(bytes, len, *fixed, buffer, capacity, size, fault);
+}
+
 /* Whether the bytes have this text: with enough room, with exactly enough, with one byte less, and without a buffer. */
-static bool is_described(const uint8_t *bytes, size_t len, const char *text)
+static bool is_described(const uint8_t *bytes, size_t len, const size_t *fixed, const char *text)
 {
     struct nlp_fault fault = { 1, 2, 3, 4 };
-    uint8_t buffer[200], untouched[200];
+    uint8_t buffer[300], untouched[300];
     const size_t wanted = strlen(text);
     size_t size = 0;
     memset(buffer, 0xee, sizeof buffer);
     memset(untouched, 0xee, sizeof untouched);
-    bool holds = nlp_describe(bytes, len, NULL, 0, &size, &fault) == NLP_NO_ROOM && size == wanted;
+    bool holds = describe(bytes, len, fixed, NULL, 0, &size, &fault) == NLP_NO_ROOM && size == wanted;
     size = 0;
-    holds = holds && nlp_describe(bytes, len, buffer, wanted - 1, &size, &fault) == NLP_NO_ROOM && size == wanted
+    holds = holds && describe(bytes, len, fixed, buffer, wanted - 1, &size, &fault) == NLP_NO_ROOM && size == wanted
         && memcmp(buffer, untouched, sizeof buffer) == 0;
     size = 0;
-    holds = holds && nlp_describe(bytes, len, buffer, wanted, &size, &fault) == NLP_OK && size == wanted
+    holds = holds && describe(bytes, len, fixed, buffer, wanted, &size, &fault) == NLP_OK && size == wanted
         && memcmp(buffer, text, wanted) == 0 && memcmp(buffer + wanted, untouched, sizeof buffer - wanted) == 0;
     memset(buffer, 0xee, sizeof buffer);
-    return holds && nlp_describe(bytes, len, buffer, sizeof buffer, &size, &fault) == NLP_OK && size == wanted
+    return holds && describe(bytes, len, fixed, buffer, sizeof buffer, &size, &fault) == NLP_OK && size == wanted
         && memcmp(buffer, text, wanted) == 0 && memcmp(buffer + wanted, untouched, sizeof buffer - wanted) == 0
         && is_fault(&fault, 1, 2, 3, 4);
 }
 
-static void descriptions(void)
+/* Frames of up to 20 bytes with length fields from 14 to 21: a text or the error, and nothing else changes. */
+static bool are_refused(const size_t *fixed)
 {
-    static const uint8_t largest[17] = { 17, 0, 0, 0, 0xff, 0xff, 0xff, 0xff, 0xff, 0xff, 0xff, 0xff, 0xff, 0xff, 0xff, 0xff, 0xff };
-    static const uint8_t empty[16] = { 16, 0, 0, 0, 10, 0, 0, 0, 0, 202, 154, 59 };
     uint8_t bytes[20], buffer[100], untouched[100];
     bool holds = true;
-    expect("the text of a frame", is_described(frame, sizeof frame, "length 24\ntype 18\nflags 769\nsequence 7\nport 9\npayload 05000100aa000000\n"));
-    expect("the text of the largest numbers", is_described(largest, 17, "length 17\ntype 65535\nflags 65535\nsequence 4294967295\nport 4294967295\npayload ff\n"));
-    expect("the text of a header", is_described(empty, 16, "length 16\ntype 10\nflags 0\nsequence 1000000000\nport 0\npayload -\n"));
     memset(buffer, 0xee, sizeof buffer);
     memset(untouched, 0xee, sizeof untouched);
     memcpy(bytes, frame, sizeof bytes);
@@ -258,7 +261,7 @@ static void descriptions(void)
             struct nlp_fault fault = { 1, 2, 3, 4 };
             size_t size = 99;
             bytes[0] = said;
-            const uint32_t result = nlp_describe(len == 0 ? NULL : bytes, len, buffer, sizeof buffer, &size, &fault);
+            const uint32_t result = describe(len == 0 ? NULL : bytes, len, fixed, buffer, sizeof buffer, &size, &fault);
             holds = holds && (len < 16 ? result == NLP_FRAME_SHORT && is_fault(&fault, 9, 0, len, 0)
                 : said > len ? result == NLP_FRAME_CUT && is_fault(&fault, 10, 0, len, said)
                 : said < 16 ? result == NLP_FRAME_LENGTH && is_fault(&fault, 11, 0, 0, said)
@@ -267,7 +270,61 @@ static void descriptions(void)
             memset(buffer, 0xee, sizeof buffer);
         }
     }
-    expect("the text of bad bytes", holds);
+    return holds;
+}
+
+static void descriptions(void)
+{
+    static const uint8_t largest[17] = { 17, 0, 0, 0, 0xff, 0xff, 0xff, 0xff, 0xff, 0xff, 0xff, 0xff, 0xff, 0xff, 0xff, 0xff, 0xff };
+    static const uint8_t empty[16] = { 16, 0, 0, 0, 10, 0, 0, 0, 0, 202, 154, 59 };
+    expect("the text of a frame", is_described(frame, sizeof frame, NULL, "length 24\ntype 18\nflags 769\nsequence 7\nport 9\npayload 05000100aa000000\n"));
+    expect("the text of the largest numbers", is_described(largest, 17, NULL, "length 17\ntype 65535\nflags 65535\nsequence 4294967295\nport 4294967295\npayload ff\n"));
+    expect("the text of a header", is_described(empty, 16, NULL, "length 16\ntype 10\nflags 0\nsequence 1000000000\nport 0\npayload -\n"));
+    expect("the text of bad bytes", are_refused(NULL));
+}
+
+/* The text of a frame with its attributes. The frame has a fixed header of 3 bytes, its padding, an attribute for each of
+ * the flag bits, and what `end` says. */
+static void attribute_descriptions(void)
+{
+    static const uint8_t header[16] = { 52, 0, 0, 0, 16, 0, 2, 0, 7, 0, 0, 0, 9, 0, 0, 0 };
+    static const uint8_t attributes[36] = { 1, 2, 3, 99, 7, 0, 3, 0, 'l', 'o', 0, 0, 4, 0, 18, 0x80, 5, 0, 255, 0x7f, 0xab, 0, 0, 0,
+        8, 0, 255, 0xff, 1, 2, 3, 4, 4, 0, 0, 0 };
+    static const char begin[] = "length 52\ntype 16\nflags 2\nsequence 7\nport 9\nheader 01020363\nattribute 3 -- 7 6c6f00\nattribute 18 N- 4 -\n"
+        "attribute 16383 -B 5 ab\nattribute 16383 NB 8 01020304\n";
+    static const size_t sizes[6] = { 0, 3, 4, 36, 37, SIZE_MAX };
+    uint8_t bytes[52];
+    char text[300];
+    memcpy(bytes, header, 16);
+    memcpy(bytes + 16, attributes, 36);
+    snprintf(text, sizeof text, "%sattribute 0 -- 4 -\n", begin);
+    expect("the text of attributes", is_described(bytes, 52, &sizes[1], text) && is_described(bytes, 52, &sizes[2], text));
+    bytes[48] = 3;
+    snprintf(text, sizeof text, "%srest 03000000\n", begin);
+    expect("the text of an attribute that is too short", is_described(bytes, 52, &sizes[1], text));
+    bytes[48] = 5;
+    snprintf(text, sizeof text, "%srest 05000000\n", begin);
+    expect("the text of an attribute that is cut", is_described(bytes, 52, &sizes[1], text));
+    bytes[0] = 50;
+    memcpy(text, "length 50", 9);
+    memcpy(text + strlen(text) - 5, "\n", 2);
+    expect("the text of a rest of two bytes", is_described(bytes, 52, &sizes[1], text));
+    bytes[0] = 45;
+    snprintf(text, sizeof text, "length 45%s", begin + 9);
+    memcpy(strstr(text, "NB"), "NB 5 01\n", 9);
+    bytes[40] = 5;
+    expect("the text without the last padding", is_described(bytes, 52, &sizes[1], text));
+    bytes[0] = 19;
+    expect("the text of a fixed header without its padding", is_described(bytes, 52, &sizes[1], "length 19\ntype 16\nflags 2\nsequence 7\nport 9\nheader 010203\n"));
+    expect("the text without a fixed header", is_described(bytes, 52, &sizes[0], "length 19\ntype 16\nflags 2\nsequence 7\nport 9\nheader -\nrest 010203\n"));
+    bytes[0] = 52;
+    for (int i = 3; i < 6; i++)
+        expect("the text of a fixed header alone", is_described(bytes, 52, &sizes[i], "length 52\ntype 16\nflags 2\nsequence 7\nport 9\nheader 01020363"
+            "070003006c6f0000040012800500ff7fab0000000500ffff0102030405000000\n"));
+    bytes[0] = 16;
+    expect("the text without a payload", is_described(bytes, 16, &sizes[1], "length 16\ntype 16\nflags 2\nsequence 7\nport 9\nheader -\n"));
+    for (int i = 0; i < 6; i++)
+        expect("the text of bad bytes", are_refused(&sizes[i]));
 }
 
 int main(void)
@@ -280,6 +337,7 @@ int main(void)
     normal_forms();
     texts();
     descriptions();
+    attribute_descriptions();
     printf("%d passed, %d failed\n", passed, failed);
     return failed != 0;
 }

@@ -40,9 +40,10 @@ static const struct call {
     { put_one, ANY_BYTES, 12 },
     { end_one, ANY_BYTES, 7 },
     { put_long, ANY_BYTES, 1 },
-    { write_all, ANY_BYTES, 14 },
+    { write_all, ANY_BYTES, 12 },
     { text_of_fault, ANY_BYTES, 6 },
-    { text_of_frame, DATAGRAM, 8 },
+    { text_of_frame, DATAGRAM, 4 },
+    { text_of_attrs, DATAGRAM, 6 },
 };
 
 static unsigned long inputs_tried;

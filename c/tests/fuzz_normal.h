@@ -6,7 +6,7 @@
 
 /* What is written out, which may be longer than the input. */
 struct made {
-    uint8_t bytes[2 * MAX_LEN + 64];
+    uint8_t bytes[8 * MAX_LEN + 95];
     size_t size;
 };
 
@@ -175,29 +175,86 @@ static void text_of_fault(const struct input *in)
     CHECK(same_fault(numbers, &before));
 }
 
+/* Adds bytes in hexadecimal, or `-` if there are none, and a line feed. */
+static void append_bytes(struct made *made, const uint8_t *bytes, size_t size)
+{
+    for (size_t i = 0; i < size; i++) {
+        made->bytes[made->size++] = (uint8_t)"0123456789abcdef"[bytes[i] >> 4];
+        made->bytes[made->size++] = (uint8_t)"0123456789abcdef"[bytes[i] & 15];
+    }
+    append_text(made, size == 0 ? "-\n" : "\n", 0, 0);
+}
+
+/* Reads the frame that the bytes begin with, and adds the lines of its header. */
+static uint32_t append_header(struct made *made, const struct input *in, struct nlp_message *message, struct nlp_fault *wanted)
+{
+    size_t at = 0;
+    const uint32_t result = message_step(in->bytes, in->len, &at, message, wanted);
+    made->size = 0;
+    if (result == NLP_END) {
+        *wanted = (struct nlp_fault){ NLP_FRAME_SHORT, 0, 0, 0 };
+        return NLP_FRAME_SHORT;
+    }
+    if (result == NLP_OK) {
+        append_text(made, "length %s\ntype %w\n", message->header.length, message->header.message_type);
+        append_text(made, "flags %s\nsequence %w\n", message->header.flags, message->header.sequence_number);
+        append_text(made, "port %s\n", message->header.port_number, 0);
+    }
+    return result;
+}
+
 static void text_of_frame(const struct input *in)
 {
     static struct made made;
     struct nlp_message message;
     struct nlp_fault wanted = begin_fault();
-    size_t at = 0;
-    uint32_t result = message_step(in->bytes, in->len, &at, &message, &wanted);
-    made.size = 0;
-    if (result == NLP_END) {
-        wanted = (struct nlp_fault){ NLP_FRAME_SHORT, 0, 0, 0 };
-        result = NLP_FRAME_SHORT;
-    }
+    const uint32_t result = append_header(&made, in, &message, &wanted);
     if (result == NLP_OK) {
-        append_text(&made, "length %s\ntype %w\n", message.header.length, message.header.message_type);
-        append_text(&made, "flags %s\nsequence %w\n", message.header.flags, message.header.sequence_number);
-        append_text(&made, "port %s\npayload ", message.header.port_number, 0);
-        for (size_t i = 16; i < message.header.length; i++) {
-            made.bytes[made.size++] = (uint8_t)"0123456789abcdef"[in->bytes[i] >> 4];
-            made.bytes[made.size++] = (uint8_t)"0123456789abcdef"[in->bytes[i] & 15];
-        }
-        append_text(&made, message.header.length == 16 ? "-\n" : "\n", 0, 0);
+        append_text(&made, "payload ", 0, 0);
+        append_bytes(&made, in->bytes + 16, message.header.length - 16);
     }
     WRITES_OUT(OPT(nlp_describe, in->bytes, in->len, buffer, capacity, size), &made, result, in->args[0]);
+    check_fault(&wanted);
+}
+
+/* Adds the lines of the attributes of a block, and of what is left if their walk ends in an error. */
+static void append_attrs(struct made *made, const uint8_t *block, size_t len)
+{
+    struct nlp_fault ignored;
+    struct nlp_attr one;
+    size_t at = 0, start = 0;
+    uint32_t result;
+    while ((result = step(block, len, &at, &one, &ignored)) == NLP_OK) {
+        append_text(made, "attribute %s ", one.kind & 0x3fff, 0);
+        append_text(made, one.kind & 0x8000 ? "N" : "-", 0, 0);
+        append_text(made, one.kind & 0x4000 ? "B" : "-", 0, 0);
+        append_text(made, " %s ", one.size + 4, 0);
+        append_bytes(made, block + one.offset, one.size);
+        start = at;
+    }
+    if (result != NLP_END) {
+        append_text(made, "rest ", 0, 0);
+        append_bytes(made, block + start, len - start);
+    }
+}
+
+static void text_of_attrs(const struct input *in)
+{
+    static struct made made;
+    struct nlp_message message;
+    struct nlp_fault wanted = begin_fault();
+    const uint32_t result = append_header(&made, in, &message, &wanted);
+    size_t fixed = in->args[1] % 3 * 4;
+    if (result == NLP_OK) {
+        const size_t size = message.header.length - 16;
+        if (in->args[2] < 128)
+            fixed = near(in->args[1], size);
+        const size_t before = fixed >= size || aligned(fixed) > size ? size : aligned(fixed);
+        append_text(&made, "header ", 0, 0);
+        append_bytes(&made, in->bytes + 16, before);
+        append_attrs(&made, in->bytes + 16 + before, size - before);
+    }
+    WRITES_OUT(OPT(nlp_describe_attrs, in->bytes, in->len, fixed, buffer, capacity, size), &made, result, in->args[0]);
     check_fault(&wanted);
 }
 

@@ -157,6 +157,9 @@ static void canonical(void)
         expect("the size of a text", nlp_describe_opt(bytes, sizeof bytes, to_bytes, sizeof to_bytes, &size, to) == NLP_NO_ROOM && size == 71);
         expect("no text", nlp_describe_opt(bytes, 15, to_bytes, sizeof to_bytes, &size, to) == NLP_FRAME_SHORT && is_fault(&fault, with ? 9 : 0, with ? 15 : 0, 0));
         fault = (struct nlp_fault){ 0, 0, 0, 0 };
+        expect("the size of a text with attributes", nlp_describe_attrs_opt(bytes, sizeof bytes, 0, to_bytes, sizeof to_bytes, &size, to) == NLP_NO_ROOM && size == 75);
+        expect("no text with attributes", nlp_describe_attrs_opt(bytes, 15, 0, to_bytes, sizeof to_bytes, &size, to) == NLP_FRAME_SHORT && is_fault(&fault, with ? 9 : 0, with ? 15 : 0, 0));
+        fault = (struct nlp_fault){ 0, 0, 0, 0 };
     }
 }
 

@@ -13,7 +13,7 @@ use Rattle.netlink_packet_core.specs.Storage.{put_at}
 use Rattle.netlink_packet_core.specs.Text.{hex_digits, hex_pair, hex_text, number_line}
 use Rattle.netlink_packet_core.specs.TextLaws.{hex_digits-take, length-hex_digits}
 use Rattle.netlink_packet_core.specs.declared.header.NetlinkHeader.{NetlinkHeader}
-use Rattle.netlink_c.specs.Describe.{payload_line, text_before}
+use Rattle.netlink_c.specs.Describe.{bytes_line, text_before}
 use Rattle.netlink_c.specs.Out.{CopiesOut}
 
 -- bytes that hold a frame have no error
@@ -105,25 +105,25 @@ six_texts t0 t1 t2 t3 t4 t5 rest a b c d e f none p0 p1 p2 p3 p4 p5 =
     p5 ∙ ap (λ (x : List ℕ). a ++ x) second ∙ sym (append_assoc a (b ++ (c ++ (d ++ e))) f)
 
 -- the lines of a header, each before the earlier one
-pub lines_join : (frame t0 t1 t2 t3 t4 t5 rest : List ℕ) (size kind flags sequence port : ℕ) → rest ≡ []
-    → t0 ≡ codes "payload " ++ rest → t1 ≡ number_line (codes "port ") port ++ t0
+pub lines_join : (frame name t0 t1 t2 t3 t4 t5 rest : List ℕ) (size kind flags sequence port : ℕ) → rest ≡ []
+    → t0 ≡ name ++ rest → t1 ≡ number_line (codes "port ") port ++ t0
     → t2 ≡ number_line (codes "sequence ") sequence ++ t1 → t3 ≡ number_line (codes "flags ") flags ++ t2
     → t4 ≡ number_line (codes "type ") kind ++ t3 → t5 ≡ number_line (codes "length ") size ++ t4
     → size ≡ field 0 4 frame → kind ≡ field 4 2 frame → flags ≡ field 6 2 frame → sequence ≡ field 8 4 frame → port ≡ field 12 4 frame
-    → t5 ≡ text_before frame
-lines_join frame t0 t1 t2 t3 t4 t5 rest size kind flags sequence port none p0 p1 p2 p3 p4 p5 e0 e1 e2 e3 e4 =
+    → t5 ≡ text_before name frame
+lines_join frame name t0 t1 t2 t3 t4 t5 rest size kind flags sequence port none p0 p1 p2 p3 p4 p5 e0 e1 e2 e3 e4 =
     let h : NetlinkHeader =
     record { length = size; message_type = kind; flags = flags; sequence_number = sequence; port_number = port } in
     let same : h ≡ header_of frame =
     λ i. record { length = e0 i; message_type = e1 i; flags = e2 i; sequence_number = e3 i; port_number = e4 i } in
     six_texts t0 t1 t2 t3 t4 t5 rest (number_line (codes "length ") size) (number_line (codes "type ") kind)
-    (number_line (codes "flags ") flags) (number_line (codes "sequence ") sequence) (number_line (codes "port ") port) (codes "payload ")
+    (number_line (codes "flags ") flags) (number_line (codes "sequence ") sequence) (number_line (codes "port ") port) name
     none p0 p1 p2 p3 p4 p5
-    ∙ ap (λ (x : NetlinkHeader). header_lines x ++ codes "payload ") same
+    ∙ ap (λ (x : NetlinkHeader). header_lines x ++ name) same
 
-length-text : (before payload : List ℕ) → length (before ++ payload_line payload) ≡ length before + length (hex_text payload) + 1
+length-text : (before payload : List ℕ) → length (before ++ bytes_line payload) ≡ length before + length (hex_text payload) + 1
 length-text before payload =
-    let outer = length-append before (payload_line payload) in
+    let outer = length-append before (bytes_line payload) in
     let inner = length-append (hex_text payload) (10 ∷ []) in
     omega (arith, outer, inner)
 
@@ -131,7 +131,7 @@ length-text before payload =
 pub text_out : (buffer b1 b2 b3 before payload : List ℕ) (end size : ℕ) → end ≡ length before + length (hex_text payload)
     → size ≡ end + 1 → end < length buffer → b1 ≡ put_at buffer 0 before → b2 ≡ put_at b1 (length before) (hex_text payload)
     → b3 ≡ put_at b2 end (10 ∷ [])
-    → CopiesOut (before ++ payload_line payload) buffer b3 size 0
+    → CopiesOut (before ++ bytes_line payload) buffer b3 size 0
 text_out buffer b1 b2 b3 before payload end size ends sizes room p1 p2 p3 =
     let hex : List ℕ = hex_text payload in
     let both : List ℕ = before ++ hex in
@@ -143,13 +143,13 @@ text_out buffer b1 b2 b3 before payload end size ends sizes room p1 p2 p3 =
     ∙ ap (λ (k : ℕ). put_at (put_at buffer 0 before) k hex) from ∙ put_more buffer before hex 0 (omega arith) in
     let two : b3 ≡ put_at buffer 0 (both ++ (10 ∷ [])) = p3 ∙ ap (λ (t : List ℕ). put_at t end (10 ∷ [])) one
     ∙ ap (λ (k : ℕ). put_at (put_at buffer 0 both) k (10 ∷ [])) to ∙ put_more buffer both (10 ∷ []) 0 (omega arith) in
-    copied_out (before ++ payload_line payload) buffer b3 size (omega (arith, whole, ends, sizes)) (omega (arith, whole, ends, room))
+    copied_out (before ++ bytes_line payload) buffer b3 size (omega (arith, whole, ends, sizes)) (omega (arith, whole, ends, room))
     (two ∙ ap (put_at buffer 0) (append_assoc before hex (10 ∷ [])))
 
 -- there is no room for it
 pub no_room : (buffer before payload : List ℕ) (end size : ℕ) → end ≡ length before + length (hex_text payload) → size ≡ end + 1
     → length buffer ≤ end
-    → CopiesOut (before ++ payload_line payload) buffer buffer size 8
+    → CopiesOut (before ++ bytes_line payload) buffer buffer size 8
 no_room buffer before payload end size ends sizes full =
     let whole = length-text before payload in
     record {

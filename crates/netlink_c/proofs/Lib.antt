@@ -11,3 +11,4 @@ mod ReplyLemmas
 mod StateLemmas
 mod WalkLemmas
 mod BodyLemmas
+mod AttributeTexts

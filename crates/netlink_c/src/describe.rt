@@ -5,7 +5,7 @@ ghost use Rattle.netlink_packet_core.specs.Header.{HoldsFrame};
 ghost use Rattle.netlink_packet_core.specs.Refusal.{IsFrameFault};
 ghost use Rattle.netlink_packet_core.specs.Storage.{put_at};
 ghost use Rattle.netlink_packet_core.specs.Text.{hex_digits, hex_text, number_line};
-ghost use Rattle.netlink_c.specs.Describe.{frame_text, payload_line, text_before};
+ghost use Rattle.netlink_c.specs.Describe.{frame_text, bytes_line, text_before};
 ghost use Rattle.netlink_c.specs.Fault.{Refuses};
 ghost use Rattle.netlink_c.specs.Out.{CopiesOut};
 
@@ -13,9 +13,9 @@ use crate::fault::{FaultNumbers, refused};
 use crate::results::{NO_ROOM, OK};
 use netlink_packet_core::{NetlinkBuffer, hex_pair};
 
-/// The maximum size of the text before the payload: 40 bytes of names, and five lines of a number
-/// with up to 10 digits and a line feed.
-const BEFORE_MAX: usize = 95;
+/// The maximum size of the text before the bytes: 40 bytes of names, and five lines of a number with
+/// up to 10 digits and a line feed.
+pub(crate) const BEFORE_MAX: usize = 95;
 
 /// Writes the complete frame that the bytes begin with as text, without a zero at its end. The six
 /// lines are `length N`, `type N`, `flags N`, `sequence N`, `port N` in decimal, and `payload
@@ -43,23 +43,24 @@ pub extern "C" fn nlp_describe(
     match NetlinkBuffer::new_checked(bytes) {
         Ok(view) => {
             let mut before = [0u8; BEFORE_MAX];
-            let start = write_before(&mut before, bytes);
+            let start = write_before(&mut before, bytes, b"payload ");
             write_text(&before[start..], view.payload(), buffer, size)
         }
         Err(cause) => refused(fault, &cause),
     }
 }
 
-/// Writes the text up to the payload so that it ends at the end of `lines`, and returns its offset.
-/// Requires `lines` to have `BEFORE_MAX` bytes.
-fn write_before(lines: &mut [u8], bytes: &[u8]) -> usize
+/// Writes the lines of the header, and then a name, so that they end at the end of `lines`, and
+/// returns their offset. Requires `lines` to have `BEFORE_MAX` bytes.
+pub(crate) fn write_before(lines: &mut [u8], bytes: &[u8], name: &[u8]) -> usize
     requires whole { HoldsFrame bytes.now }
     requires room { length lines.old ≡ 95 }
+    requires short { length name.now ≤ 8 }
     ensures inside { result ≤ 95 }
-    ensures written { drop result lines.new ≡ text_before bytes.now }
+    ensures written { drop result lines.new ≡ text_before name.now bytes.now }
 {
     let view = NetlinkBuffer::new(bytes);
-    let at = prepend(lines, BEFORE_MAX, b"payload ");
+    let at = prepend(lines, BEFORE_MAX, name);
     let at = prepend_line(lines, at, b"port ", view.port_number());
     let at = prepend_line(lines, at, b"sequence ", view.sequence_number());
     let at = prepend_line(lines, at, b"flags ", u32::from(view.flags()));
@@ -79,7 +80,7 @@ fn prepend_line(lines: &mut [u8], end: usize, name: &[u8], number: u32) -> usize
 }
 
 /// Writes a number in decimal so that it ends at `end`, and returns its offset.
-fn prepend_number(lines: &mut [u8], end: usize, number: u32) -> usize
+pub(crate) fn prepend_number(lines: &mut [u8], end: usize, number: u32) -> usize
     requires room { (10 ≤ end) × (end ≤ length lines.old) }
     ensures size { result + length (decimal number) ≡ end }
     ensures written { drop result lines.new ≡ decimal number ++ drop end lines.old }
@@ -107,7 +108,7 @@ fn prepend(lines: &mut [u8], end: usize, text: &[u8]) -> usize
 /// Writes the text of a frame, given the part before its payload. Returns 0 or `NO_ROOM`.
 fn write_text(before: &[u8], payload: &[u8], buffer: &mut [u8], size: &mut usize) -> u32
     requires short { (length before.now ≤ 95) × (length payload.now < 2 ^ 32) }
-    ensures { CopiesOut (before.now ++ payload_line payload.now) buffer.old buffer.new
+    ensures { CopiesOut (before.now ++ bytes_line payload.now) buffer.old buffer.new
         size.new result }
 {
     let end = before.len() + hex_size(payload);
@@ -122,7 +123,7 @@ fn write_text(before: &[u8], payload: &[u8], buffer: &mut [u8], size: &mut usize
 }
 
 /// Returns the size of bytes as text.
-fn hex_size(bytes: &[u8]) -> usize
+pub(crate) fn hex_size(bytes: &[u8]) -> usize
     requires short { length bytes.now < 2 ^ 32 }
     ensures size { result ≡ length (hex_text bytes.now) }
     ensures short { result < 2 ^ 34 }
@@ -131,7 +132,7 @@ fn hex_size(bytes: &[u8]) -> usize
 }
 
 /// Writes bytes as text at an offset.
-fn put_hex(buffer: &mut [u8], at: usize, bytes: &[u8])
+pub(crate) fn put_hex(buffer: &mut [u8], at: usize, bytes: &[u8])
     requires room { at + length (hex_text bytes.now) ≤ length buffer.old }
     ensures { buffer.new ≡ put_at buffer.old at (hex_text bytes.now) }
 {
@@ -155,7 +156,7 @@ fn put_pairs(buffer: &mut [u8], at: usize, bytes: &[u8])
 }
 
 /// Writes bytes at an offset.
-fn put(buffer: &mut [u8], at: usize, bytes: &[u8])
+pub(crate) fn put(buffer: &mut [u8], at: usize, bytes: &[u8])
     requires room { at + length bytes.now ≤ length buffer.old }
     ensures { buffer.new ≡ put_at buffer.old at bytes.now }
 {

@@ -12,6 +12,7 @@
 pub mod any;
 pub mod batch;
 pub mod describe;
+pub mod describe_attributes;
 pub mod ends;
 pub mod error_body;
 pub mod ext_ack;

@@ -83,7 +83,7 @@ pub extern "C" fn nlp_message_attrs(
 }
 
 /// Returns the size of a fixed header with its padding, as far as a payload of this size has it.
-fn padded_within(fixed: usize, size: usize) -> usize
+pub(crate) fn padded_within(fixed: usize, size: usize) -> usize
     requires inside { fixed ≤ size }
     ensures sum { result ≡ fixed_part fixed size }
     ensures within { result ≤ size }

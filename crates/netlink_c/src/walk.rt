@@ -118,7 +118,7 @@ pub extern "C" fn nlp_attrs_next(
 
 /// Returns the length field if the bytes begin with a complete attribute, and `None` otherwise.
 #[inline(always)]
-fn attribute_size(bytes: &[u8]) -> Option<usize>
+pub(crate) fn attribute_size(bytes: &[u8]) -> Option<usize>
     ensures whole { IfSome result
         (λ size. HoldsAttribute bytes.now × (size ≡ length_field bytes.now)) }
     ensures none { IfNone result (HoldsAttribute bytes.now → ⊥) }
