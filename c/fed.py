@@ -39,20 +39,25 @@ def frame(message_type, flags, payload):
 
 
 def answers(message):
-    """Yields the name of each answer, its datagrams, and what the program prints as its error. An answer is a list of
-    bytes, or of words of tests/feed.c. `message` is a message of a whole answer."""
+    """Yields the name of each answer, its datagrams, and how what is printed as its error ends: by the examples that are
+    ported from libmnl, and by that of the header. A datagram is bytes, or a word of tests/feed.c. `message` is a message of
+    a whole answer."""
     end, torn = frame(DONE, MULTI, bytes(4)), frame(DONE, MULTI | TORN, bytes(4))
     refused = frame(ERROR, 0, struct.pack("<i", -1) + frame(18, 1, b""))
-    yield "a whole answer", [message, end], ""
-    yield "an answer that was torn", [message, torn], "changed during the dump: request it again"
-    yield "an answer that was torn early", [frame(message[4] + 256 * message[5], MULTI | TORN, message[16:]), end], "changed during the dump: request it again"
-    yield "an error", [refused], "error -1: Operation not permitted"
-    yield "a dump that fails later", [message, frame(DONE, MULTI, struct.pack("<i", -12))], "error -12: Cannot allocate memory"
-    yield "a frame that is cut", [message + end[:-1]], "the answer is malformed: result 10"
-    yield "a length of 8", [b"\x08" + message[1:]], "the answer is malformed: result 11"
-    yield "an error without a code", [message, frame(ERROR, 0, b"\xff\xff")], "the answer is malformed: result 13"
-    yield "an overrun of the socket", ["ENOBUFS"], "the answer: No buffer space available"
-    yield "a datagram that is too long", ["LONG"], "the answer: a datagram is too long"
+    early = frame(message[4] + 256 * message[5], MULTI | TORN, message[16:])
+    again, malformed = "changed during the dump: request it again", "the answer: a frame is malformed"
+    yield "a whole answer", [message, end], "", ""
+    yield "an answer that was torn", [message, torn], again, again
+    yield "an answer that was torn early", [early, end], again, again
+    yield "an error", [refused], "the answer: Operation not permitted", "error -1: Operation not permitted"
+    failed = [message, frame(DONE, MULTI, struct.pack("<i", -12))]
+    yield "a dump that fails later", failed, "the answer: Cannot allocate memory", "error -12: Cannot allocate memory"
+    yield "a frame that is cut", [message + end[:-1]], malformed, "the answer is malformed: result 10"
+    yield "a length of 8", [b"\x08" + message[1:]], malformed, "the answer is malformed: result 11"
+    short = [message, frame(ERROR, 0, b"\xff\xff")]
+    yield "an error without a code", short, malformed, "the answer is malformed: result 13"
+    yield "an overrun of the socket", ["ENOBUFS"], "messages were lost: request it again", "No buffer space available"
+    yield "an answer without its end", [message, "EAGAIN"], "no answer in time", "Resource temporarily unavailable"
 
 
 def example_of_header(folder):
@@ -66,7 +71,7 @@ def example_of_header(folder):
 
 
 def outcome(program, datagrams, folder):
-    """Runs the program on these datagrams. Returns its status, and what it prints as its error."""
+    """Runs the program on these datagrams."""
     names = []
     for at, it in enumerate(datagrams):
         names.append(it if isinstance(it, str) else os.path.join(folder, f"{at}.bin"))
@@ -74,8 +79,26 @@ def outcome(program, datagrams, folder):
             with open(names[-1], "wb") as file:
                 file.write(it)
     how = {"stdin": subprocess.DEVNULL, "capture_output": True, "text": True, "timeout": 60}
-    run = subprocess.run([program], env={**os.environ, "FEED": ":".join(names)}, **how)
-    return run.returncode, run.stderr.strip()
+    return subprocess.run([program], env={**os.environ, "FEED": ":".join(names)}, **how)
+
+
+def fed_program(source, flags, folder):
+    """Compiles a program with tests/feed.c. Returns its path."""
+    name = os.path.basename(source)
+    objects = [os.path.join(folder, f"{it}.o") for it in (name, "feed")]
+    made = [compile_object([*FLAGS, *flags], path, it) for path, it in zip((source, os.path.join(HERE, "tests", "feed.c")), objects)]
+    program = os.path.join(folder, f"{name}-fed")
+    made.append(link_program(flags, [*objects, os.path.join(OUT, "libnetlink_packet.a")], program))
+    note(f"compiles with tests/feed.c: {name}", all(it.returncode == 0 for it in made), "".join(it.stderr[:500] for it in made))
+    return program
+
+
+def run_captured(program, folder):
+    """Tests that the links of a captured dump are printed."""
+    with open(os.path.join(HERE, "examples", "rtnl-link-dump.stdout")) as file:
+        wanted = file.read()
+    run = outcome(program, captured("links-0", "links-1", "links-2"), folder)
+    note("captured links are printed", run.returncode == 0 and run.stdout == wanted, run.stdout + run.stderr[:2000])
 
 
 def run_fed(ways, folder):
@@ -84,18 +107,15 @@ def run_fed(ways, folder):
         link = file.read()
     family = frame(16, MULTI, bytes([1, 2, 0, 0]) + struct.pack("<HH8s", 11, 2, b"nlctrl\0"))
     link = frame(16, MULTI, link[16 : struct.unpack_from("<I", link)[0]])
-    ported = {os.path.join(HERE, "examples", f"{name}.c"): it for name, it in (("rtnl-link-dump", link), ("genl-family-get", family))}
+    links, families = (os.path.join(HERE, "examples", f"{name}.c") for name in ("rtnl-link-dump", "genl-family-get"))
     for flags in ways:
-        for source, message in {**ported, example_of_header(folder): link}.items():
-            name = os.path.basename(source)
-            objects = [os.path.join(folder, f"{it}.o") for it in (name, "feed")]
-            made = [compile_object([*FLAGS, *flags], path, it) for path, it in zip((source, os.path.join(HERE, "tests", "feed.c")), objects)]
-            program = os.path.join(folder, f"{name}-fed")
-            made.append(link_program(flags, [*objects, os.path.join(OUT, "libnetlink_packet.a")], program))
-            note(f"compiles with tests/feed.c: {name}", all(it.returncode == 0 for it in made), "".join(it.stderr[:500] for it in made))
-            for what, datagrams, why in answers(message):
-                if datagrams == ["LONG"] and source not in ported:
-                    continue  # it does not ask for the size of the datagram
-                status, error = outcome(program, datagrams, folder)
-                holds = status == (1 if why else 0) and error.endswith(why) and (why or not error)
-                note(f"{name} on {what}", holds, f"{status} {error}")
+        header = example_of_header(folder)
+        for source, message in {links: link, families: family, header: link}.items():
+            program = fed_program(source, flags, folder)
+            for what, datagrams, *ends in answers(message):
+                why = ends[source == header]
+                run = outcome(program, datagrams, folder)
+                holds = run.returncode == (1 if why else 0) and run.stderr.strip().endswith(why) and (why or not run.stderr)
+                note(f"{os.path.basename(source)} on {what}", holds, f"{run.returncode} {run.stderr}")
+            if source == links:
+                run_captured(program, folder)

@@ -1,4 +1,4 @@
-"""Makes mutants: copies of the header or of a source of the Rust wrapper with one small mistake."""
+"""Makes mutants: copies of a header or of a source of the Rust wrapper with one small mistake."""
 
 import os
 import re
@@ -6,7 +6,7 @@ from collections import namedtuple
 
 from kit import HERE, TOP
 
-HEADER = "c/include/netlink_packet.h"
+HEADER, SOCKET = "c/include/netlink_packet.h", "c/include/netlink_packet_socket.h"
 LIST = os.path.join(HERE, "mutants.txt")
 
 # A file, its text with the mistake, and a line that shows the mistake.
@@ -116,7 +116,7 @@ def rust_lines(lines):
 
 
 def header_lines(lines):
-    """Yields the same for the header: other values, other types of fields and functions, fields that are exchanged, and
+    """Yields the same for a header: other values, other types of fields and functions, fields that are exchanged, and
     statements that are left out. An #error stays: where these tests run, it is not compiled."""
     in_comment, in_struct = False, False
     for at, line in enumerate(lines):
@@ -140,7 +140,7 @@ def mutants_of(file):
     with open(os.path.join(TOP, file), encoding="utf-8") as source:
         text = source.read()
     lines, made = text.split("\n"), {}
-    for at, new in header_lines(lines) if file == HEADER else rust_lines(lines):
+    for at, new in header_lines(lines) if file in (HEADER, SOCKET) else rust_lines(lines):
         after = lines[at + 2 :] if new.endswith(TWO) else lines[at + 1 :]
         mutated = "\n".join([*lines[:at], new.removesuffix(TWO), *after])
         shown = f"{file}:{at + 1}: {lines[at].strip()} ==> {' '.join(new.split()) or 'nothing'}"

@@ -1,12 +1,12 @@
-"""Tests the examples that are ported from libmnl for c/test: as C11 and as C++17, without the sanitizers and with them,
-on captured datagrams and with the kernel of this machine."""
+"""Tests the examples that are ported from libmnl, and the socket of netlink_packet_socket.h, for c/test: as C11 and as
+C++17, without the sanitizers and with them, with the kernel of this machine."""
 
 import os
 import shutil
 import socket
 import subprocess
 
-from kit import HERE, OUT, captured, compiler, has_route_socket
+from kit import HERE, OUT, compiler, has_route_socket
 from tally import note, skip
 
 LINKS, FAMILIES = (os.path.join("examples", f"{name}.c") for name in ("rtnl-link-dump", "genl-family-get"))
@@ -51,12 +51,7 @@ def is_names(words):
 
 
 def run_links(program, libmnl):
-    """Tests the links of a captured dump, a dump without its end, and the links of this machine."""
-    run = subprocess.run([program, *captured("links-0", "links-1", "links-2")], capture_output=True, text=True)
-    with open(os.path.join(HERE, "examples", "rtnl-link-dump.stdout")) as file:
-        note("captured links are printed", run.returncode == 0 and run.stdout == file.read(), run.stdout + run.stderr[:2000])
-    run = subprocess.run([program, *captured("links-0")], capture_output=True)
-    note("a dump without its end fails", run.returncode == 1)
+    """Tests the links of this machine."""
     if has_route_socket():
         alike = is_names([program]) and (not libmnl or is_alike([program], [libmnl, "links"]))
         note("the links of the kernel are those of libmnl", alike)

@@ -1,14 +1,9 @@
 /* Prints a family of generic netlink, or all of them: genl-family-get of libmnl's examples, over
- * netlink_packet.h alone. Ends with status 1, and prints why, if the answer is an error, malformed,
- * incomplete, or torn by a change of the families. */
-#include <errno.h>
+ * netlink_packet_socket.h alone. Ends with status 1, and prints why, if the answer is an error,
+ * malformed, incomplete, or torn by a change of the families. */
 #include <linux/genetlink.h>
-#include <netlink_packet.h>
+#include <netlink_packet_socket.h>
 #include <stdio.h>
-#include <sys/socket.h>
-#include <unistd.h>
-
-static uint8_t bytes[1 << 16];
 
 static void print_u32(const char *name, const uint8_t *block, size_t len,
                       const struct nlp_attr *attr)
@@ -58,7 +53,7 @@ static void print_groups(const uint8_t *nest, size_t len)
     }
 }
 
-static void print_family(const struct nlp_message *message)
+static int print_family(const uint8_t *bytes, const struct nlp_message *message, void *context)
 {
     struct nlp_attr table[CTRL_ATTR_MCAST_GROUPS + 1];
     struct nlp_part part;
@@ -67,8 +62,9 @@ static void print_family(const struct nlp_message *message)
     const struct nlp_attr *groups = &table[CTRL_ATTR_MCAST_GROUPS];
     uint16_t id;
 
+    (void)context;
     if (nlp_message_attrs(message, GENL_HDRLEN, &part) != NLP_OK)
-        return;
+        return 0;
     const uint8_t *block = bytes + part.offset;
     nlp_attrs_table_opt(block, part.size, table, CTRL_ATTR_MCAST_GROUPS + 1, NULL);
     if (nlp_get_str(block, part.size, &table[CTRL_ATTR_FAMILY_NAME], &name) == NLP_OK)
@@ -84,64 +80,17 @@ static void print_family(const struct nlp_message *message)
     if (groups->offset != 0)
         print_groups(block + groups->offset, groups->size);
     printf("\n");
-}
-
-/* Receives a datagram. Returns its size, or 0 after it printed why not. */
-static size_t receive(int fd)
-{
-    const ssize_t size = recv(fd, bytes, sizeof bytes, MSG_TRUNC);
-    if (size > 0 && (size_t)size <= sizeof bytes)
-        return (size_t)size;
-    if (size < 0)
-        perror("the answer");
-    else
-        fprintf(stderr, "the answer: %s\n", size == 0 ? "it has no end" : "a datagram is too long");
     return 0;
-}
-
-/* Prints the error that the kernel sent, a negative errno, and returns the status of the program. */
-static int refused(int32_t code)
-{
-    fprintf(stderr, "error %d: %s\n", (int)code, strerror(code < 0 && code > -4096 ? -code : EPROTO));
-    return 1;
-}
-
-/* Reads the answer to a request and prints its families. Returns the status of the program. */
-static int print_answer(int fd, const struct nlp_header *header, uint32_t is_dump)
-{
-    struct nlp_replies replies;
-    struct nlp_reply reply;
-    struct nlp_message message;
-    uint32_t result = NLP_END;
-
-    nlp_replies_begin(header, is_dump, &replies);
-    while (!replies.ended && result == NLP_END) {
-        const size_t size = receive(fd);
-        size_t at = 0;
-        if (size == 0)
-            return 1;
-        while ((result = nlp_replies_next_opt(bytes, size, &at, &replies, &reply, NULL)) == NLP_OK) {
-            if (reply.code != 0 && reply.what != NLP_OTHER)
-                return refused(reply.code);
-            if (reply.what == NLP_MESSAGE && nlp_reply_message(bytes, &reply, &message) == NLP_OK)
-                print_family(&message);
-        }
-    }
-    if (result != NLP_END)
-        fprintf(stderr, "the answer is malformed: result %u\n", (unsigned)result);
-    else if (replies.interrupted)
-        fprintf(stderr, "the families changed during the dump: request it again\n");
-    return result == NLP_END && !replies.interrupted ? 0 : 1;
 }
 
 int main(int count, char **names)
 {
     uint8_t request[256];
     const struct genlmsghdr command = { CTRL_CMD_GETFAMILY, 1, 0 };
-    struct nlp_header header = { 0, GENL_ID_CTRL, NLM_F_REQUEST | NLM_F_ACK, 1, 0 };
-
-    if (count == 1)
-        header.flags |= NLM_F_DUMP;
+    const uint16_t flags = count == 1 ? NLM_F_DUMP : 0;
+    const struct nlp_header header = { 0, GENL_ID_CTRL, flags, 0, 0 };
+    struct nlp_socket socket;
+    struct nlp_answer answer;
     struct nlp_writer writer = nlp_writer_begin(request, sizeof request);
     const struct nlp_frame_mark frame = nlp_writer_frame(&writer, &header, &command, GENL_HDRLEN);
     nlp_writer_put_u16(&writer, CTRL_ATTR_FAMILY_ID, GENL_ID_CTRL);
@@ -149,12 +98,13 @@ int main(int count, char **names)
         nlp_writer_put_str(&writer, CTRL_ATTR_FAMILY_NAME, names[1]);
     nlp_writer_frame_end(&writer, frame);
 
-    const int fd = socket(AF_NETLINK, SOCK_RAW, NETLINK_GENERIC);
-    if (fd < 0 || writer.failed != NLP_OK || send(fd, request, writer.at, 0) < 0) {
-        perror("the request");
+    const int error = nlp_socket_open(&socket, NETLINK_GENERIC);
+    if (error != 0) {
+        fprintf(stderr, "the socket: %s\n", strerror(error));
         return 1;
     }
-    const int status = print_answer(fd, &header, count == 1);
-    close(fd);
-    return status;
+    if (nlp_request(&socket, &writer, print_family, NULL, &answer) != NLP_ANSWER_DONE)
+        fprintf(stderr, "the answer: %s\n", nlp_answer_text(&answer));
+    nlp_socket_close(&socket);
+    return answer.what != NLP_ANSWER_DONE;
 }

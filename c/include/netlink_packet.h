@@ -25,7 +25,7 @@
  *  - The number of an error (5 to 16, except 8): a function with a fault writes the fault, with the numbers
  *    that the enum below lists for this error.
  *  - NLP_NO_ROOM, NLP_TOO_LONG, NLP_NO_PLACE, NLP_WRONG_SIZE and NLP_WRONG_SHAPE leave the fault unchanged;
- *    of NLP_NO_ROOM only the contract of nlp_describe states that.
+ *    of NLP_NO_ROOM only the contracts of nlp_describe and nlp_describe_attrs state that.
  *
  * Proved of each function: unless it returns NLP_OK, it changes nothing but the fault, the cursor of a walk,
  * the state of an answer, `*size` at NLP_NO_ROOM, the offset of nlp_attrs_validate, and the outputs of
@@ -586,10 +586,10 @@ uint32_t nlp_describe(const uint8_t *bytes, size_t len, uint8_t *buffer, size_t 
  *     attribute 3 -- 7 6c6f00
  *     attribute 18 N- 4 -
  *
- * `N` is NLA_F_NESTED and `B` is NLA_F_NET_BYTEORDER; `-` is a bit that is not set. Nests are not entered. If the
- * walk of the attributes ends in an error, the last line is `rest`, with the bytes from there on. If the payload has
- * fewer than `fixed_len` bytes, the line `header` has all of them. The text has at most 8 * len bytes. Returns what
- * nlp_describe returns. Does not allocate.
+ * `N` is NLP_KIND_NESTED and `B` is NLP_KIND_NET_BYTEORDER; `-` is a bit that is not set. Nests are not entered.
+ * If the walk of the attributes ends in an error, the last line is `rest`, with the bytes from there on. If the
+ * payload has fewer than `fixed_len` bytes, the line `header` has all of them. The text has at most 8 * len bytes.
+ * Returns what nlp_describe returns. Does not allocate.
  * Proved: if there is a complete frame, its text, each byte of it, and the fault unchanged; else the error. Only
  * NLP_OK changes the buffer. */
 uint32_t nlp_describe_attrs(const uint8_t *bytes, size_t len, size_t fixed_len, uint8_t *buffer, size_t capacity,

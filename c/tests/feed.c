@@ -1,9 +1,9 @@
-/* Takes the place of the socket of a program: recv returns the datagrams in the files that FEED names,
- * separated by colons, each once. The name ENOBUFS makes it fail with that errno, and LONG return more
- * bytes than the buffer has, as MSG_TRUNC does. Ends the program with status 99 if it receives again after
- * the last one. */
+/* Takes the place of the socket of a program: recv and recvmsg return the datagrams in the files that FEED names,
+ * separated by colons, each once; a datagram that recvmsg peeks at stays. The names ENOBUFS and EAGAIN make them fail
+ * with that errno. Ends the program with status 99 if it receives again after the last one. */
 #define _DEFAULT_SOURCE
 #include <errno.h>
+#include <stdbool.h>
 #include <stdio.h>
 #include <stdlib.h>
 #include <string.h>
@@ -18,6 +18,33 @@ int socket(int domain, int type, int protocol)
     return dup(0);
 }
 
+int bind(int fd, const struct sockaddr *address, socklen_t size)
+{
+    (void)fd;
+    (void)address;
+    (void)size;
+    return 0;
+}
+
+/* The port stays 0, so that an answer to any port is one. */
+int getsockname(int fd, struct sockaddr *address, socklen_t *size)
+{
+    (void)fd;
+    (void)address;
+    (void)size;
+    return 0;
+}
+
+int setsockopt(int fd, int level, int name, const void *value, socklen_t size)
+{
+    (void)fd;
+    (void)level;
+    (void)name;
+    (void)value;
+    (void)size;
+    return 0;
+}
+
 ssize_t send(int fd, const void *bytes, size_t size, int flags)
 {
     (void)fd;
@@ -26,30 +53,57 @@ ssize_t send(int fd, const void *bytes, size_t size, int flags)
     return (ssize_t)size;
 }
 
-ssize_t recv(int fd, void *bytes, size_t size, int flags)
+/* The datagram that comes next, if it was read from its file. */
+static char datagram[1 << 16];
+static ssize_t waiting = -1;
+
+/* Reads the next datagram, unless one waits. Returns whether there is one; else errno says why not. */
+static bool is_there(void)
 {
     static char *names;
-    char *name;
-    FILE *file;
-    size_t read;
-
-    (void)fd;
-    (void)flags;
-    name = names == NULL ? strtok_r(getenv("FEED"), ":", &names) : strtok_r(NULL, ":", &names);
+    if (waiting >= 0)
+        return true;
+    const char *name = names == NULL ? strtok_r(getenv("FEED"), ":", &names) : strtok_r(NULL, ":", &names);
     if (name == NULL) {
         fprintf(stderr, "it receives again\n");
         _exit(99);
     }
-    if (strcmp(name, "ENOBUFS") == 0) {
-        errno = ENOBUFS;
-        return -1;
+    if (strcmp(name, "ENOBUFS") == 0 || strcmp(name, "EAGAIN") == 0) {
+        errno = name[1] == 'N' ? ENOBUFS : EAGAIN;
+        return false;
     }
-    if (strcmp(name, "LONG") == 0)
-        return (ssize_t)size + 1;
-    file = fopen(name, "rb");
+    FILE *file = fopen(name, "rb");
     if (file == NULL)
         _exit(98);
-    read = fread(bytes, 1, size, file);
+    waiting = (ssize_t)fread(datagram, 1, sizeof datagram, file);
     fclose(file);
-    return (ssize_t)read;
+    return true;
+}
+
+/* Copies the datagram. Returns its size. */
+static ssize_t taken(void *bytes, size_t size, int flags)
+{
+    if (!is_there())
+        return -1;
+    const size_t copied = (size_t)waiting < size ? (size_t)waiting : size;
+    if (copied != 0)
+        memcpy(bytes, datagram, copied);
+    const ssize_t result = (flags & MSG_TRUNC) != 0 ? waiting : (ssize_t)copied;
+    if ((flags & MSG_PEEK) == 0)
+        waiting = -1;
+    return result;
+}
+
+ssize_t recv(int fd, void *bytes, size_t size, int flags)
+{
+    (void)fd;
+    return taken(bytes, size, flags);
+}
+
+/* The sender has the port 0, which is that of the kernel. */
+ssize_t recvmsg(int fd, struct msghdr *head, int flags)
+{
+    (void)fd;
+    memset(head->msg_name, 0, head->msg_namelen);
+    return taken(head->msg_iov->iov_base, head->msg_iov->iov_len, flags);
 }
