@@ -15,7 +15,8 @@
 //! - To read, iterate over [`Messages`], and take the [`attributes`](Message::attributes) of each: iterate over them,
 //!   or call [`Attributes::find`] or [`Attributes::table`].
 //! - To write, begin a [`Frame`] and its [`Nest`]s with a [`Writer`].
-//! - To send a request, and to read the answer to it, see [`Replies`] and `examples/dump.rs`.
+//! - To send a request, and to read the answer to it, or to wait for events, open a [`Socket`], as `examples/dump.rs`
+//!   does. On a socket of your own, read the answer with [`Replies`].
 
 #![deny(missing_docs)]
 
@@ -25,6 +26,8 @@ mod ffi;
 mod frame;
 mod normal;
 mod replies;
+mod socket;
+mod system;
 mod walk;
 mod write;
 
@@ -33,5 +36,6 @@ pub use fault::{Fault, Refusal};
 pub use frame::{done_body, error_body, header, payload, DoneBody, ErrorBody, Header};
 pub use normal::{attributes_are_canonical, frame_is_canonical, normalize_attributes, normalize_frame, write_value};
 pub use replies::{Reading, Replies, Reply};
+pub use socket::{Answer, Error, Events, Options, Protocol, Rejection, Socket};
 pub use walk::{Attribute, Attributes, Frames, Message, Messages};
 pub use write::{Frame, Nest, Writer};

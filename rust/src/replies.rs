@@ -4,7 +4,7 @@ use crate::ack::ExtendedAck;
 use crate::fault::{Fault, OK};
 use crate::ffi;
 use crate::frame::{part, Header};
-use crate::walk::{Message, Messages, END};
+use crate::walk::{next_message, Message, END};
 use std::iter::FusedIterator;
 
 /// What a frame means to a request.
@@ -96,6 +96,27 @@ impl Replies {
     pub fn read<'r, 'a>(&'r mut self, datagram: &'a [u8]) -> Reading<'r, 'a> {
         Reading { replies: self, datagram, cursor: 0 }
     }
+
+    /// Reads the next frame at the cursor that is no noop, and moves the cursor past it. Returns its message, and what
+    /// the message means.
+    pub(crate) fn step<'a>(
+        &mut self,
+        bytes: &'a [u8],
+        cursor: &mut usize,
+    ) -> Option<Result<(ffi::Message, Reply<'a>), Fault>> {
+        let mut item = ffi::Reply::default();
+        let mut fault = ffi::Fault::default();
+        let (start, len) = (bytes.as_ptr(), bytes.len());
+        // SAFETY: the slice is live, and so are the four values.
+        let answer = unsafe { ffi::nlp_replies_next(start, len, cursor, &mut self.state, &mut item, &mut fault) };
+        match answer {
+            // The frame is complete, so this is its message, and no error.
+            OK => next_message(bytes, &mut item.frame.offset.clone())
+                .map(|read| read.map(|message| (message, Reply::of(bytes, &item, Message::of(bytes, &message))))),
+            END => None,
+            _ => Some(Err(Fault::of(&fault))),
+        }
+    }
 }
 
 /// An iterator over what the frames of a datagram mean.
@@ -110,20 +131,7 @@ impl<'a> Iterator for Reading<'_, 'a> {
     type Item = Result<Reply<'a>, Fault>;
 
     fn next(&mut self) -> Option<Self::Item> {
-        let mut item = ffi::Reply::default();
-        let mut fault = ffi::Fault::default();
-        let (bytes, len) = (self.datagram.as_ptr(), self.datagram.len());
-        let state = &mut self.replies.state;
-        // SAFETY: the slice is live, and so are the four values.
-        let answer = unsafe { ffi::nlp_replies_next(bytes, len, &mut self.cursor, state, &mut item, &mut fault) };
-        match answer {
-            // The frame is complete, so this is its message, and no error.
-            OK => Messages::new(part(self.datagram, item.frame))
-                .next()
-                .map(|read| read.map(|message| Reply::of(self.datagram, &item, message))),
-            END => None,
-            _ => Some(Err(Fault::of(&fault))),
-        }
+        self.replies.step(self.datagram, &mut self.cursor).map(|read| read.map(|(_, reply)| reply))
     }
 }
 

@@ -189,6 +189,10 @@ pub struct Message<'a> {
 }
 
 impl<'a> Message<'a> {
+    pub(crate) fn of(bytes: &'a [u8], item: &ffi::Message) -> Self {
+        Message { header: Header::of(&item.header), payload: part(bytes, item.payload) }
+    }
+
     /// Iterates over the attributes after a fixed header of `fixed` bytes and its padding. The fixed header is then
     /// `&message.payload[..fixed]`. Returns [`Fault::PayloadShort`] if the payload has fewer bytes. There are no
     /// attributes if the payload ends within the padding.
@@ -202,6 +206,19 @@ impl<'a> Message<'a> {
             return Err(Fault::PayloadShort { size: self.payload.len(), fixed });
         }
         Ok(Attributes::new(part(self.payload, place)))
+    }
+}
+
+/// Reads the message at the cursor, and moves the cursor past it, or to the end if there is an error.
+pub(crate) fn next_message(bytes: &[u8], cursor: &mut usize) -> Option<Result<ffi::Message, Fault>> {
+    let mut item = ffi::Message::default();
+    let mut fault = ffi::Fault::default();
+    // SAFETY: the slice is live, and so are the three values.
+    let answer = unsafe { ffi::nlp_message_read(bytes.as_ptr(), bytes.len(), cursor, &mut item, &mut fault) };
+    match answer {
+        OK => Some(Ok(item)),
+        END => None,
+        _ => Some(Err(Fault::of(&fault))),
     }
 }
 
@@ -223,17 +240,7 @@ impl<'a> Iterator for Messages<'a> {
     type Item = Result<Message<'a>, Fault>;
 
     fn next(&mut self) -> Option<Self::Item> {
-        let mut item = ffi::Message::default();
-        let mut fault = ffi::Fault::default();
-        // SAFETY: the slice is live, and so are the three values.
-        let answer = unsafe {
-            ffi::nlp_message_read(self.bytes.as_ptr(), self.bytes.len(), &mut self.cursor, &mut item, &mut fault)
-        };
-        match answer {
-            OK => Some(Ok(Message { header: Header::of(&item.header), payload: part(self.bytes, item.payload) })),
-            END => None,
-            _ => Some(Err(Fault::of(&fault))),
-        }
+        next_message(self.bytes, &mut self.cursor).map(|read| read.map(|item| Message::of(self.bytes, &item)))
     }
 }
 
