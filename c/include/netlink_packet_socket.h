@@ -115,7 +115,8 @@ static inline NLP_RESULT int nlp_socket_leave(struct nlp_socket *s, uint32_t gro
 }
 
 /* Sets how many bytes of datagrams may wait in the socket, above the system's limit if the program may
- * (CAP_NET_ADMIN). A larger queue loses fewer events. Returns 0 or an errno. */
+ * (CAP_NET_ADMIN). A larger queue loses fewer events; with less than 65536 bytes, a dump may end as
+ * NLP_ANSWER_OVERRUN. Returns 0 or an errno. */
 NLP_NONNULL(1)
 static inline NLP_RESULT int nlp_socket_set_buffer(struct nlp_socket *s, int size)
 {
