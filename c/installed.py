@@ -6,11 +6,11 @@ import os
 import re
 import shutil
 import subprocess
-import sys
 
-from kit import HERE, TOP, captured, compiler, has_route_socket, version
+from kit import HERE, TOP, captured, compiler, version
+from python_module import run_python
 from tally import note, skip
-from wrapper import RUST, cargo, run_dump
+from wrapper import RUST, cargo
 
 WARNINGS = ["-O1", "-Wall", "-Wextra", "-Werror", "-pedantic"]
 TOOLS = ["make", "cc", "ld", "objcopy", "ar", "nm", "realpath", "tar", "gzip"]
@@ -157,13 +157,6 @@ def run_wrapper(prefix, lib, folder):
         note(f"the wrapper by {[*way][0]}", made.stdout == wanted, made.stderr.decode()[-2000:])
 
 
-def run_python(lib):
-    """Lists the links of this machine from Python."""
-    if has_route_socket():
-        words = [sys.executable, os.path.join(HERE, "examples", "links.py"), os.path.join(lib, "libnetlink_packet.so.2")]
-        run_dump(lambda: run(words))
-
-
 def run_versions():
     """Tests that each file that states the version has that of c/VERSION."""
     for name, line in STATED.items():
@@ -189,5 +182,5 @@ def run_installed(folder):
         run_plus(prefix, lib, folder)
         run_cmake(prefix, folder)
         run_wrapper(prefix, lib, folder)
-        run_python(lib)
+        run_python(os.path.join(lib, "libnetlink_packet.so.2"))
         run_packed(folder)
