@@ -69,7 +69,8 @@ def run_packed(folder):
     shutil.copy(REQUEST, alone)
     run(["tar", "-C", alone, "-xzf", packed])
     there = {os.path.relpath(os.path.join(at, it), alone) for at, _, names in os.walk(alone) for it in names}
-    wanted = {"LICENSE", "C.md", "include/netlink_packet.h", "include/netlink_packet_socket.h", "lib/libnetlink_packet.a", "lib/libnetlink_packet.so"}
+    wanted = {"LICENSE", "C.md", "python/netlink_packet.py", "lib/libnetlink_packet.a", "lib/libnetlink_packet.so"}
+    wanted |= {f"include/netlink_packet{it}.h" for it in ("", "_socket")}
     note("what is packed", {f"{name}/{it}" for it in wanted} <= there, f"{sorted(there)}")
     for way in "lib/libnetlink_packet.a", "lib/libnetlink_packet.so":
         words = [compiler(), "-std=c11", *WARNINGS, "request.c", "-I", f"{name}/include", f"{name}/{way}", "-o", "request"]

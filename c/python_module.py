@@ -20,7 +20,7 @@ import sys
 import time
 from unittest.mock import patch
 
-from kit import HERE, has_route_socket
+from kit import HERE, has_route_socket, lines_of
 from python_fed import DUMP, MTU, attribute, error_of, frame, is_error, outcome, run_fed_python, u32
 from tally import add, end, note, skip
 from wrapper import run_dump
@@ -345,6 +345,18 @@ def run_part(part, library, before=()):
     note(f"Python: the part {part}", run.returncode == 0 and found, run.stdout[-2000:] + run.stderr[-2000:])
 
 
+def run_manual(library):
+    """Tests that the Python in docs/C.md prints the names of links. A dump that another program interrupts fails, and is
+    tried again."""
+    variables = {**os.environ, "NETLINK_PACKET_LIBRARY": library, "PYTHONPATH": os.path.join(HERE, "python")}
+    for _ in range(5):
+        words = [sys.executable, "-c", lines_of("docs/C.md", "python")]
+        run = subprocess.run(words, capture_output=True, text=True, timeout=60, env=variables)
+        if run.returncode == 0:
+            break
+    note("the Python in docs/C.md prints the links", run.returncode == 0 and "['lo']\n" in run.stdout, run.stdout + run.stderr)
+
+
 def run_python(library):
     """Runs all with this shared library. What needs a socket is not run on a machine that opens none."""
     run_part("bytes", library)
@@ -353,6 +365,7 @@ def run_python(library):
     if not has_route_socket():
         return
     run_dump(lambda: example("links.py", library))
+    run_manual(library)
     run_part("kernel", library)
     unshare = ["unshare", "-n" if os.geteuid() == 0 else "-rn"]
     if shutil.which("unshare") and subprocess.run([*unshare, "true"], capture_output=True).returncode == 0:

@@ -127,8 +127,9 @@ static inline NLP_RESULT int nlp_socket_set_buffer(struct nlp_socket *s, int siz
     return setsockopt(s->fd, SOL_SOCKET, SO_RCVBUF, &size, sizeof size) < 0 ? errno : 0;
 }
 
-/* Sets how long a receive may wait for a datagram, in milliseconds; 0 for any time, as after nlp_socket_open.
- * Returns 0 or an errno. */
+/* Sets how long nlp_socket_receive waits for a datagram of the kernel, and nlp_request for the next frame of an
+ * answer, in milliseconds; 0 for any time, as after nlp_socket_open. Other datagrams prolong it by at most a second
+ * and the limit. Returns 0 or an errno. */
 NLP_NONNULL(1)
 static inline NLP_RESULT int nlp_socket_set_limit(struct nlp_socket *s, unsigned milliseconds)
 {
@@ -171,6 +172,12 @@ static inline int nlp_socket_read(const struct nlp_socket *s, uint8_t *bytes, si
     return 0;
 }
 
+/* Whether a call that began then has taken longer than the limit of the socket, by more than a second. */
+static inline bool nlp_socket_is_late(const struct nlp_socket *s, time_t begun)
+{
+    return s->limit != 0 && time(NULL) - begun > (time_t)(s->limit / 1000) + 1;
+}
+
 /* Receives one datagram of the kernel; those of other senders are skipped. Returns 0, and `*size` is its size.
  * EMSGSIZE: it has more than `capacity` bytes; `*size` is its size, and it can still be received. ENOBUFS: the
  * queue was full, and events are lost, so what is known must be dumped again. EAGAIN: no datagram came within the
@@ -190,7 +197,7 @@ static inline NLP_RESULT int nlp_socket_receive(const struct nlp_socket *s, uint
             error = nlp_socket_read(s, bytes, sender == 0 ? capacity : 0, MSG_TRUNC, &sender, size);
         if (error != 0 || sender == 0)
             return error;
-        if (s->limit != 0 && time(NULL) - begun > (time_t)(s->limit / 1000) + 1)
+        if (nlp_socket_is_late(s, begun))
             return EAGAIN;
     }
 }
@@ -204,7 +211,7 @@ enum {
     NLP_ANSWER_INTERRUPTED = 2, /* what the dump lists changed meanwhile: request it again                 */
     NLP_ANSWER_STOPPED = 3,     /* the function stopped it: code                                           */
     NLP_ANSWER_OVERRUN = 4,     /* datagrams were lost                                                     */
-    NLP_ANSWER_TIMED_OUT = 5,   /* nothing came within the limit of the socket                             */
+    NLP_ANSWER_TIMED_OUT = 5,   /* nothing of it came within the limit of the socket                       */
     NLP_ANSWER_MALFORMED = 6,   /* a frame is damaged: fault                                               */
     NLP_ANSWER_FAILED = 7       /* a call of the system failed: code. EINVAL: the requests are not written */
 };
@@ -269,8 +276,8 @@ static inline void nlp_request_rejected(const uint8_t *bytes, const struct nlp_r
 }
 
 /* Reads what a datagram has of an answer. The messages after a failure, or after the function has stopped the answer,
- * are passed over. */
-static inline void nlp_request_read(const uint8_t *bytes, size_t size, struct nlp_replies *replies,
+ * are passed over. Returns whether it has a frame of the answer. */
+static inline bool nlp_request_read(const uint8_t *bytes, size_t size, struct nlp_replies *replies,
                                     nlp_on_message *on_message, void *context, const uint8_t *request,
                                     size_t request_size, struct nlp_answer *answer)
 {
@@ -279,8 +286,10 @@ static inline void nlp_request_read(const uint8_t *bytes, size_t size, struct nl
     struct nlp_fault fault;
     uint32_t result;
     size_t at = 0;
+    bool is_part = false;
 
     while ((result = nlp_replies_next(bytes, size, &at, replies, &reply, &fault)) == NLP_OK) {
+        is_part = is_part || reply.what != NLP_OTHER;
         if (answer->what != NLP_ANSWER_DONE || reply.what == NLP_OTHER)
             continue;
         if (reply.what == NLP_OVERRUN)
@@ -299,6 +308,7 @@ static inline void nlp_request_read(const uint8_t *bytes, size_t size, struct nl
         answer->code = 0;
         answer->fault = fault;
     }
+    return is_part;
 }
 
 /* Sends a request. Returns 0 or an errno. */
@@ -330,11 +340,16 @@ static inline void nlp_request_one(struct nlp_socket *s, uint8_t *request, size_
     memcpy(request, &header, sizeof header);
     nlp_replies_begin(&header, is_dump, &replies);
     int error = nlp_request_send(s, request, size);
+    time_t begun = time(NULL);
     while (error == 0 && !replies.ended && answer->what < NLP_ANSWER_OVERRUN) {
         size_t read = 0;
         error = nlp_request_receive(s, &read);
-        if (error == 0)
-            nlp_request_read(s->bytes, read, &replies, on_message, context, request, size, answer);
+        if (error != 0)
+            break;
+        if (nlp_request_read(s->bytes, read, &replies, on_message, context, request, size, answer))
+            begun = time(NULL);
+        else if (nlp_socket_is_late(s, begun))
+            error = EAGAIN;
     }
     if (error != 0) {
         answer->what = error == ENOBUFS  ? NLP_ANSWER_OVERRUN

@@ -381,7 +381,16 @@ static void receives(void)
         flood[i] = (struct step){ datagram, 20, 5, 0 };
     steps = flood;
     left = 1000;
+    static struct step events[100];
+    made_size = 0;
+    frame(NEW_LINK, 0, 0, link_bytes, 20);
+    for (size_t i = 0; i < 100; i++)
+        events[i] = (struct step){ made, made_size, 0, 0 };
     s.limit = 3000;
+    now = 1000;
+    expect("events, and no answer", run(0, 1, events, 100) == NLP_ANSWER_TIMED_OUT && left == 97 && seen.count == 0);
+    steps = flood;
+    left = 1000;
     now = 1000;
     expect("a flood of another sender", nlp_socket_receive(&s, bytes, 20, &size) == EAGAIN && left == 995);
     s.limit = 0;
