@@ -57,7 +57,7 @@ def answers(message):
     short = [message, frame(ERROR, 0, b"\xff\xff")]
     yield "an error without a code", short, malformed, "the answer is malformed: result 13"
     yield "an overrun of the socket", ["ENOBUFS"], "messages were lost: request it again", "No buffer space available"
-    yield "an answer without its end", [message, "EAGAIN"], "no answer in time", "Resource temporarily unavailable"
+    yield "an answer without its end", [message, "EIO"], "the answer: Input/output error", "the answer: Input/output error"
 
 
 def example_of_header(folder):

@@ -72,6 +72,9 @@ def run_packed(folder):
     wanted = {"LICENSE", "C.md", "python/netlink_packet.py", "lib/libnetlink_packet.a", "lib/libnetlink_packet.so"}
     wanted |= {f"include/netlink_packet{it}.h" for it in ("", "_socket")}
     note("what is packed", {f"{name}/{it}" for it in wanted} <= there, f"{sorted(there)}")
+    with open(os.path.join(alone, name, "C.md")) as file:
+        linked = {f"{name}/{it}" for it in re.findall(r"\]\(([^)#:]+)\)", file.read())}
+    note("the links of the packed manual", len(linked) > 5 and linked <= there, f"{sorted(linked - there)}")
     for way in "lib/libnetlink_packet.a", "lib/libnetlink_packet.so":
         words = [compiler(), "-std=c11", *WARNINGS, "request.c", "-I", f"{name}/include", f"{name}/{way}", "-o", "request"]
         made = subprocess.run(words, cwd=alone, capture_output=True, text=True)

@@ -9,7 +9,7 @@ import sys
 HERE = os.path.dirname(os.path.abspath(__file__))
 OUT = os.path.join(HERE, "out")
 # The calls of the system that tests/socket.c replaces, as the linker wants them.
-WRAPPED = [f"-Wl,--wrap={name}" for name in "recvmsg send time socket bind getsockname setsockopt close".split()]
+WRAPPED = [f"-Wl,--wrap={name}" for name in "recvmsg send times poll fcntl socket bind getsockname setsockopt close".split()]
 sys.path.append(os.path.join(os.path.dirname(HERE), "tests", "lib"))
 
 from libraries import TOP  # noqa: E402 (it is in that folder)

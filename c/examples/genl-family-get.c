@@ -103,7 +103,7 @@ int main(int count, char **names)
         fprintf(stderr, "the socket: %s\n", strerror(error));
         return 1;
     }
-    if (nlp_request(&socket, &writer, print_family, NULL, &answer) != NLP_ANSWER_DONE)
+    if (nlp_socket_request(&socket, &writer, print_family, NULL, &answer) != NLP_ANSWER_DONE)
         fprintf(stderr, "the answer: %s\n", nlp_answer_text(&answer));
     nlp_socket_close(&socket);
     return answer.what != NLP_ANSWER_DONE;

@@ -11,10 +11,10 @@
  *     if (nlp_socket_open(&socket, NETLINK_ROUTE) != 0)
  *         return 1;
  *     ..                                                      write requests, see nlp_writer_begin
- *     nlp_request(&socket, &writer, on_message, NULL, &answer);
+ *     nlp_socket_request(&socket, &writer, on_message, NULL, &answer);
  *     nlp_socket_close(&socket);
  *
- * A socket is for one thread at a time.
+ * A socket is for one thread at a time, and for requests or for events: a request drops the events that wait.
  */
 #ifndef NETLINK_PACKET_SOCKET_H
 #define NETLINK_PACKET_SOCKET_H
@@ -22,11 +22,12 @@
 #include "netlink_packet.h"
 
 #include <errno.h>
+#include <fcntl.h>
 #include <linux/netlink.h>
+#include <poll.h>
 #include <stdlib.h>
 #include <sys/socket.h>
-#include <sys/time.h>
-#include <time.h>
+#include <sys/times.h>
 #include <unistd.h>
 
 #ifdef __cplusplus
@@ -44,15 +45,17 @@ struct nlp_socket {
     uint32_t port;     /* which the kernel gave to the socket */
     uint32_t sequence; /* the sequence number of the last request */
     uint32_t lacks;    /* NLP_LACKS_EXT_ACK and so on */
-    unsigned limit;    /* how many milliseconds a receive may take; 0 for any number */
-    uint8_t *bytes;    /* the buffer of nlp_request; nlp_socket_close frees it */
+    unsigned limit;    /* how many milliseconds a call may wait; 0 for any number */
+    bool is_busy;      /* a request is going on */
+    uint8_t *bytes;    /* the buffer of nlp_socket_request; nlp_socket_close frees it */
     size_t capacity;
 };
 
 /* Opens a socket of a protocol, such as NETLINK_ROUTE, and binds it to a port that the kernel gives. It is closed
- * on exec. Switches on the text and the offset of errors, errors that do not repeat the payload of the request,
- * and strict checks of requests, which need the whole fixed header of a dump and apply its filters. `lacks` says
- * which of these the kernel does not have. Returns 0, or an errno, and then the socket is not open. */
+ * on exec, and waits without a limit. Switches on the text and the offset of errors, errors that do not repeat the
+ * payload of the request, and strict checks: the kernel then applies the filters of a dump, and rejects a dump that
+ * has not the whole fixed header, such as the struct rtgenmsg that many programs send for links. `lacks` says which
+ * of these the kernel does not have. Returns 0, or an errno, and then the socket is not open. */
 NLP_NONNULL(1)
 static inline NLP_RESULT int nlp_socket_open(struct nlp_socket *s, int protocol)
 {
@@ -93,14 +96,16 @@ static inline void nlp_socket_close(struct nlp_socket *s)
     s->capacity = 0;
 }
 
-/* The descriptor, for poll and the like: it can be read when a datagram is there. */
+/* The descriptor, for poll and the like. If it can be read, nlp_socket_receive may still wait, because the datagram
+ * is of another sender: set O_NONBLOCK, or a limit. */
 NLP_NONNULL(1)
 static inline int nlp_socket_fd(const struct nlp_socket *s)
 {
     return s->fd;
 }
 
-/* Joins a multicast group by its number, such as RTNLGRP_LINK. Returns 0 or an errno. */
+/* Joins a multicast group by its number, such as RTNLGRP_LINK. Returns 0 or an errno. Use another socket for
+ * requests: they drop the events that wait, and an event that a request causes itself counts as its answer. */
 NLP_NONNULL(1)
 static inline NLP_RESULT int nlp_socket_join(struct nlp_socket *s, uint32_t group)
 {
@@ -114,9 +119,9 @@ static inline NLP_RESULT int nlp_socket_leave(struct nlp_socket *s, uint32_t gro
     return setsockopt(s->fd, 270, NETLINK_DROP_MEMBERSHIP, &group, sizeof group) < 0 ? errno : 0;
 }
 
-/* Sets how many bytes of datagrams may wait in the socket, above the system's limit if the program may
- * (CAP_NET_ADMIN). A larger queue loses fewer events; with less than 65536 bytes, a dump may end as
- * NLP_ANSWER_OVERRUN. Returns 0 or an errno. */
+/* Sets how many bytes of datagrams may wait in the socket. A larger queue loses fewer events; with less than 65536
+ * bytes, a dump may end as NLP_ANSWER_OVERRUN. Without CAP_NET_ADMIN, the system takes at most net.core.rmem_max, and
+ * does not say so. Returns 0 or an errno. */
 NLP_NONNULL(1)
 static inline NLP_RESULT int nlp_socket_set_buffer(struct nlp_socket *s, int size)
 {
@@ -127,25 +132,49 @@ static inline NLP_RESULT int nlp_socket_set_buffer(struct nlp_socket *s, int siz
     return setsockopt(s->fd, SOL_SOCKET, SO_RCVBUF, &size, sizeof size) < 0 ? errno : 0;
 }
 
-/* Sets how long nlp_socket_receive waits for a datagram of the kernel, and nlp_request for the next frame of an
- * answer, in milliseconds; 0 for any time, as after nlp_socket_open. Other datagrams prolong it by at most a second
- * and the limit. Returns 0 or an errno. */
+/* Sets how long nlp_socket_receive waits for a datagram of the kernel, and nlp_socket_request for the next frame of
+ * an answer, in milliseconds; 0 for any time. Other datagrams and signals do not prolong it. */
 NLP_NONNULL(1)
-static inline NLP_RESULT int nlp_socket_set_limit(struct nlp_socket *s, unsigned milliseconds)
+static inline void nlp_socket_set_limit(struct nlp_socket *s, unsigned milliseconds)
 {
-    struct timeval limit;
-    limit.tv_sec = (time_t)(milliseconds / 1000);
-    limit.tv_usec = (suseconds_t)(milliseconds % 1000 * 1000);
-    if (setsockopt(s->fd, SOL_SOCKET, SO_RCVTIMEO, &limit, sizeof limit) < 0)
-        return errno;
     s->limit = milliseconds;
-    return 0;
 }
 
 /* ---- receive ----------------------------------------------------------------------------------- */
 
-/* Calls recvmsg until no signal interrupts it. Returns 0, with the port of the sender and the size of the whole
- * datagram if the flags have MSG_TRUNC, or an errno. */
+/* Milliseconds since some time in the past, by the clock that nobody sets. It ticks every 10. */
+static inline long nlp_socket_now(void)
+{
+    struct tms unused;
+
+    return (long)times(&unused) * 1000 / sysconf(_SC_CLK_TCK);
+}
+
+/* Whether the limit has passed since `begun`. */
+static inline bool nlp_socket_is_late(const struct nlp_socket *s, long begun)
+{
+    return s->limit != 0 && nlp_socket_now() - begun >= (long)s->limit;
+}
+
+/* Waits until the socket can be read, a signal comes, or the limit has passed since `begun`. Returns 0 or an errno:
+ * EAGAIN if it has passed, or if the socket does not block. */
+static inline int nlp_socket_wait(const struct nlp_socket *s, long begun)
+{
+    struct pollfd one;
+    const long passed = nlp_socket_now() - begun;
+    int found;
+
+    if ((fcntl(s->fd, F_GETFL) & O_NONBLOCK) != 0 || (s->limit != 0 && passed >= (long)s->limit))
+        return EAGAIN;
+    one.fd = s->fd;
+    one.events = POLLIN;
+    one.revents = 0;
+    found = poll(&one, 1, s->limit == 0 ? -1 : (int)((long)s->limit - passed));
+    return found >= 0 || errno == EINTR ? 0 : errno;
+}
+
+/* Calls recvmsg, which does not wait. Returns 0, with the port of the sender and the size of the datagram, or an
+ * errno: EAGAIN if there is none. */
 static inline int nlp_socket_read(const struct nlp_socket *s, uint8_t *bytes, size_t capacity, int flags,
                                   uint32_t *sender, size_t *size)
 {
@@ -154,91 +183,107 @@ static inline int nlp_socket_read(const struct nlp_socket *s, uint8_t *bytes, si
     struct msghdr head;
     ssize_t read;
 
+    memset(&from, 0, sizeof from);
+    memset(&head, 0, sizeof head);
     part.iov_base = bytes;
     part.iov_len = capacity;
-    do {
-        memset(&from, 0, sizeof from);
-        memset(&head, 0, sizeof head);
-        head.msg_name = &from;
-        head.msg_namelen = sizeof from;
-        head.msg_iov = &part;
-        head.msg_iovlen = 1;
-        read = recvmsg(s->fd, &head, flags);
-    } while (read < 0 && errno == EINTR);
+    head.msg_name = &from;
+    head.msg_namelen = sizeof from;
+    head.msg_iov = &part;
+    head.msg_iovlen = 1;
+    read = recvmsg(s->fd, &head, flags | MSG_TRUNC | MSG_DONTWAIT);
     if (read < 0)
-        return errno == EWOULDBLOCK ? EAGAIN : errno;
+        return errno == EINTR || errno == EWOULDBLOCK ? EAGAIN : errno;
     *sender = from.nl_pid;
     *size = (size_t)read;
     return 0;
 }
 
-/* Whether a call that began then has taken longer than the limit of the socket, by more than a second. */
-static inline bool nlp_socket_is_late(const struct nlp_socket *s, time_t begun)
+/* Receives one datagram of the kernel, within the limit since `begun`. */
+static inline int nlp_socket_receive_since(const struct nlp_socket *s, uint8_t *bytes, size_t capacity, size_t *size,
+                                           long begun)
 {
-    return s->limit != 0 && time(NULL) - begun > (time_t)(s->limit / 1000) + 1;
+    uint32_t sender = 0;
+
+    for (*size = 0;;) {
+        int error = nlp_socket_read(s, NULL, 0, MSG_PEEK, &sender, size);
+        if (error == 0 && sender == 0 && *size > capacity)
+            return EMSGSIZE;
+        if (error == 0)
+            error = nlp_socket_read(s, bytes, sender == 0 ? capacity : 0, 0, &sender, size);
+        if (error == 0 && sender == 0)
+            return 0;
+        *size = 0;
+        if (error == EAGAIN)
+            error = nlp_socket_wait(s, begun);
+        else if (error == 0 && nlp_socket_is_late(s, begun))
+            error = EAGAIN;
+        if (error != 0)
+            return error;
+    }
 }
 
-/* Receives one datagram of the kernel; those of other senders are skipped. Returns 0, and `*size` is its size.
- * EMSGSIZE: it has more than `capacity` bytes; `*size` is its size, and it can still be received. ENOBUFS: the
- * queue was full, and events are lost, so what is known must be dumped again. EAGAIN: no datagram came within the
- * limit, or, if the socket does not block, none is there. Else another errno. */
+/* Receives one datagram of the kernel; those of other senders are skipped. Returns 0, and `*size` is its size; else
+ * an errno, and `*size` is 0 but for EMSGSIZE. EMSGSIZE: it has `*size` bytes, more than `capacity`, and can still be
+ * received. ENOBUFS: the queue was full, and events are lost, so what is known must be dumped again. EAGAIN: no
+ * datagram came within the limit, or, if the socket does not block, none is there. */
 NLP_NONNULL(1, 4)
 static inline NLP_RESULT int nlp_socket_receive(const struct nlp_socket *s, uint8_t *bytes, size_t capacity,
                                                 size_t *size)
 {
-    const time_t begun = time(NULL);
-    uint32_t sender = 0;
-
-    for (;;) {
-        int error = nlp_socket_read(s, NULL, 0, MSG_PEEK | MSG_TRUNC, &sender, size);
-        if (error == 0 && sender == 0 && *size > capacity)
-            error = EMSGSIZE;
-        if (error == 0)
-            error = nlp_socket_read(s, bytes, sender == 0 ? capacity : 0, MSG_TRUNC, &sender, size);
-        if (error != 0 || sender == 0)
-            return error;
-        if (nlp_socket_is_late(s, begun))
-            return EAGAIN;
-    }
+    return nlp_socket_receive_since(s, bytes, capacity, size, nlp_socket_now());
 }
 
 /* ---- request ----------------------------------------------------------------------------------- */
 
-/* How an answer ends. After the last four, the rest of it may still be on its way: close the socket. */
+/* How the answers to requests end. The socket can be used again after each. */
 enum {
-    NLP_ANSWER_DONE = 0,        /* it is complete                                                          */
-    NLP_ANSWER_REJECTED = 1,    /* the kernel rejected the request, or the dump failed: code, text, kind   */
-    NLP_ANSWER_INTERRUPTED = 2, /* what the dump lists changed meanwhile: request it again                 */
+    NLP_ANSWER_DONE = 0,        /* they are complete                                                       */
+    NLP_ANSWER_REJECTED = 1,    /* the kernel rejected a request, or a dump failed: code, text, kind       */
+    NLP_ANSWER_INTERRUPTED = 2, /* what a dump lists changed meanwhile: request it again                   */
     NLP_ANSWER_STOPPED = 3,     /* the function stopped it: code                                           */
     NLP_ANSWER_OVERRUN = 4,     /* datagrams were lost                                                     */
     NLP_ANSWER_TIMED_OUT = 5,   /* nothing of it came within the limit of the socket                       */
     NLP_ANSWER_MALFORMED = 6,   /* a frame is damaged: fault                                               */
-    NLP_ANSWER_FAILED = 7       /* a call of the system failed: code. EINVAL: the requests are not written */
+    NLP_ANSWER_FAILED = 7,      /* a call of the system failed, or another request is going on (EBUSY)     */
+    NLP_ANSWER_UNWRITTEN = 8    /* the writer failed, or has no whole requests: nothing is sent; code: NLP_* */
 };
 
 /* How the answers to requests ended. */
 struct nlp_answer {
-    uint32_t what;          /* NLP_ANSWER_DONE to NLP_ANSWER_FAILED */
+    uint32_t what;          /* NLP_ANSWER_DONE to NLP_ANSWER_UNWRITTEN */
     int code;               /* an errno; of NLP_ANSWER_STOPPED, what the function returned; else 0 */
     size_t request;         /* where the request concerned starts in the buffer of the writer */
-    char text[128];         /* the kernel's text, as much as fits, and a zero */
+    char text[128];         /* the kernel's text, as much as fits, and a zero; it may warn of what was done too */
     uint32_t offset;        /* where the attribute concerned starts in that request; 0 if the kernel names none */
-    uint16_t kind;          /* its kind, without flag bits; or the kind that the request lacks */
+    uint16_t kind;          /* its kind, without flag bits; or the kind that the request lacks, in the nest there */
     bool is_missing;        /* whether the request lacks an attribute of this kind */
     struct nlp_fault fault; /* the numbers of the error */
 };
 
-/* A function that gets each message of an answer: it returns 0 to go on. The message is in `bytes`, which are
- * valid until it returns. */
+/* A function that gets each message of an answer: it returns 0 to go on. The message is in `bytes`, which are valid
+ * until it returns; its frame starts 16 bytes before its payload. */
 typedef int nlp_on_message(const uint8_t *bytes, const struct nlp_message *message, void *context);
 
+/* Passes over what waits in the queue: the rest of an earlier answer, because the kernel begins no other dump before
+ * its end, and sends nothing after an overrun until the queue was empty. */
+static inline void nlp_socket_drain(const struct nlp_socket *s)
+{
+    uint32_t sender;
+    size_t size;
+    int error = 0;
+
+    for (unsigned i = 0; i < 1u << 20 && (error == 0 || error == ENOBUFS); i++)
+        error = nlp_socket_read(s, NULL, 0, 0, &sender, &size);
+}
+
 /* Receives a datagram into the buffer of the socket, which grows if it must. Returns 0 or an errno. */
-static inline int nlp_request_receive(struct nlp_socket *s, size_t *size)
+static inline int nlp_answer_receive(struct nlp_socket *s, size_t *size, long begun)
 {
     for (*size = 32768;;) {
         int error = EMSGSIZE;
         if (s->bytes != NULL)
-            error = nlp_socket_receive(s, s->bytes, s->capacity, size);
+            error = nlp_socket_receive_since(s, s->bytes, s->capacity, size, begun);
         if (error != EMSGSIZE)
             return error;
         uint8_t *more = (uint8_t *)realloc(s->bytes, *size);
@@ -249,9 +294,9 @@ static inline int nlp_request_receive(struct nlp_socket *s, size_t *size)
     }
 }
 
-/* Says why the kernel rejected a request, by the attributes of its extended acknowledgement. */
-static inline void nlp_request_rejected(const uint8_t *bytes, const struct nlp_reply *reply, const uint8_t *request,
-                                        size_t size, struct nlp_answer *answer)
+/* Keeps what the kernel says about a request in the attributes of an extended acknowledgement. */
+static inline void nlp_answer_told(const uint8_t *bytes, const struct nlp_reply *reply, const uint8_t *request,
+                                   size_t size, struct nlp_answer *answer)
 {
     const uint8_t *attributes = bytes + reply->attributes.offset;
     const size_t len = reply->attributes.size;
@@ -260,29 +305,47 @@ static inline void nlp_request_rejected(const uint8_t *bytes, const struct nlp_r
     uint32_t kind = 0;
     size_t at;
 
-    answer->what = NLP_ANSWER_REJECTED;
-    answer->code = reply->code < 0 && reply->code > -4096 ? -reply->code : EPROTO;
     nlp_ext_ack_text(attributes, len, &text);
     if (text.size >= sizeof answer->text)
         text.size = sizeof answer->text - 1;
     memcpy(answer->text, attributes + text.offset, text.size);
+    answer->text[text.size] = 0;
     nlp_ext_ack_offset(attributes, len, &answer->offset);
     at = answer->offset;
     if (at != 0 && at < size && nlp_attrs_next_opt(request, size, &at, &attr, NULL) == NLP_OK)
         answer->kind = (uint16_t)(attr.kind & NLP_KIND_MASK);
     answer->is_missing = nlp_ext_ack_missing_type(attributes, len, &kind) == NLP_OK;
-    if (answer->is_missing)
+    if (answer->is_missing) {
         answer->kind = (uint16_t)kind;
+        nlp_ext_ack_missing_nest(attributes, len, &answer->offset);
+    }
+}
+
+/* Takes one part of an answer. */
+static inline void nlp_answer_take(const uint8_t *bytes, const struct nlp_reply *reply, nlp_on_message *on_message,
+                                   void *context, struct nlp_answer *answer)
+{
+    struct nlp_message message;
+
+    if (reply->what == NLP_OVERRUN) {
+        answer->what = NLP_ANSWER_OVERRUN;
+    } else if (reply->code != 0) {
+        answer->what = NLP_ANSWER_REJECTED;
+        answer->code = reply->code < 0 && reply->code > -4096 ? -reply->code : EPROTO;
+    } else if (reply->what == NLP_MESSAGE && on_message != NULL) {
+        nlp_reply_message(bytes, reply, &message);
+        answer->code = on_message(bytes, &message, context);
+        answer->what = answer->code != 0 ? NLP_ANSWER_STOPPED : NLP_ANSWER_DONE;
+    }
 }
 
 /* Reads what a datagram has of an answer. The messages after a failure, or after the function has stopped the answer,
  * are passed over. Returns whether it has a frame of the answer. */
-static inline bool nlp_request_read(const uint8_t *bytes, size_t size, struct nlp_replies *replies,
-                                    nlp_on_message *on_message, void *context, const uint8_t *request,
-                                    size_t request_size, struct nlp_answer *answer)
+static inline bool nlp_answer_read(const uint8_t *bytes, size_t size, struct nlp_replies *replies,
+                                   nlp_on_message *on_message, void *context, const uint8_t *request,
+                                   size_t request_size, struct nlp_answer *answer)
 {
     struct nlp_reply reply;
-    struct nlp_message message;
     struct nlp_fault fault;
     uint32_t result;
     size_t at = 0;
@@ -292,16 +355,9 @@ static inline bool nlp_request_read(const uint8_t *bytes, size_t size, struct nl
         is_part = is_part || reply.what != NLP_OTHER;
         if (answer->what != NLP_ANSWER_DONE || reply.what == NLP_OTHER)
             continue;
-        if (reply.what == NLP_OVERRUN)
-            answer->what = NLP_ANSWER_OVERRUN;
-        else if (reply.code != 0)
-            nlp_request_rejected(bytes, &reply, request, request_size, answer);
-        else if (reply.what == NLP_MESSAGE && on_message != NULL) {
-            nlp_reply_message(bytes, &reply, &message);
-            answer->code = on_message(bytes, &message, context);
-            if (answer->code != 0)
-                answer->what = NLP_ANSWER_STOPPED;
-        }
+        if (reply.attributes.size != 0)
+            nlp_answer_told(bytes, &reply, request, request_size, answer);
+        nlp_answer_take(bytes, &reply, on_message, context, answer);
     }
     if (result != NLP_END) {
         answer->what = NLP_ANSWER_MALFORMED;
@@ -311,8 +367,27 @@ static inline bool nlp_request_read(const uint8_t *bytes, size_t size, struct nl
     return is_part;
 }
 
+/* Reads the answer to a request to its end. Returns 0 or an errno. */
+static inline int nlp_answer_whole(struct nlp_socket *s, struct nlp_replies *replies, nlp_on_message *on_message,
+                                   void *context, const uint8_t *request, size_t size, struct nlp_answer *answer)
+{
+    long begun = nlp_socket_now();
+
+    while (!replies->ended && answer->what < NLP_ANSWER_OVERRUN) {
+        size_t read = 0;
+        const int error = nlp_answer_receive(s, &read, begun);
+        if (error != 0)
+            return error;
+        if (nlp_answer_read(s->bytes, read, replies, on_message, context, request, size, answer))
+            begun = nlp_socket_now();
+        else if (nlp_socket_is_late(s, begun))
+            return EAGAIN;
+    }
+    return 0;
+}
+
 /* Sends a request. Returns 0 or an errno. */
-static inline int nlp_request_send(const struct nlp_socket *s, const uint8_t *request, size_t size)
+static inline int nlp_socket_send(const struct nlp_socket *s, const uint8_t *request, size_t size)
 {
     ssize_t sent;
 
@@ -323,14 +398,16 @@ static inline int nlp_request_send(const struct nlp_socket *s, const uint8_t *re
 }
 
 /* Sends one request, and reads its answer to the end. */
-static inline void nlp_request_one(struct nlp_socket *s, uint8_t *request, size_t size, nlp_on_message *on_message,
-                                   void *context, struct nlp_answer *answer)
+static inline void nlp_socket_request_one(struct nlp_socket *s, uint8_t *request, size_t size,
+                                          nlp_on_message *on_message, void *context, struct nlp_answer *answer)
 {
     struct nlp_header header;
     struct nlp_replies replies;
 
-    if (nlp_frame_header(request, size, &header, &answer->fault) != NLP_OK)
+    if (nlp_frame_header(request, size, &header, &answer->fault) != NLP_OK) {
+        answer->what = NLP_ANSWER_UNWRITTEN;
         return;
+    }
     const bool is_dump = (header.flags & NLM_F_DUMP) == NLM_F_DUMP;
     header.flags |= (uint16_t)(is_dump ? NLM_F_REQUEST : NLM_F_REQUEST | NLM_F_ACK);
     if (++s->sequence == 0)
@@ -339,18 +416,10 @@ static inline void nlp_request_one(struct nlp_socket *s, uint8_t *request, size_
     header.port_number = s->port;
     memcpy(request, &header, sizeof header);
     nlp_replies_begin(&header, is_dump, &replies);
-    int error = nlp_request_send(s, request, size);
-    time_t begun = time(NULL);
-    while (error == 0 && !replies.ended && answer->what < NLP_ANSWER_OVERRUN) {
-        size_t read = 0;
-        error = nlp_request_receive(s, &read);
-        if (error != 0)
-            break;
-        if (nlp_request_read(s->bytes, read, &replies, on_message, context, request, size, answer))
-            begun = time(NULL);
-        else if (nlp_socket_is_late(s, begun))
-            error = EAGAIN;
-    }
+    nlp_socket_drain(s);
+    int error = nlp_socket_send(s, request, size);
+    if (error == 0)
+        error = nlp_answer_whole(s, &replies, on_message, context, request, size, answer);
     if (error != 0) {
         answer->what = error == ENOBUFS  ? NLP_ANSWER_OVERRUN
                        : error == EAGAIN ? NLP_ANSWER_TIMED_OUT
@@ -361,41 +430,55 @@ static inline void nlp_request_one(struct nlp_socket *s, uint8_t *request, size_
     }
 }
 
+/* Returns NLP_OK if what a writer has written is whole frames, one after another; else why not. */
+static inline uint32_t nlp_socket_checked(const struct nlp_writer *writer, struct nlp_answer *answer)
+{
+    struct nlp_part frame;
+    uint32_t result = writer->failed;
+    size_t at = 0;
+
+    while (result == NLP_OK)
+        result = nlp_frames_next(writer->buffer, writer->at, &at, &frame, &answer->fault);
+    return result == NLP_END ? (uint32_t)NLP_OK : result;
+}
+
 /* Sends the requests that a writer has written, one after the answer to another, and reads each answer to its end.
- * Gives each message of the answers to the function, if that is not NULL. Stops at the first answer that is not
- * done. Returns `answer->what`.
+ * Gives each message of the answers to the function, if that is not NULL; if it returns another number than 0, the
+ * rest of that answer is read and not given to it. Stops at the first answer that is not done: `answer->request` says
+ * which, and what was requested before is done. Returns `answer->what`.
  *
  * Sets in the header of each request the sequence number, the port and the flag NLM_F_REQUEST, and NLM_F_ACK unless
  * it is a dump. A request is a dump if its flags have both bits of NLM_F_DUMP; these are also those of
- * NLM_F_REPLACE | NLM_F_EXCL, which contradict each other. If the function returns another number than 0, the rest
- * of the answer is read and not given to it. Allocates the buffer of the socket: 32 KB, or the size of the largest
- * datagram. */
+ * NLM_F_REPLACE | NLM_F_EXCL, which contradict each other. Allocates the buffer of the socket: 32 KB, or the size of
+ * the largest datagram. For protocols that answer with the numbers of the request, as NETLINK_ROUTE and
+ * NETLINK_GENERIC do; NETLINK_AUDIT and NETLINK_FIB_LOOKUP do not. */
 NLP_NONNULL(1, 2, 5)
-static inline uint32_t nlp_request(struct nlp_socket *s, const struct nlp_writer *writer, nlp_on_message *on_message,
-                                   void *context, struct nlp_answer *answer)
+static inline uint32_t nlp_socket_request(struct nlp_socket *s, const struct nlp_writer *writer,
+                                          nlp_on_message *on_message, void *context, struct nlp_answer *answer)
 {
     struct nlp_part frame;
     size_t at = 0;
 
     memset(answer, 0, sizeof *answer);
-    if (writer->failed != NLP_OK) {
-        answer->what = NLP_ANSWER_FAILED;
-        answer->code = EINVAL;
+    answer->code = (int)nlp_socket_checked(writer, answer);
+    if (answer->code != NLP_OK)
+        return answer->what = NLP_ANSWER_UNWRITTEN;
+    if (s->is_busy) {
+        answer->code = EBUSY;
+        return answer->what = NLP_ANSWER_FAILED;
     }
+    s->is_busy = true;
     while (answer->what == NLP_ANSWER_DONE && at < writer->at) {
         answer->request = at;
-        if (nlp_frames_next(writer->buffer, writer->at, &at, &frame, &answer->fault) != NLP_OK) {
-            answer->what = NLP_ANSWER_FAILED;
-            answer->code = EINVAL;
-        } else {
-            nlp_request_one(s, writer->buffer + frame.offset, frame.size, on_message, context, answer);
-        }
+        if (nlp_frames_next(writer->buffer, writer->at, &at, &frame, &answer->fault) == NLP_OK)
+            nlp_socket_request_one(s, writer->buffer + frame.offset, frame.size, on_message, context, answer);
     }
+    s->is_busy = false;
     return answer->what;
 }
 
-/* Returns a text that says how the answers ended: that of the kernel or of the errno, or another. It is valid as long
- * as `*answer` is. */
+/* Returns a text that says how the answers ended: that of the kernel or of the errno, or another. It is valid until
+ * `*answer` changes, or strerror is called. */
 NLP_NONNULL(1)
 static inline const char *nlp_answer_text(const struct nlp_answer *answer)
 {
@@ -412,6 +495,8 @@ static inline const char *nlp_answer_text(const struct nlp_answer *answer)
         return "no answer in time";
     case NLP_ANSWER_MALFORMED:
         return "a frame is malformed";
+    case NLP_ANSWER_UNWRITTEN:
+        return "the requests are not written";
     default:
         return answer->text[0] != 0 ? answer->text : strerror(answer->code);
     }

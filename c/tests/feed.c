@@ -1,6 +1,6 @@
 /* Takes the place of the socket of a program: recv and recvmsg return the datagrams in the files that FEED names,
- * separated by colons, each once; a datagram that recvmsg peeks at stays. The names ENOBUFS and EAGAIN make them fail
- * with that errno. Ends the program with status 99 if it receives again after the last one. */
+ * separated by colons, each once; a datagram that recvmsg peeks at stays. The names ENOBUFS and EIO make them fail
+ * with that errno. Nothing is there before a request was sent. Ends the program with status 99 if it receives again after the last one. */
 #define _DEFAULT_SOURCE
 #include <errno.h>
 #include <stdbool.h>
@@ -45,11 +45,14 @@ int setsockopt(int fd, int level, int name, const void *value, socklen_t size)
     return 0;
 }
 
+static bool is_asked;
+
 ssize_t send(int fd, const void *bytes, size_t size, int flags)
 {
     (void)fd;
     (void)bytes;
     (void)flags;
+    is_asked = true;
     return (ssize_t)size;
 }
 
@@ -68,8 +71,8 @@ static bool is_there(void)
         fprintf(stderr, "it receives again\n");
         _exit(99);
     }
-    if (strcmp(name, "ENOBUFS") == 0 || strcmp(name, "EAGAIN") == 0) {
-        errno = name[1] == 'N' ? ENOBUFS : EAGAIN;
+    if (strcmp(name, "ENOBUFS") == 0 || strcmp(name, "EIO") == 0) {
+        errno = name[1] == 'N' ? ENOBUFS : EIO;
         return false;
     }
     FILE *file = fopen(name, "rb");
@@ -104,6 +107,10 @@ ssize_t recv(int fd, void *bytes, size_t size, int flags)
 ssize_t recvmsg(int fd, struct msghdr *head, int flags)
 {
     (void)fd;
+    if (!is_asked) {
+        errno = EAGAIN;
+        return -1;
+    }
     memset(head->msg_name, 0, head->msg_namelen);
     return taken(head->msg_iov->iov_base, head->msg_iov->iov_len, flags);
 }

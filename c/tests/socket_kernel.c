@@ -65,7 +65,7 @@ static uint32_t dumped(struct nlp_socket *s, const size_t *stop, struct nlp_answ
     const struct nlp_writer writer = asked(NLM_F_DUMP, 0, false);
     for (int i = 0; i < 5; i++) {
         links = 0;
-        if (nlp_request(s, &writer, count, (void *)stop, answer) != NLP_ANSWER_INTERRUPTED)
+        if (nlp_socket_request(s, &writer, count, (void *)stop, answer) != NLP_ANSWER_INTERRUPTED)
             break;
     }
     return answer->what;
@@ -84,24 +84,26 @@ int main(void)
     nlp_socket_close(&unknown);
     expect("a socket", nlp_socket_open(&s, NETLINK_ROUTE) == 0 && s.port != 0 && s.lacks < 8);
     expect("it is closed on exec", (fcntl(nlp_socket_fd(&s), F_GETFD) & FD_CLOEXEC) != 0);
-    expect("a queue and a limit", nlp_socket_set_buffer(&s, 1 << 20) == 0 && nlp_socket_set_limit(&s, 2000) == 0);
+    expect("a queue", nlp_socket_set_buffer(&s, 1 << 20) == 0);
+    nlp_socket_set_limit(&s, 2000);
     for (int i = 0; i < 5 && (dumped(&s, NULL, &answer) != NLP_ANSWER_DONE || links != named()); i++)
         continue;
     expect("the links", answer.what == NLP_ANSWER_DONE && links == named());
     expect("a dump that is stopped", dumped(&s, &one, &answer) == NLP_ANSWER_STOPPED && answer.code == 7 && links == 1);
     expect("a dump after it", dumped(&s, NULL, &answer) == NLP_ANSWER_DONE && links > 0);
     writer = asked(0, 0x7fffffff, false);
-    expect("a link that does not exist", nlp_request(&s, &writer, count, NULL, &answer) == NLP_ANSWER_REJECTED && answer.code == ENODEV);
+    expect("a link that does not exist", nlp_socket_request(&s, &writer, count, NULL, &answer) == NLP_ANSWER_REJECTED && answer.code == ENODEV);
     expect("its text", strcmp(nlp_answer_text(&answer), answer.text[0] != 0 ? answer.text : strerror(ENODEV)) == 0);
     writer = asked(0, 1, false);
     links = 0;
-    expect("the first link", nlp_request(&s, &writer, count, NULL, &answer) == NLP_ANSWER_DONE && links == 1);
+    expect("the first link", nlp_socket_request(&s, &writer, count, NULL, &answer) == NLP_ANSWER_DONE && links == 1);
     writer = asked(NLM_F_DUMP, 0, true);
-    const bool is_told = nlp_request(&s, &writer, count, NULL, &answer) == NLP_ANSWER_REJECTED && answer.offset == 32 && answer.kind == IFLA_EXT_MASK;
+    const bool is_told = nlp_socket_request(&s, &writer, count, NULL, &answer) == NLP_ANSWER_REJECTED && answer.offset == 32 && answer.kind == IFLA_EXT_MASK;
     expect("the attribute concerned", s.lacks != 0 || is_told);
     expect("a group", nlp_socket_join(&s, RTNLGRP_LINK) == 0 && nlp_socket_leave(&s, RTNLGRP_LINK) == 0);
     expect("a group that does not exist", nlp_socket_join(&s, 100000) != 0);
-    expect("no datagram within the limit", nlp_socket_set_limit(&s, 20) == 0 && nlp_socket_receive(&s, bytes, sizeof bytes, &size) == EAGAIN);
+    nlp_socket_set_limit(&s, 20);
+    expect("no datagram within the limit", nlp_socket_receive(&s, bytes, sizeof bytes, &size) == EAGAIN);
     nlp_socket_close(&s);
     expect("a socket that is closed", nlp_socket_join(&s, RTNLGRP_LINK) == EBADF);
     printf("%d passed, %d failed\n", passed, failed);

@@ -203,7 +203,8 @@ fn other_datagrams_do_not_prolong_the_time_limit() {
 #[test]
 fn each_request_has_the_time_limit() {
     let mut socket = playing((1..=5).map(acknowledged));
-    (socket.limit, socket.wire.pause) = (Some(Duration::from_millis(20)), Duration::from_millis(6));
+    // The pauses of all together exceed the limit, and a slow machine keeps that of one.
+    (socket.limit, socket.wire.pause) = (Some(Duration::from_millis(600)), Duration::from_millis(180));
     request(&mut socket, &[0; 5]).unwrap();
     assert!(matches!(answer(&mut socket), (_, None)));
 }
