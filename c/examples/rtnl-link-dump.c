@@ -1,6 +1,6 @@
-/* Prints the links of this machine: rtnl-link-dump of libmnl's examples, over netlink_packet_socket.h
- * alone. Ends with status 1, and prints why, if the answer is an error, malformed, incomplete, or torn
- * by a change of the links. */
+/* Prints the links of this machine: rtnl-link-dump of libmnl's examples, over
+ * netlink_packet_socket.h alone. Ends with status 1, and prints why, if the answer is an error,
+ * malformed, incomplete, or torn by a change of the links. */
 #include <linux/if.h>
 #include <linux/if_link.h>
 #include <linux/rtnetlink.h>
