@@ -3,10 +3,11 @@
 
 All code is in fences, and each fence names its language:
 
-rattle, antt, c, rust  The block must occur word for word, apart from its indentation, in the file that the nearest link
+rattle, antt, c, rust, python
+                       The block must occur word for word, apart from its indentation, in the file that the nearest link
                        above it names. A link to a Markdown file or to a folder does not count. c/test compiles the
-                       first `c` and the first `rust` block of README.md, and the first `c` block of docs/C.md, so this
-                       script skips those three.
+                       first `c` and the first `rust` block of README.md, compiles the first `c` block of docs/C.md, and
+                       runs its first `python` block, so this script skips those four.
 console                Each line `$ COMMAND` is followed by exactly the lines that the command prints: its standard
                        output and, if it fails, its standard error. bash runs the command at the top of the repository.
                        `./netlink_NAME` in it runs the built program and ignores `--quick` and `--verbose`.
@@ -38,10 +39,10 @@ from edit import edits_of  # noqa: E402
 # The documents that are not checked yet.
 EXEMPT = set()
 
-QUOTED = {"rattle", "antt", "c", "rust"}
+QUOTED = {"rattle", "antt", "c", "rust", "python"}
 
-# The languages of which c/test compiles the first block, by document.
-COMPILED = {"README.md": {"c", "rust"}, "docs/C.md": {"c"}}
+# The languages of which c/test compiles or runs the first block, by document.
+TRIED = {"README.md": {"c", "rust"}, "docs/C.md": {"c", "python"}}
 
 FENCE = re.compile(r" *(`{3,}|~{3,})([^`]*)")
 LIST_ITEM = re.compile(r" *(?:[-*+]|\d+[.)]) +(?=\S)")
@@ -142,7 +143,7 @@ def wrong_commands(block):
 
 def checks_of(document):
     """Yields for each check of a document its line number, and what is wrong or None."""
-    source, skipped = None, {*COMPILED.get(document, ())}
+    source, skipped = None, {*TRIED.get(document, ())}
     for number, kind, part in parts_of(text_of(document)):
         if kind == "prose":
             for path, wrong in links_of(document, part):
@@ -158,7 +159,7 @@ def checks_of(document):
         elif part[0] == "console":
             yield from ((number + at, wrong) for at, wrong in wrong_commands(part[1]))
         elif part[0] != "text":
-            yield number, f"the fence must name rattle, antt, c, rust, console or text, and has `{part[0]}`"
+            yield number, f"the fence must name rattle, antt, c, rust, python, console or text, and has `{part[0]}`"
 
 
 def wrong_sizes():
