@@ -99,7 +99,7 @@ def refusals():
     yield "a text and an offset", SET_MTU, refused(22, text, at_32), (22, words, 32, MTU, None)
     yield "the offset of a nest", SET_KIND, refused(95, at_32), (95, None, 32, LINK_INFO, None)
     yield "an offset in a nest", SET_KIND, refused(95, at_36), (95, None, 36, LINK_KIND, None)
-    yield "an offset behind the request", SET_MTU, refused(22, at_40), (22, None, 40, None, None)
+    yield "an offset after the request", SET_MTU, refused(22, at_40), (22, None, 40, None, None)
     yield "a missing attribute", ONE_LINK, refused(22, attribute(MISSING, u32(3))), (22, None, None, None, 3)
     yield "a refused dump", ALL_LINKS, refused(95), (95, *nothing)
     yield "a dump that fails later", ALL_LINKS, late, (12, words, None, None, None)

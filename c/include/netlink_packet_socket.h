@@ -224,7 +224,7 @@ static inline int nlp_socket_receive_since(const struct nlp_socket *s, uint8_t *
 }
 
 /* Receives one datagram of the kernel; those of other senders are skipped. Returns 0, and `*size` is its size; else
- * an errno, and `*size` is 0 but for EMSGSIZE. EMSGSIZE: it has `*size` bytes, more than `capacity`, and can still be
+ * an errno, and `*size` is 0, except at EMSGSIZE. EMSGSIZE: it has `*size` bytes, more than `capacity`, and can still be
  * received. ENOBUFS: the queue was full, and events are lost, so what is known must be dumped again. EAGAIN: no
  * datagram came within the limit, or, if the socket does not block, none is there. */
 NLP_NONNULL(1, 4)

@@ -1,5 +1,5 @@
-/* Tests netlink_packet_socket.h without a kernel: the calls of the system are replaced by functions that hand out
- * datagrams, senders and errnos, and that keep what they were passed. */
+/* Tests netlink_packet_socket.h without a kernel: functions that return datagrams, senders and errnos, and that
+ * keep what they were passed, replace the calls of the system. */
 #define _DEFAULT_SOURCE
 #include "netlink_packet_socket.h"
 
@@ -45,7 +45,7 @@ static ssize_t fails(int error)
     return -1;
 }
 
-/* Hands out the next step. A call never waits. */
+/* Returns the next step. A call never waits. */
 ssize_t __wrap_recvmsg(int fd, struct msghdr *head, int flags)
 {
     struct sockaddr_nl *from = head->msg_name;

@@ -29,7 +29,7 @@ const DUMP: u16 = 0x300;
 /// A datagram and the port of its sender, or an errno.
 type Step = Result<(Vec<u8>, u32), i32>;
 
-/// Hands out the steps, and then `last` again and again.
+/// Returns the steps, and then `last` again and again.
 struct Played {
     steps: VecDeque<Step>,
     last: Step,
