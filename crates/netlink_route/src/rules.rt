@@ -65,6 +65,18 @@ pub const FRA_SPORT_RANGE: u16 = 23;
 
 pub const FRA_DPORT_RANGE: u16 = 24;
 
+pub const FRA_DSCP: u16 = 25;
+
+pub const FRA_FLOWLABEL: u16 = 26;
+
+pub const FRA_FLOWLABEL_MASK: u16 = 27;
+
+pub const FRA_SPORT_MASK: u16 = 28;
+
+pub const FRA_DPORT_MASK: u16 = 29;
+
+pub const FRA_DSCP_MASK: u16 = 30;
+
 const TYPES: &'static [u16] = &[RTM_NEWRULE, RTM_DELRULE, RTM_GETRULE];
 
 const FIELDS: &'static [Field] = &[
@@ -114,6 +126,12 @@ const ROWS: &'static [Row] = &[
     (TOP, FRA_IP_PROTO, "FRA_IP_PROTO", Shape::U8),
     (TOP, FRA_SPORT_RANGE, "FRA_SPORT_RANGE", Shape::MinLen(4)),
     (TOP, FRA_DPORT_RANGE, "FRA_DPORT_RANGE", Shape::MinLen(4)),
+    (TOP, FRA_DSCP, "FRA_DSCP", Shape::U8),
+    (TOP, FRA_FLOWLABEL, "FRA_FLOWLABEL", Shape::Be32),
+    (TOP, FRA_FLOWLABEL_MASK, "FRA_FLOWLABEL_MASK", Shape::Be32),
+    (TOP, FRA_SPORT_MASK, "FRA_SPORT_MASK", Shape::U16),
+    (TOP, FRA_DPORT_MASK, "FRA_DPORT_MASK", Shape::U16),
+    (TOP, FRA_DSCP_MASK, "FRA_DSCP_MASK", Shape::U8),
 ];
 
 /// The family of routing rules.
