@@ -1,21 +1,24 @@
 #!/usr/bin/env python3
 """Captures what programs ask of route netlink, and what the kernel answers, in a network namespace of its own.
 
-    unshare -nm python3 programs.py      (as root; needs iproute2, strace, busybox, dnsmasq-base and bird2)
+    unshare -nm python3 programs.py programs     (as root; needs iproute2, strace, busybox, dnsmasq-base and bird2)
+    unshare -nm python3 programs.py kinds        (as root; needs iproute2, strace and util-linux)
 
-The namespace holds made-up interfaces, addresses, routes, neighbours and rules alone. Runs each program under strace,
-which prints the bytes of its system calls. Writes programs.tsv beside itself: the words of the program, sent, received
-or event, and the bytes of a datagram in hexadecimal. An event is a notification on a socket of this script.
+The namespace holds made-up interfaces, addresses, routes, neighbours and rules alone. Runs each program of a list under
+strace, which prints the bytes of its system calls. Writes programs.tsv or kinds.tsv beside itself: the words of the
+program, sent, received or event, and the bytes of a datagram in hexadecimal. An event is a notification on a socket of
+this script. A kernel without a kind of link refuses the request for it, which is kept all the same.
 """
 
 import os
 import re
 import socket
 import subprocess
+import sys
 import tempfile
 import time
 
-OUT = os.path.join(os.path.dirname(os.path.abspath(__file__)), "programs.tsv")
+HERE = os.path.dirname(os.path.abspath(__file__))
 CALL = re.compile(r"(?:\d+ +)?(sendto|sendmsg|recvmsg|recvfrom)\((\d+), ")
 SOCKET = re.compile(r"(?:\d+ +)?socket\(AF_NETLINK, \S+, NETLINK_ROUTE\) = (\d+)")
 DUMP = re.compile(r" \| ([0-9a-f]{5})  ((?:[0-9a-f]{2} +)+)")
@@ -134,6 +137,57 @@ timeout 2 dnsmasq --no-daemon --conf-file=/dev/null --no-resolv --no-hosts --use
 timeout 3 bird -f -c "$BIRD" -s "$BIRD.socket" -P "$BIRD.pid"
 """
 
+# Kinds of links, and attributes that no command above sends.
+KINDS = r"""
+ip link add veth-a address 02:00:00:00:00:0a type veth peer name veth-b address 02:00:00:00:00:0b
+ip link add link veth-b name vlan-0 type vlan id 42
+ip link add link veth-b name vlan-1 type vlan protocol 802.1ad id 100 reorder_hdr off gvrp on mvrp on loose_binding on ingress-qos-map 1:2 3:4 egress-qos-map 5:6
+ip link add bond-0 type bond mode active-backup miimon 100 active_slave veth-a
+ip link add bond-1 type bond mode active-backup updelay 200 downdelay 300 use_carrier 1 primary veth-a primary_reselect better fail_over_mac active resend_igmp 2 num_grat_arp 3 all_slaves_active 1 peer_notify_delay 400
+ip link add bond-2 type bond mode 802.3ad xmit_hash_policy layer3+4 min_links 1 lacp_rate fast lacp_active on ad_select bandwidth ad_actor_sys_prio 7 ad_user_port_key 5 ad_actor_system 02:00:00:00:00:99
+ip link add bond-3 type bond mode balance-rr arp_interval 100 arp_ip_target 192.0.2.1,192.0.2.2 arp_validate all arp_all_targets any lp_interval 4 packets_per_slave 5 tlb_dynamic_lb 0 ns_ip6_target 2001:db8::1 arp_missed_max 6
+ip link add gre-0 type gre local 192.0.2.1 remote 198.51.100.1 ttl 64
+ip link add gre-1 type gre local 192.0.2.1 remote 198.51.100.1 ikey 7 okey 8 iseq ocsum ttl inherit tos 0x10 nopmtudisc dev veth-b encap fou encap-sport 5554 encap-dport 5555 encap-csum fwmark 9
+ip link add gretap-0 type gretap local 192.0.2.1 remote 198.51.100.1 ttl 64 nopmtudisc ignore-df
+ip link add gretap-1 type gretap external
+ip link add ipip-0 type ipip local 192.0.2.1 remote 198.51.100.1 ttl 64
+ip link add ipip-1 type ipip mode any local 192.0.2.1 remote 198.51.100.1 tos 0x10 dev veth-b encap gue encap-sport 5554 encap-dport 5555 encap-remcsum fwmark 9
+ip link add ipip-2 type ipip external
+ip link add sit-0 type sit local 192.0.2.1 remote 198.51.100.1 ttl 64
+ip link add sit-1 type sit mode any local 192.0.2.1 remote any ttl 64 isatap 6rd-prefix 2001:db8::/32 6rd-relay_prefix 192.0.2.0/24
+ip link add link veth-b name macvlan-0 address 02:00:00:00:00:03 type macvlan mode source macaddr set 02:00:00:00:00:77 02:00:00:00:00:78 bcqueuelen 500
+ip link add link veth-a name macvtap-0 address 02:00:00:00:00:04 type macvtap mode private
+ip link add vxlan-0 address 02:00:00:00:00:05 type vxlan id 42 dstport 4789 local 2001:db8::1 remote 2001:db8::2 dev veth-b tos 0x10 ageing 30 maxaddress 9 srcport 1000 2000 proxy rsc l2miss l3miss udpcsum udp6zerocsumtx udp6zerocsumrx remcsumtx remcsumrx gbp flowlabel 0x12 df set
+ip link add vxlan-1 type vxlan external vnifilter dstport 4790 gpe
+ip link add vxlan-2 address 02:00:00:00:00:06 type vxlan id 43 dstport 4791 ttl inherit
+ip link add bridge-0 address 02:00:00:00:00:01 type bridge ageing_time 2000 priority 9 group_fwd_mask 8 group_address 01:80:c2:00:00:0e mcast_router 2 mcast_snooping 1 mcast_query_use_ifaddr 1 mcast_querier 1 mcast_hash_elasticity 5 mcast_hash_max 512
+ip link set bridge-0 type bridge mcast_last_member_count 3 mcast_startup_query_count 4 mcast_last_member_interval 200 mcast_membership_interval 300 mcast_querier_interval 400 mcast_query_interval 500 mcast_query_response_interval 600 mcast_startup_query_interval 700
+ip link set bridge-0 type bridge mcast_stats_enabled 1 mcast_igmp_version 3 mcast_mld_version 2 nf_call_iptables 1 nf_call_ip6tables 1 nf_call_arptables 1 no_linklocal_learn 1
+ip link set bridge-0 type bridge vlan_protocol 802.1ad vlan_default_pvid 5 vlan_stats_enabled 1 vlan_stats_per_port 1
+ip link set bridge-0 type bridge fdb_flush
+ip tuntap add tap-0 mode tap user 1000 group 1000 multi_queue vnet_hdr
+ip link set veth-a master bridge-0
+ip link set veth-b protodown on
+ip link set veth-b protodown_reason 3 on
+ip -d link show #received
+ip link show a-name-of-more-than-fifteen-bytes
+unshare -n sleep 1 & sleep 0.2; ip link set vxlan-2 netns $!; kill $!
+ip addr add 192.0.2.1/24 dev veth-b
+ip link set veth-b up
+ip route add 198.51.112.0/24 encap ip id 5 dst 192.0.2.9 via 192.0.2.254 dev veth-b
+ip route add 198.51.113.0/24 ttl-propagate enabled via 192.0.2.254
+ip -f mpls route add 100 as 200 via inet 192.0.2.254
+ip route get 198.51.100.9 ipproto tcp sport 80 dport 443 #received
+ip nexthop add id 9 fdb via 192.0.2.9
+bridge fdb add 02:00:00:00:00:bb dev vxlan-0 nhid 9
+bridge fdb add 02:00:00:00:00:cc dev vxlan-1 dst 192.0.2.45 src_vni 5 vni 6
+bridge fdb add 02:00:00:00:00:dd dev veth-a master vlan 5
+bridge fdb show #received
+bridge fdb flush dev bridge-0 brport veth-a nopermanent extern_learn
+ip netns list-id target-nsid 5
+"""
+LISTS = {"programs": COMMANDS, "kinds": KINDS}
+
 BIRD = """router id 192.0.2.1;
 protocol device { scan time 1; }
 protocol direct { ipv4; ipv6; }
@@ -164,6 +218,7 @@ def datagrams_of(trace):
 
 
 def main():
+    name = sys.argv[1]
     events = socket.socket(socket.AF_NETLINK, socket.SOCK_RAW, 0)
     events.bind((0, 0))
     events.setblocking(False)
@@ -176,7 +231,7 @@ def main():
         with open(bird, "w") as file:
             file.write(BIRD)
         environment = {**os.environ, "GETIFADDRS": GETIFADDRS, "BIRD": bird}
-        for line in COMMANDS.strip().split("\n"):
+        for line in LISTS[name].strip().split("\n"):
             words, _, kept = line.partition(" #")
             trace = os.path.join(folder, "trace")
             calls = "trace=socket,sendto,sendmsg,recvmsg,recvfrom"
@@ -192,7 +247,7 @@ def main():
                     rows.append((words, "event", events.recv(65536)))
                 except BlockingIOError:
                     break
-    with open(OUT, "w") as file:
+    with open(os.path.join(HERE, f"{name}.tsv"), "w") as file:
         file.write("# words of the program\tsent, received or event\tbytes\n")
         for words, way, data in rows:
             file.write(f"{words}\t{way}\t{data.hex()}\n")

@@ -505,10 +505,12 @@ def live_checks(program):
 
 
 def padding_error(program):
-    """Passes all datagrams of examples/captured/programs.tsv as packets, with the zeros that `ip` sends after some
-    requests. Returns what differs from the lines of the same messages as a stream, without the zeros, or None."""
-    with open(os.path.join(TOP, "examples", "captured", "programs.tsv"), encoding="utf-8") as file:
-        datagrams = [bytes.fromhex(line.split("\t")[2]) for line in file if not line.startswith("#")]
+    """Passes all datagrams of the files of programs in examples/captured as packets, with the zeros that `ip` sends after
+    some requests. Returns what differs from the lines of the same messages as a stream, without the zeros, or None."""
+    datagrams = []
+    for name in ("programs.tsv", "kinds.tsv"):
+        with open(os.path.join(TOP, "examples", "captured", name), encoding="utf-8") as file:
+            datagrams += [bytes.fromhex(line.split("\t")[2]) for line in file if not line.startswith("#")]
     unpadded = [without_padding(it) for it in datagrams]
     stream = run([program], b"".join(padded(it) for it in unpadded))
     packets = run([program], pcap_header() + b"".join(pcap_packet(it) for it in datagrams))
