@@ -23,7 +23,7 @@ SHOWS = "tests::captured::standard_input_is_shown"
 RESULT = b"\ntest result: ok\n"
 TABLE = os.path.join(TOP, "tests", "kinds.txt")
 
-INTEGERS = {"u8": 1, "u16": 2, "u32": 4, "u64": 8, "s32": 4, "be16": 2, "be64": 8}
+INTEGERS = {"u8": 1, "u16": 2, "u32": 4, "u64": 8, "s32": 4, "be16": 2, "be32": 4, "be64": 8}
 NESTED, QUERY = 0x8000, 0x4000  # NLA_F_NESTED and the other flag bit, NLA_F_NET_BYTEORDER
 INFO_KIND, INFO_DATA, GATEWAY = 1, 2, 5  # IFLA_INFO_KIND, IFLA_INFO_DATA, RTA_GATEWAY
 
@@ -59,6 +59,8 @@ def text_of(form, value):
         return str(int.from_bytes(value, order, signed=form.startswith("s")))
     if form == "string":
         return value.removesuffix(b"\0").decode()
+    if form == "flag":
+        return "set"
     return value.hex() or "-"
 
 
@@ -67,6 +69,8 @@ def values(kind, form, size):
     count = bytes(range(1, 256))
     if form == "bytes":
         return [b"", count[:3], count[:16]], []
+    if form == "flag":
+        return [b""], [(b"\1", f"attribute {kind} has a value of 1 bytes instead of 0")]
     if form == "string":
         return [b"", b"name", b"name\0"], [(b"na\0me", f"attribute {kind} is a string with a NUL before its last byte")]
     if form == "address":
