@@ -7,6 +7,7 @@ mod captured;
 mod errors;
 mod getters;
 mod growth;
+mod link_kinds;
 mod mark;
 mod memory_not_asked;
 mod memory_refused;
