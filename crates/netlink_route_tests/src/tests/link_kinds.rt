@@ -3,15 +3,13 @@
 
 use crate::tests::samples::decoded;
 use netlink_family::{BlockView, Value};
-use netlink_route::RouteMessage;
 use netlink_route::link_kinds::*;
 use netlink_route::links::{IFLA_INFO_DATA, IFLA_LINKINFO};
 use std::test::Fail;
 
 /// Returns the data of the kind of a link.
-fn data<'a>(message: &'a RouteMessage) -> Option<BlockView<'a>> {
-    let info = message.view().nest(IFLA_LINKINFO);
-    info.and_then(|info| info.nest(IFLA_INFO_DATA))
+fn data<'a>(link: &BlockView<'a>) -> Option<BlockView<'a>> {
+    link.nest(IFLA_LINKINFO)?.nest(IFLA_INFO_DATA)
 }
 
 /// `protocol 802.1ad id 100 reorder_hdr off gvrp on mvrp on loose_binding on ingress-qos-map 1:2 3:4
@@ -33,7 +31,7 @@ const VLAN_AD: [u8; 104] = [
 #[test]
 fn the_data_of_a_vlan_is_found(rt: HostRuntime) -> Result<(), Fail> {
     let message = decoded(rt.alloc(), 16, &VLAN_AD)?;
-    match data(&message) {
+    match data(&message.view()) {
         Some(vlan) => {
             assert!(rt; vlan.be16(IFLA_VLAN_PROTOCOL) == Some(0x88a8));
             assert!(rt; vlan.u16(IFLA_VLAN_ID) == Some(100));
@@ -59,7 +57,7 @@ const BONDED: [u8; 56] = [
 #[test]
 fn the_data_of_a_bond_is_found(rt: HostRuntime) -> Result<(), Fail> {
     let message = decoded(rt.alloc(), 16, &BONDED)?;
-    match data(&message) {
+    match data(&message.view()) {
         Some(bond) => {
             assert!(rt; bond.u8(IFLA_BOND_MODE) == Some(1));
             assert!(rt; bond.u32(IFLA_BOND_MIIMON) == Some(100));
@@ -97,7 +95,7 @@ const GRE_KEYS: [u8; 152] = [
 #[test]
 fn the_data_of_gre_is_found(rt: HostRuntime) -> Result<(), Fail> {
     let message = decoded(rt.alloc(), 16, &GRE_KEYS)?;
-    match data(&message) {
+    match data(&message.view()) {
         Some(gre) => {
             assert!(rt; gre.be32(IFLA_GRE_IKEY) == Some(7));
             assert!(rt; gre.be16(IFLA_GRE_IFLAGS) == Some(0x3000));
@@ -125,7 +123,7 @@ const GRETAP_METADATA: [u8; 40] = [
 #[test]
 fn a_flag_of_gretap_is_found(rt: HostRuntime) -> Result<(), Fail> {
     let message = decoded(rt.alloc(), 16, &GRETAP_METADATA)?;
-    match data(&message) {
+    match data(&message.view()) {
         Some(gretap) => {
             assert!(rt; gretap.value(IFLA_GRE_COLLECT_METADATA) == Some(Value::Flag));
             assert!(rt; gretap.value(IFLA_GRE_LOCAL) == None);
@@ -158,7 +156,7 @@ const IPIP_ENDS: [u8; 128] = [
 #[test]
 fn the_data_of_ipip_is_found(rt: HostRuntime) -> Result<(), Fail> {
     let message = decoded(rt.alloc(), 16, &IPIP_ENDS)?;
-    match data(&message) {
+    match data(&message.view()) {
         Some(ipip) => {
             assert!(rt; ipip.exact(IFLA_IPTUN_LOCAL) == Some([192, 0, 2, 1].as_slice()));
             assert!(rt; ipip.exact(IFLA_IPTUN_REMOTE) == Some([198, 51, 100, 1].as_slice()));
@@ -198,7 +196,7 @@ const SIT_6RD: [u8; 172] = [
 #[test]
 fn the_data_of_sit_is_found(rt: HostRuntime) -> Result<(), Fail> {
     let message = decoded(rt.alloc(), 16, &SIT_6RD)?;
-    match data(&message) {
+    match data(&message.view()) {
         Some(sit) => {
             assert!(rt; sit.u16(IFLA_IPTUN_FLAGS) == Some(1));
             assert!(rt; sit.exact(IFLA_IPTUN_6RD_PREFIX) == Some(&SIT_6RD[132..148]));
