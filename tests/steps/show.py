@@ -56,7 +56,7 @@ ADDRESS_FLAGS = [(0x2, "nodad"), (0x40, "tentative")]
 ERRNO = [*range(1, 41), *range(42, 58), *range(59, 134)]
 
 BAD = "a message is malformed"
-USAGE = (2, b"", "usage: netlink_show < FILE")
+USAGE = (2, b"", "usage: netlink_show [--label] < FILE")
 LINE = b"7: a: <> link/netrom\n"
 
 
@@ -415,7 +415,9 @@ def rows():
     yield row(data.hex(), [], (0, lines, ""), data)
     data = time(1, 2) + MALFORMED[0][0]
     yield row(data.hex(), [], (1, f"[1.000002] byte 24: {MALFORMED[0][1]}\n".encode(), BAD), data)
-    for words in (["links"], [""], ["-h"], ["a", "b"], [b"\xff"]):
+    data = in_packets(time(1, 2)) + pcap_packet(link(NAMED) + frame(1, b""))
+    yield row(f"{data.hex()} with a label", ["--label"], (0, b"[1.000002] [LINK]" + LINE + b"noop\n", ""), data)
+    for words in (["links"], [""], ["-h"], ["a", "b"], [b"\xff"], ["label"], ["--labels"], ["--label", "--label"]):
         yield row(f"arguments {words}", words, USAGE, link(NAMED))
 
 

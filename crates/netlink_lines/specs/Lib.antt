@@ -3,6 +3,7 @@ pub mod Families
 pub mod Format
 pub mod Lines
 pub mod Messages
+pub mod Options
 pub mod Packet
 pub mod Requests
 pub mod Run

@@ -10,6 +10,7 @@
 //! | word of a line | function | definition |
 //! |---|---|---|
 //! | `[1700000000.000042] ` | `time::time_text` | `Time::time_text` |
+//! | `[LINK]` | `options::labelled` | `Options::labelled` |
 //! | `interrupted`, a line before | `messages::marked` | `Ack::marked_if` |
 //! | `request `, or `request delete` for `Deleted` | `requests::request_line` | `Requests::request_line` |
 //! | the line of one of the three crates | `line::line_of` | `Lines::route_line` |
@@ -42,6 +43,7 @@ mod families;
 pub mod laws;
 mod line;
 mod messages;
+mod options;
 mod packet;
 mod requests;
 mod runs;
@@ -50,7 +52,8 @@ mod system_errors;
 mod time;
 
 pub use crate::line::Line;
-pub use crate::runs::run;
+pub use crate::options::Options;
+pub use crate::runs::{run, run_with};
 pub use netlink_address_lines::address::address_text;
 pub use netlink_address_lines::neighbour::neighbour_text;
 pub use netlink_address_lines::neighbour_table::neighbour_table_text;

@@ -12,7 +12,7 @@ returns g c =
     c.flags.ensures.number ∙ ap (λ (b : Bor (List ℕ)). (header_of b.now).flags) c.new.ensures.keeps in
     record {
       lines =
-          has_lines (table_error g.F.Table) c.args.known.now c.args.at
+          has_lines (table_error g.F.Table) c.args.options c.args.known.now c.args.at
           c.args.frame.now (option_copied c.kernel_text-text.result) (shown_item c.meaning_of-item.result) c.flags.result
           (string_bytes c.in_ok-shown.shown.text, c.in_ok-shown.shown.is_malformed) c.marked.result c.meaning_of-item.ensures.item
           c.kernel_text-text.ensures.text flags c.in_ok-shown.ensures c.marked.ensures;
