@@ -39,6 +39,10 @@ ANSWERS = {
     "link-unknown-0": b"error -19 (No such device)\n",
     "type-unknown-0": b"error -95 (Operation not supported)\n",
     "bridge-ports-1": b"done\n",
+    "replies/option-short-0": b"error -34 (Numerical result out of range): Attribute failed policy validation"
+    b"; byte 68, attribute 18/2/5\n",
+    "replies/option-short-capped-0": b"error -34 (Numerical result out of range): Attribute failed policy validation"
+    b"; byte 68\n",
 }
 
 FLAGS = [(0x8, "LOOPBACK"), (0x2, "BROADCAST"), (0x1000, "MULTICAST"), (0x1, "UP")]

@@ -8,7 +8,7 @@ use Rattle.netlink_packet_core.specs.Header.{header_of, payload_of}
 use Rattle.netlink_packet_core.specs.Refusal.{refusal_text}
 use Rattle.netlink_replies.specs.Meaning.{Item, meaning}
 use Rattle.netlink_replies.specs.declared.reply.Reply.TheVariants.{Message, Done, Acknowledged, Rejected, Overrun, Other}
-use Rattle.netlink_lines.specs.Ack.{IsText, ack_attributes, marked_if}
+use Rattle.netlink_lines.specs.Ack.{IsWords, marked_if}
 use Rattle.netlink_lines.specs.Families.{is_foreign}
 use Rattle.netlink_lines.specs.Lines.{done_line, error_line, known_by, route_line}
 use Rattle.netlink_lines.specs.Options.{labelled}
@@ -75,28 +75,28 @@ own_lines check options known at frame =
     if (header_of frame).message_type == 15 then wrong_time at (payload_of frame)
     else family_lines options known at frame (check (header_of frame).message_type (payload_of frame))
 
--- a frame by what it means, and by the kernel's text in it
-abbrev pub item_lines : Check → Options → List Known → ℕ → List ℕ → Option (List ℕ) → Option Item → Lines
-item_lines check options known at frame text None = good (codes "noop\n")
-item_lines check options known at frame text (Some (Err error)) = bad at (cause_text error)
-item_lines check options known at frame text (Some (Ok (Done code attributes))) = good (done_line code text)
-item_lines check options known at frame text (Some (Ok (Acknowledged attributes))) = good (error_line (pos 0) text)
-item_lines check options known at frame text (Some (Ok (Rejected code request attributes))) = good (error_line code text)
-item_lines check options known at frame text (Some (Ok Overrun)) = good (codes "overrun\n")
-item_lines check options known at frame text (Some (Ok (Message whole))) = own_lines check options known at frame
-item_lines check options known at frame text (Some (Ok (Other whole))) = own_lines check options known at frame
+-- a frame by what it means, and by what the kernel says in it
+abbrev pub item_lines : Check → Options → List Known → ℕ → List ℕ → List ℕ → Option Item → Lines
+item_lines check options known at frame words None = good (codes "noop\n")
+item_lines check options known at frame words (Some (Err error)) = bad at (cause_text error)
+item_lines check options known at frame words (Some (Ok (Done code attributes))) = good (done_line code words)
+item_lines check options known at frame words (Some (Ok (Acknowledged attributes))) = good (error_line (pos 0) words)
+item_lines check options known at frame words (Some (Ok (Rejected code request attributes))) = good (error_line code words)
+item_lines check options known at frame words (Some (Ok Overrun)) = good (codes "overrun\n")
+item_lines check options known at frame words (Some (Ok (Message whole))) = own_lines check options known at frame
+item_lines check options known at frame words (Some (Ok (Other whole))) = own_lines check options known at frame
 
--- the lines of the frame of a message at this offset, by the known names of links and the kernel's
--- text in it
-abbrev pub frame_lines : Check → Options → List Known → ℕ → List ℕ → Option (List ℕ) → Lines
-frame_lines check options known at frame text =
-    marked_if (header_of frame).flags (item_lines check options known at frame text (meaning frame))
+-- the lines of the frame of a message at this offset, by the known names of links and what the kernel
+-- says in it
+abbrev pub frame_lines : Check → Options → List Known → ℕ → List ℕ → List ℕ → Lines
+frame_lines check options known at frame words =
+    marked_if (header_of frame).flags (item_lines check options known at frame words (meaning frame))
 
 -- the frame of a message at this offset has these lines
 abbrev pub HasLines : Check → Options → List Known → ℕ → List ℕ → Lines → Type 0
 HasLines check options known at frame lines =
-    (text : Option (List ℕ)) × IsText (ack_attributes (meaning frame)) text
-    × (lines ≡ frame_lines check options known at frame text)
+    (words : List ℕ) × IsWords (meaning frame) words
+    × (lines ≡ frame_lines check options known at frame words)
 
 -- ---- what the messages so far leave to the next
 
@@ -142,18 +142,18 @@ unless_time (Some time) lines = good []
 
 -- ---- a message after others
 
--- a message as it is in the input: its offset, its frame and the kernel's text in it
+-- a message as it is in the input: its offset, its frame and what the kernel says in it
 pub record Seen : Type 0 where
   pub at : ℕ
   pub frame : List ℕ
-  pub text : Option (List ℕ)
+  pub words : List ℕ
 
 -- its lines, by what the messages before it leave; the names of links are those after it
 abbrev pub seen_lines : Check → Memory → Seen → Lines
 seen_lines check memory seen =
     unless_time (time_in seen.frame)
     (timed memory.time
-    (frame_lines check memory.options (known_after check seen.frame memory.known) seen.at seen.frame seen.text))
+    (frame_lines check memory.options (known_after check seen.frame memory.known) seen.at seen.frame seen.words))
 
 -- what it leaves: a time is for the next message alone
 abbrev pub memory_after : Check → Memory → Seen → Memory
@@ -166,6 +166,6 @@ memory_after check memory seen = record {
 -- the frame of a message at this offset has these lines after others, and leaves this
 abbrev pub Tells : Check → ℕ → List ℕ → Memory → Lines → Memory → Type 0
 Tells check at frame memory lines after =
-    (text : Option (List ℕ)) × IsText (ack_attributes (meaning frame)) text
-    × (lines ≡ seen_lines check memory (record { at = at; frame = frame; text = text }))
-    × (after ≡ memory_after check memory (record { at = at; frame = frame; text = text }))
+    (words : List ℕ) × IsWords (meaning frame) words
+    × (lines ≡ seen_lines check memory (record { at = at; frame = frame; words = words }))
+    × (after ≡ memory_after check memory (record { at = at; frame = frame; words = words }))

@@ -19,6 +19,8 @@
 //! | `ack`, `error -22` | `line::error_line` | `Lines::error_line` |
 //! | ` (Invalid argument)` after a code | `line::code_text`, `system_errors::error_name` | `SystemErrors::code_text` |
 //! | `: mtu less than device minimum` | `ack::text_words` | `Ack::text_words` |
+//! | `; byte 52, attribute 18/2/5` | `concern::place_words` | `Concern::place_words` |
+//! | `; attribute 4 is missing` | `concern::missing_words` | `Concern::missing_words` |
 //! | `noop`, `overrun` | `messages::item_shown` | `Messages::item_lines` |
 //! | `type 26, 28 bytes` | `messages::type_line` | `Messages::type_line` |
 //! | `byte 20: ` before an error | `messages::malformed` | `Messages::bad` |
@@ -39,6 +41,7 @@
 
 mod ack;
 mod capture;
+mod concern;
 mod families;
 pub mod laws;
 mod line;

@@ -1,7 +1,6 @@
 //! What a message is shown as.
 
 ghost use Rattle.std.specs.Prelude.{◌≡◌, false, IfOk, OnOk, if◌then◌else◌, string_bytes};
-ghost use Rattle.std.specs.Option.{option_copied};
 ghost use Rattle.netlink_family.specs.Tables.{table_error};
 ghost use Rattle.netlink_packet_core.specs.FrameWalk.{IsWholeFrame};
 ghost use Rattle.netlink_packet_core.specs.Header.{header_of, payload_of};
@@ -10,7 +9,7 @@ ghost use Rattle.netlink_lines.specs.Ack.{marked_if};
 ghost use Rattle.netlink_lines.specs.Lines.{known_by, route_line};
 ghost use Rattle.netlink_lines.specs.Messages.{HasLines, Tells, bad, error_lines, family_lines, good, is_named, item_lines, known_after, line_or_type, memory_of, own_lines, rejected_lines, timed, type_line, wrong_time};
 
-use crate::ack::{is_interrupted, kernel_text, meaning_of};
+use crate::ack::{ack_words, is_interrupted, meaning_of};
 use crate::families::is_foreign;
 use crate::line::{Line, done_line, error_line};
 use crate::options::{Options, labelled};
@@ -148,8 +147,8 @@ fn timed(alloc: Global, time: Option<Time>, shown: Shown) -> Result<Shown, Alloc
 ///
 /// The line of a message of a known type is that of the family or, if the family has none, its type
 /// and size, as for an unknown type. Control messages are `done`, with its code if that is not 0;
-/// `error` and its code, a negative errno, or `ack` if it is 0; `noop`; `overrun`. The kernel's text
-/// follows the code. The line of a malformed message is its error. A line `interrupted` comes first
+/// `error` and its code, a negative errno, or `ack` if it is 0; `noop`; `overrun`. What the kernel says
+/// follows the code: its text, and the attribute that it complains of. The line of a malformed message is its error. A line `interrupted` comes first
 /// if the flags have `NLM_F_DUMP_INTR`. Returns `AllocError` if an allocation fails.
 fn lines_of<F: Line>(
     alloc: Global,
@@ -163,8 +162,8 @@ fn lines_of<F: Line>(
         frame.now (string_bytes s.text, s.is_malformed)) }
 {
     let item = meaning_of(frame);
-    let text = kernel_text(&item);
-    let shown = item_shown::<F>(alloc, options, known, at, frame, text, item)?;
+    let words = ack_words(alloc, &item)?;
+    let shown = item_shown::<F>(alloc, options, known, at, frame, words.as_str(), item)?;
     marked(alloc, NetlinkBuffer::new(frame).flags(), shown)
 }
 
@@ -183,27 +182,27 @@ fn marked(alloc: Global, flags: u16, shown: Shown) -> Result<Shown, AllocError>
     Ok(Shown { text, is_malformed })
 }
 
-/// Returns the lines of a frame by what it means, and by the kernel's text in it.
+/// Returns the lines of a frame by what it means, and by what the kernel says in it.
 fn item_shown<F: Line>(
     alloc: Global,
     options: Options,
     known: &Names<'_>,
     at: u64,
     frame: &[u8],
-    text: Option<&[u8]>,
+    words: &str,
     item: Option<Result<Reply<&[u8]>, DecodeError>>,
 ) -> Result<Shown, AllocError>
     requires whole { IsWholeFrame frame.now }
     ensures { IfOk result (λ s. (string_bytes s.text, s.is_malformed)
         ≡ item_lines (table_error F.Table) options known.now at frame.now
-        (option_copied text.entry) (shown_item item.entry)) }
+        words.now (shown_item item.entry)) }
 {
     let line = match item {
         None => String::from_str(alloc, "noop\n")?,
         Some(Err(error)) => return malformed(alloc, at, error.to_string(alloc)?.as_str()),
-        Some(Ok(Reply::Done { code, .. })) => done_line(alloc, code, text)?,
-        Some(Ok(Reply::Acknowledged { .. })) => error_line(alloc, 0, text)?,
-        Some(Ok(Reply::Rejected { code, .. })) => error_line(alloc, code, text)?,
+        Some(Ok(Reply::Done { code, .. })) => done_line(alloc, code, words)?,
+        Some(Ok(Reply::Acknowledged { .. })) => error_line(alloc, 0, words)?,
+        Some(Ok(Reply::Rejected { code, .. })) => error_line(alloc, code, words)?,
         Some(Ok(Reply::Overrun)) => String::from_str(alloc, "overrun\n")?,
         Some(Ok(Reply::Message(_))) => return own_shown::<F>(alloc, options, known, at, frame),
         Some(Ok(Reply::Other(_))) => return own_shown::<F>(alloc, options, known, at, frame),
