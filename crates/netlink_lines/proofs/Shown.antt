@@ -77,7 +77,7 @@ pub tells_time : (check : Check) (at : ℕ) (frame : List ℕ) (memory : Memory)
 tells_time check at frame memory lines result known time same names is none =
     let after : List Known = known_after check frame memory.known in (
       [],
-      subst (λ (i : Option Item). IsWords i []) (sym (time_meaning frame time is)) no_words,
+      subst (λ (i : Option Item). IsWords i []) (sym (time_meaning frame time is)) (no_words frame),
       none ∙ ap (λ (t : Option Time). unless_time t (timed memory.time (frame_lines check memory.options after at frame []))) is,
       leaves_these check frame memory result known same names,
     )
@@ -138,7 +138,7 @@ tells_own check at frame memory known flags shown marked (Ok s) least names flag
     lines ∙ own_item check memory.options known at frame least
     ∙ ap (λ (k : List Known). item_lines check memory.options k at frame [] (meaning frame)) names in (
       [],
-      subst (λ (i : Option Item). IsWords i []) (sym (own_meaning frame least)) no_words,
+      subst (λ (i : Option Item). IsWords i []) (sym (own_meaning frame least)) (no_words frame),
       timely ∙ ap (timed memory.time)
           (mark ∙ ap (λ (n : ℕ). marked_if n shown) flag ∙ ap (marked_if (header_of frame).flags) item)
           ∙ ap (λ (t : Option Time). unless_time t (timed memory.time (frame_lines check memory.options after at frame []))) (own_time frame least),

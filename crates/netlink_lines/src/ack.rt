@@ -4,7 +4,7 @@ ghost use Rattle.std.specs.Prelude.{◌≡◌, IfOk, string_bytes};
 ghost use Rattle.std.specs.Option.{option_copied};
 ghost use Rattle.netlink_packet_core.specs.FrameWalk.{IsWholeFrame};
 ghost use Rattle.netlink_replies.specs.Meaning.{meaning, shown_item};
-ghost use Rattle.netlink_lines.specs.Ack.{IsWords, ack_attributes, ack_request, is_interrupted, text_words};
+ghost use Rattle.netlink_lines.specs.Ack.{IsSaid, IsWords, ack_attributes, ack_request, is_interrupted, text_words};
 
 use crate::concern::{missing_words, place_words};
 use netlink_packet_core::{DecodeError, NLM_F_DUMP_INTR, NetlinkBuffer};
@@ -35,10 +35,16 @@ pub(crate) fn ack_words(
 ) -> Result<String, AllocError>
     ensures words { IfOk result (λ words. IsWords (shown_item item.now) (string_bytes words)) }
 {
-    let attributes = ack_attributes(item);
+    said(alloc, ack_attributes(item), ack_request(item))
+}
+
+/// Returns what the attributes of an extended acknowledgement say of a request.
+fn said(alloc: Global, attributes: &[u8], request: &[u8]) -> Result<String, AllocError>
+    ensures { IfOk result (λ words. IsSaid attributes.now request.now (string_bytes words)) }
+{
     let ack = ExtendedAck { attributes };
     let text = text_words(alloc, ack.message())?;
-    let place = place_words(alloc, ack, ack_request(item))?;
+    let place = place_words(alloc, &ack, request)?;
     let missing = missing_words(alloc, ack.missing_type(), ack.missing_nest())?;
     format!(in alloc; "{text}{place}{missing}")
 }

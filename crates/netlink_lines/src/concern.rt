@@ -15,10 +15,10 @@ use std::alloc::{AllocError, Global};
 /// the kinds of the attributes that contain it, the outermost first. Nothing if there is no offset.
 pub(crate) fn place_words(
     alloc: Global,
-    ack: ExtendedAck<'_>,
+    ack: &ExtendedAck<'_>,
     request: &[u8],
 ) -> Result<String, AllocError>
-    ensures { FirstValue 2 ack.attributes.now (λ value. IfOk result (λ words.
+    ensures { FirstValue 2 ack.now.attributes.now (λ value. IfOk result (λ words.
         IsPlace (option_and_then number_of_value value) request.now (string_bytes words))) }
 {
     let Some(offset) = ack.offset() else {
@@ -33,10 +33,10 @@ pub(crate) fn place_words(
 
 /// Returns the path to the attribute that the kernel complains of. It is empty if the size of the
 /// request's header is not known.
-fn path_of<'b>(ack: ExtendedAck<'_>, request: &'b [u8]) -> Path<'b>
-    ensures block { FirstValue 2 ack.attributes.now (λ value. block_of result
+fn path_of<'b>(ack: &ExtendedAck<'_>, request: &'b [u8]) -> Path<'b>
+    ensures block { FirstValue 2 ack.now.attributes.now (λ value. block_of result
         ≡ (place_of (option_and_then number_of_value value) request.now).0) }
-    ensures offset { FirstValue 2 ack.attributes.now (λ value. offset_of result
+    ensures offset { FirstValue 2 ack.now.attributes.now (λ value. offset_of result
         ≡ (place_of (option_and_then number_of_value value) request.now).1) }
     ensures path { GivesPath result }
 {
