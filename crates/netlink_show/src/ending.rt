@@ -4,7 +4,7 @@ ghost use Rattle.std.specs.Prelude.{◌≡◌, ◌↔◌, None, Some, IfSome, op
 ghost use Rattle.std.specs.Vec.Iter.{into_iter_items};
 ghost use Rattle.netlink_family.specs.Tables.{table_error};
 ghost use Rattle.netlink_program.specs.Ending.{IsUsage};
-ghost use Rattle.netlink_show.specs.Ending.{Ends, options_of, usage_text};
+ghost use Rattle.netlink_show.specs.Ending.{Ends, option_named, options_of, usage_text};
 
 use netlink_lines::{Fault, Line, Options, run_with};
 use netlink_program::Ending;
