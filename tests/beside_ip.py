@@ -6,7 +6,8 @@
 Each script of SCRIPTS fills new namespaces. beside_ip.txt has commands that add to them, and others that change them.
 This script asks the kernel for dumps and for the routes to some addresses, and records notifications of the changes.
 `netlink_show` reads these messages after those of all links. Its lines are compared with those of `ip` in the same
-namespace: of `ip -o monitor file` for the notifications, else of a command that asks the kernel for the same.
+namespace: of `ip -o monitor label file` for the notifications, with their labels, else of a command that asks the kernel
+for the same.
 
 The lines of `ip` are normalized as examples/captured/ip/README.md states. A command that fails here is skipped. The
 status is 1 if a line differs and LISTED does not allow it, and 3 if the comparison is not possible here.
@@ -28,9 +29,7 @@ sys.path.insert(0, os.path.join(sys.path[0], "lib"))
 
 from built import TOP, built, run  # noqa: E402 (it is in that folder)
 from ip_lines import ADDRESSES, FOLDER, LINKS, escaped, items, with_kind  # noqa: E402
-
-sys.path.append(FOLDER)
-from compare import is_printed, kind_of, monitored, spaced  # noqa: E402
+from compare import is_printed, kind_of, label_of, monitored, spaced  # noqa: E402 (ip_lines adds its folder)
 
 NLM_F_DUMP = 0x300
 NLMSG_ERROR, NLMSG_DONE, RTM_GETLINK, RTM_GETROUTE, RTM_GETNEIGHTBL = 2, 3, 18, 26, 66
@@ -105,9 +104,9 @@ def joined(frames):
     return b"".join(it + bytes(-len(it) % 4) for it in frames)
 
 
-def own_lines(links, frames):
-    """Returns the lines of the program for messages that follow those of links."""
-    _, output, error = run([built("netlink_show", "netlink_show")], joined([*links, *frames]))
+def own_lines(links, frames, *words):
+    """Returns the lines of the program, with these arguments, for messages that follow those of links."""
+    _, output, error = run([built("netlink_show", "netlink_show"), *words], joined([*links, *frames]))
     return (output + error).decode("latin-1").split("\n")[len(links) : -1]
 
 
@@ -189,8 +188,9 @@ def changes(section, counts):
             pass
         file.write(joined([*links, *frames]))
         file.flush()
-        theirs = lines_of_ip(f"monitor file {file.name}", frames, len(links))
-    ours = [monitored(frame, line, escaped) for frame, line in zip(frames, own_lines(links, frames))]
+        theirs = lines_of_ip(f"monitor label file {file.name}", frames, len(links))
+    lines = own_lines(links, frames, "--label")
+    ours = [monitored(frame, line, escaped) for frame, line in zip(frames, lines)]
     compare("notifications", ours, theirs or ["(there is none)"], counts)
 
 

@@ -5,10 +5,14 @@ README.md of that folder states how the frames and the lines were made. tests/st
 
 import os
 import re
+import sys
 
 from built import TOP, run
 
 FOLDER = os.path.join(TOP, "examples", "captured", "ip")
+sys.path.append(FOLDER)
+
+from compare import label_of  # noqa: E402 (it is in that folder)
 
 LINKS, ADDRESSES = (16, 17), (20, 21)
 IFLA_LINKINFO, IFLA_INFO_KIND = 18, 1
@@ -81,8 +85,16 @@ def line_error(place, theirs, ours, difference):
     return None if ours == wanted else f"line {place} of ip: {ours!r}, not {wanted!r}; ip prints {theirs!r}"
 
 
+def label_errors(program, data, frames, lines):
+    """Passes all frames to the program with `--label`. Returns what is wrong: each line must have the label of `ip`
+    before it, and nothing else may change."""
+    wanted = "".join(f"{label_of(frame)}{line}\n" for frame, line in zip(frames, lines)).encode("latin-1")
+    result = run([program, "--label"], data)
+    return [] if result == (0, wanted, b"") else ["the frames of ip: the lines with labels are others"]
+
+
 def ip_errors(program):
-    """Passes all frames to the program. Returns what is wrong, and the number of frames that have a line of `ip`."""
+    """Passes all frames to the program, without and with labels. Returns what is wrong, and the number of lines."""
     listed = differences()
     with open(os.path.join(FOLDER, "frames.bin"), "rb") as file:
         data = file.read()
@@ -91,9 +103,10 @@ def ip_errors(program):
     ours = output.decode("latin-1").split("\n")
     if (status, error, len(ours), ours[-1], len(frames)) != (0, b"", len(lines) + 1, "", len(lines)):
         what = f"status {status}, error {error}, {len(ours) - 1} lines instead of {len(lines)} for {len(frames)} frames"
-        return [f"the frames of ip: {what}"], len(lines)
+        return [f"the frames of ip: {what}"], 2 * len(lines)
     theirs = [with_kind(frame, line) for frame, line in zip(frames, lines)]
     errors = [f"differences.tsv lists line {it}, which does not exist" for it in listed if not 0 < it <= len(theirs)]
     for place, (line, own) in enumerate(zip(theirs, ours), 1):
         errors.append(line_error(place, line, own, listed.get(place)))
-    return [it for it in errors if it], len(theirs)
+    errors += label_errors(program, data, frames, ours)
+    return [it for it in errors if it], 2 * len(theirs)

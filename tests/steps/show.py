@@ -39,6 +39,10 @@ ANSWERS = {
     "link-unknown-0": b"error -19 (No such device)\n",
     "type-unknown-0": b"error -95 (Operation not supported)\n",
     "bridge-ports-1": b"done\n",
+    "replies/option-short-0": b"error -34 (Numerical result out of range): Attribute failed policy validation"
+    b"; byte 68, attribute 18/2/5\n",
+    "replies/option-short-capped-0": b"error -34 (Numerical result out of range): Attribute failed policy validation"
+    b"; byte 68\n",
 }
 
 FLAGS = [(0x8, "LOOPBACK"), (0x2, "BROADCAST"), (0x1000, "MULTICAST"), (0x1, "UP")]
@@ -56,7 +60,7 @@ ADDRESS_FLAGS = [(0x2, "nodad"), (0x40, "tentative")]
 ERRNO = [*range(1, 41), *range(42, 58), *range(59, 134)]
 
 BAD = "a message is malformed"
-USAGE = (2, b"", "usage: netlink_show < FILE")
+USAGE = (2, b"", "usage: netlink_show [--label] < FILE")
 LINE = b"7: a: <> link/netrom\n"
 
 
@@ -275,8 +279,10 @@ LINES += [
     (error(TEXT, flags=0x200, request=REQUEST), b"error -22 (Invalid argument): a b\n"),
     (error(TEXT, flags=0x100), b"error -22 (Invalid argument)\n"),
     (error(TEXT, code=0), b"ack: a b\n"),
-    (error(attribute(2, bytes(4)) + attribute(0x8001, b"c") + TEXT), b"error -22 (Invalid argument): c\n"),
-    (error(attribute(2, bytes(4))), b"error -22 (Invalid argument)\n"),
+    (error(attribute(2, b"\x24\0\0\0") + attribute(0x8001, b"c") + TEXT), b"error -22 (Invalid argument): c; byte 36\n"),
+    (error(attribute(2, bytes(4))), b"error -22 (Invalid argument); byte 0\n"),
+    (error(attribute(2, bytes(3)) + attribute(5, bytes(5)) + TEXT), b"error -22 (Invalid argument): a b\n"),
+    (frame(3, struct.pack("<i", -22) + attribute(2, b"\x24\0\0\0"), flags=0x202), b"done -22 (Invalid argument); byte 36\n"),
     (error(TEXT + b"\3\0\1\0"), b"error -22 (Invalid argument): a b\n"),
     (error(b"\3\0\2\0" + TEXT), b"error -22 (Invalid argument)\n"),
     (error(attribute(1, b"a\n\0")), b"error -22 (Invalid argument): a\\x0a\n"),
@@ -415,7 +421,9 @@ def rows():
     yield row(data.hex(), [], (0, lines, ""), data)
     data = time(1, 2) + MALFORMED[0][0]
     yield row(data.hex(), [], (1, f"[1.000002] byte 24: {MALFORMED[0][1]}\n".encode(), BAD), data)
-    for words in (["links"], [""], ["-h"], ["a", "b"], [b"\xff"]):
+    data = in_packets(time(1, 2)) + pcap_packet(link(NAMED) + frame(1, b""))
+    yield row(f"{data.hex()} with a label", ["--label"], (0, b"[1.000002] [LINK]" + LINE + b"noop\n", ""), data)
+    for words in (["links"], [""], ["-h"], ["a", "b"], [b"\xff"], ["label"], ["--labels"], ["--label", "--label"]):
         yield row(f"arguments {words}", words, USAGE, link(NAMED))
 
 

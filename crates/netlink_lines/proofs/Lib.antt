@@ -6,3 +6,4 @@ pub mod Running
 pub mod Shown
 pub mod Starting
 pub mod Steps
+pub mod Words

@@ -1,44 +1,37 @@
 -- Bytes show one list of messages and end in one way.
-use Rattle.std.proofs.Common.{◌≡◌, ◌∙◌, ap, arith, refl, sym, subst, ℕ, List, [], Option, ap}
-use Rattle.std.specs.Option.{option_map}
+use Rattle.std.proofs.Common.{◌≡◌, ◌∙◌, ap, arith, refl, sym, subst, ℕ, List, [], Option}
 use Rattle.std.specs.Prelude.{true, false}
-use Rattle.netlink_packet_core.specs.Attribute.{Attribute}
 use Rattle.netlink_packet_core.specs.DecodeError.{DecodeError}
 use Rattle.netlink_packet_core.specs.DecodeError.TheVariants.{FrameShort, FrameCut, FrameLength}
 use Rattle.netlink_packet_core.specs.FrameStartLaws.{no_frame_starts, starts_frame-fault, starts_frame-field}
 use Rattle.netlink_packet_core.specs.FrameWalkLaws.{starts_frame_once}
 use Rattle.netlink_packet_core.specs.Refusal.{IsFrameFault}
-use Rattle.netlink_packet_core.specs.WalkLaws.{walk_once}
 use Rattle.netlink_packet_core.specs.Walks.{StepLaws, walks_once}
-use Rattle.netlink_replies.specs.AckValues.{first_value, without_nul}
 use Rattle.netlink_replies.specs.Meaning.{meaning}
-use Rattle.netlink_lines.specs.Ack.{IsText, ack_attributes}
+use Rattle.netlink_lines.specs.Ack.{IsWords}
 use Rattle.netlink_lines.specs.Messages.{Seen}
 use Rattle.netlink_lines.specs.Stream.{ShowsMessages, StartsSeen}
 use Rattle.netlink_input.specs.Stream.{IsCause, IsStop}
+use Rattle.netlink_lines.proofs.Words.{words_once}
 use Rattle.netlink_input.specs.declared.stream.Cause.{Cause}
 use Rattle.netlink_input.specs.declared.stream.Cause.TheVariants.{Damaged, TooLong, Pcap}
 use Rattle.netlink_input.specs.declared.stream.Stop.{Stop}
 
 -- ---- bytes start with one message
 
-text_once : (attributes : List ℕ) (s t : Option (List ℕ)) → IsText attributes s → IsText attributes t → s ≡ t
-text_once attributes s t (all, fault, walk, is) (more, other, also, that) =
-    is ∙ ap (λ (a : List Attribute). option_map without_nul (first_value 1 a)) (walk_once _ all more fault other walk also).0 ∙ sym that
-
-seen_once : (a b : Seen) → a.at ≡ b.at → a.frame ≡ b.frame → a.text ≡ b.text → a ≡ b
-seen_once a b at frame text =
-    ap (λ (n : ℕ). record { at = n; frame = a.frame; text = a.text }) at
-    ∙ ap (λ (f : List ℕ). record { at = b.at; frame = f; text = a.text }) frame
-    ∙ ap (λ (t : Option (List ℕ)). record { at = b.at; frame = b.frame; text = t }) text
+seen_once : (a b : Seen) → a.at ≡ b.at → a.frame ≡ b.frame → a.words ≡ b.words → a ≡ b
+seen_once a b at frame words =
+    ap (λ (n : ℕ). record { at = n; frame = a.frame; words = a.words }) at
+    ∙ ap (λ (f : List ℕ). record { at = b.at; frame = f; words = a.words }) frame
+    ∙ ap (λ (w : List ℕ). record { at = b.at; frame = b.frame; words = w }) words
 
 step_once : (end : ℕ) (bytes : List ℕ) (a b : Seen) (rest other : List ℕ) → StartsSeen end bytes a rest
     → StartsSeen end bytes b other → (a ≡ b) × (rest ≡ other)
 step_once end bytes a b rest other first second =
     let same = starts_frame_once bytes a.frame b.frame rest other first.starts second.starts in (
       seen_once a b (first.place ∙ sym second.place) same.0
-          (text_once (ack_attributes (meaning b.frame)) a.text b.text
-          (subst (λ (f : List ℕ). IsText (ack_attributes (meaning f)) a.text) same.0 first.text) second.text),
+          (words_once (meaning b.frame) a.words b.words
+          (subst (λ (f : List ℕ). IsWords (meaning f) a.words) same.0 first.words) second.words),
       same.1,
     )
 

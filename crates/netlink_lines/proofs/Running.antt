@@ -51,11 +51,11 @@ pub frame_shown : (check : Check) (now left : Option (List ℕ)) (at : ℕ) (fra
     → IsShown (messages_of check) now left at frame (padding (length frame)) state lines after
 frame_shown check now left at frame view next state lines after gives is same tells =
     let (took, whole, most) = subst (GivesNext now left frame) is gives in
-    let (text, has, said, leaves) = subst (λ (f : List ℕ). Tells check at f state lines after) same tells in
+    let (words, has, said, leaves) = subst (λ (f : List ℕ). Tells check at f state lines after) same tells in
     record {
       took = took;
-      one = record { at = at; frame = frame; text = text };
-      is = is_message check at frame text whole most has;
+      one = record { at = at; frame = frame; words = words };
+      is = is_message check at frame words whole most has;
       tells = said;
       leaves = leaves;
     }

@@ -10,26 +10,28 @@ use Rattle.netlink_packet_core.specs.Refusal.{refusal_text}
 use Rattle.netlink_packet_core.specs.declared.constants.TheConstants.{NLMSG_DONE, NLMSG_ERROR, NLMSG_NOOP, NLMSG_OVERRUN}
 use Rattle.netlink_replies.specs.Meaning.{Item, done_item, error_item, meaning}
 use Rattle.netlink_replies.specs.declared.reply.Reply.TheVariants.{Message, Overrun}
-use Rattle.netlink_lines.specs.Ack.{IsText, ack_attributes, marked_if}
+use Rattle.netlink_lines.specs.Ack.{IsWords, marked_if}
+use Rattle.netlink_lines.proofs.Words.{no_words}
 use Rattle.netlink_lines.specs.Messages.{Check, HasLines, Lines, Memory, Tells, bad, error_lines, family_lines, frame_lines, good, item_lines, is_named, known_after, timed, unless_time}
 use Rattle.netlink_lines.specs.Lines.{known_by}
 use Rattle.netlink_lines.specs.Time.{time_in, time_of}
 use Rattle.netlink_names.specs.declared.device.Known.{Known}
 use Rattle.netlink_lines.specs.declared.messages.Shown.{Shown}
+use Rattle.netlink_lines.specs.declared.options.Options.{Options}
 use Rattle.netlink_lines.specs.declared.time.Time.{Time}
 
-pub has_lines : {E : Type 0} (check : Check) (known : List Known) (at : ℕ) (frame : List ℕ) (text : Option (List ℕ)) (item : Option Item)
-    (flags : ℕ) (shown : Lines) (r : Result Shown E) → item ≡ meaning frame → IsText (ack_attributes item) text
-    → flags ≡ (header_of frame).flags → shown ≡ item_lines check known at frame text item
+pub has_lines : {E : Type 0} (check : Check) (options : Options) (known : List Known) (at : ℕ) (frame words : List ℕ) (item : Option Item)
+    (flags : ℕ) (shown : Lines) (r : Result Shown E) → item ≡ meaning frame → IsWords item words
+    → flags ≡ (header_of frame).flags → shown ≡ item_lines check options known at frame words item
     → IfOk r (λ s. ◌≡◌ {A = Lines} (string_bytes s.text, s.is_malformed) (marked_if flags shown))
-    → IfOk r (λ s. HasLines check known at frame (string_bytes s.text, s.is_malformed))
-has_lines check known at frame text item flags shown (Ok s) same is flag lines marked = (
-  text,
-  subst (λ (i : Option Item). IsText (ack_attributes i) text) same is,
+    → IfOk r (λ s. HasLines check options known at frame (string_bytes s.text, s.is_malformed))
+has_lines check options known at frame words item flags shown (Ok s) same is flag lines marked = (
+  words,
+  subst (λ (i : Option Item). IsWords i words) same is,
   marked ∙ ap (λ (n : ℕ). marked_if n shown) flag
-      ∙ ap (marked_if (header_of frame).flags) (lines ∙ ap (item_lines check known at frame text) same),
+      ∙ ap (marked_if (header_of frame).flags) (lines ∙ ap (item_lines check options known at frame words) same),
 )
-has_lines check known at frame text item flags shown (Err e) same is flag lines marked = tt
+has_lines check options known at frame words item flags shown (Err e) same is flag lines marked = tt
 
 -- an error other than an unknown type is the line of a malformed message
 pub malformed_lines : (at t size : ℕ) (e : FamilyError) → ((n : ℕ) → e ≡ UnknownType n → ⊥)
@@ -50,37 +52,33 @@ time_type frame time is =
     eqb-true (header_of frame).message_type 15
     (chosen ((header_of frame).message_type == 15) (time_of (payload_of frame)) time is)
 
--- so it is not one with the kernel's text
-time_attributes : (frame : List ℕ) (time : Time) → Some time ≡ time_in frame → ack_attributes (meaning frame) ≡ []
-time_attributes frame time is =
+-- so it is no error or done message
+time_meaning : (frame : List ℕ) (time : Time) → Some time ≡ time_in frame → meaning frame ≡ Some (Ok (Message frame))
+time_meaning frame time is =
     ap (λ (t : ℕ).
-    ack_attributes
-    (if nat_eq t NLMSG_NOOP then None
+    if nat_eq t NLMSG_NOOP then None
     else if nat_eq t NLMSG_ERROR then Some (error_item (header_of frame).flags (payload_of frame))
     else if nat_eq t NLMSG_DONE then Some (done_item (header_of frame).flags (payload_of frame))
     else if nat_eq t NLMSG_OVERRUN then Some (Ok Overrun)
-    else Some (Ok (Message frame)))) (time_type frame time is)
-
-no_text : IsText [] None
-no_text = ([], None, refl, refl)
+    else Some (Ok (Message frame))) (time_type frame time is)
 
 -- what a message leaves, by its time and the names after it
 leaves_these : (check : Check) (frame : List ℕ) (memory : Memory) (time : Option Time) (known : List Known)
     → time ≡ time_in frame → known ≡ known_after check frame memory.known
-    → ◌≡◌ {A = Memory} (record { time = time; known = known })
-    (record { time = time_in frame; known = known_after check frame memory.known })
+    → ◌≡◌ {A = Memory} (record { time = time; known = known; options = memory.options })
+    (record { time = time_in frame; known = known_after check frame memory.known; options = memory.options })
 leaves_these check frame memory time known same names = cc
 
 -- a time leaves itself, and has no line
 pub tells_time : (check : Check) (at : ℕ) (frame : List ℕ) (memory : Memory) (lines : Lines) (result : Option Time)
     (known : List Known) (time : Time) → result ≡ time_in frame → known ≡ known_after check frame memory.known
     → Some time ≡ time_in frame → lines ≡ good []
-    → Tells check at frame memory lines (record { time = result; known = known })
+    → Tells check at frame memory lines (record { time = result; known = known; options = memory.options })
 tells_time check at frame memory lines result known time same names is none =
     let after : List Known = known_after check frame memory.known in (
-      None,
-      subst (λ (a : List ℕ). IsText a None) (sym (time_attributes frame time is)) no_text,
-      none ∙ ap (λ (t : Option Time). unless_time t (timed memory.time (frame_lines check after at frame None))) is,
+      [],
+      subst (λ (i : Option Item). IsWords i []) (sym (time_meaning frame time is)) (no_words frame),
+      none ∙ ap (λ (t : Option Time). unless_time t (timed memory.time (frame_lines check memory.options after at frame []))) is,
       leaves_these check frame memory result known same names,
     )
 
@@ -88,15 +86,15 @@ tells_time check at frame memory lines result known time same names is none =
 pub tells_lines : {E : Type 0} (check : Check) (at : ℕ) (frame : List ℕ) (memory : Memory) (shown : Lines)
     (result : Option Time) (known view : List Known) (r : Result Shown E)
     → result ≡ time_in frame → known ≡ known_after check frame memory.known → None ≡ time_in frame → view ≡ known
-    → HasLines check view at frame shown
+    → HasLines check memory.options view at frame shown
     → IfOk r (λ s. ◌≡◌ {A = Lines} (string_bytes s.text, s.is_malformed) (timed memory.time shown))
-    → IfOk r (λ s. Tells check at frame memory (string_bytes s.text, s.is_malformed) (record { time = result; known = known }))
-tells_lines check at frame memory shown result known view (Ok s) same names is seen (text, has, lines) timely =
+    → IfOk r (λ s. Tells check at frame memory (string_bytes s.text, s.is_malformed) (record { time = result; known = known; options = memory.options }))
+tells_lines check at frame memory shown result known view (Ok s) same names is seen (words, has, lines) timely =
     let after : List Known = known_after check frame memory.known in (
-      text,
+      words,
       has,
-      timely ∙ ap (timed memory.time) (lines ∙ ap (λ (k : List Known). frame_lines check k at frame text) (seen ∙ names))
-          ∙ ap (λ (t : Option Time). unless_time t (timed memory.time (frame_lines check after at frame text))) is,
+      timely ∙ ap (timed memory.time) (lines ∙ ap (λ (k : List Known). frame_lines check memory.options k at frame words) (seen ∙ names))
+          ∙ ap (λ (t : Option Time). unless_time t (timed memory.time (frame_lines check memory.options after at frame words))) is,
       leaves_these check frame memory result known same names,
     )
 tells_lines check at frame memory shown result known view (Err e) same names is seen has timely = tt
@@ -119,32 +117,31 @@ own_time : (frame : List ℕ) → 16 ≤ (header_of frame).message_type → None
 unfolding time_in
 own_time frame least = rw (ne_eqb (header_of frame).message_type 15 (λ e. omega (arith, e, least))) refl
 
--- its line, where no text is in it
-own_item : (check : Check) (known : List Known) (at : ℕ) (frame : List ℕ) → 16 ≤ (header_of frame).message_type
-    → family_lines known at frame (check (header_of frame).message_type (payload_of frame))
-    ≡ item_lines check known at frame None (meaning frame)
-own_item check known at frame least =
+-- its line, where the kernel says nothing
+own_item : (check : Check) (options : Options) (known : List Known) (at : ℕ) (frame : List ℕ) → 16 ≤ (header_of frame).message_type
+    → family_lines options known at frame (check (header_of frame).message_type (payload_of frame))
+    ≡ item_lines check options known at frame [] (meaning frame)
+own_item check options known at frame least =
     rw (own_meaning frame least, ne_eqb (header_of frame).message_type 15 (λ e. omega (arith, e, least))) refl
 
 -- it has its lines after the time so far, by the names after it, and leaves no time
 pub tells_own : {E : Type 0} (check : Check) (at : ℕ) (frame : List ℕ) (memory : Memory) (known : List Known) (flags : ℕ)
     (shown marked : Lines) (r : Result Shown E)
     → 16 ≤ (header_of frame).message_type → known ≡ known_after check frame memory.known → flags ≡ (header_of frame).flags
-    → shown ≡ family_lines known at frame (check (header_of frame).message_type (payload_of frame))
+    → shown ≡ family_lines memory.options known at frame (check (header_of frame).message_type (payload_of frame))
     → marked ≡ marked_if flags shown
     → IfOk r (λ s. ◌≡◌ {A = Lines} (string_bytes s.text, s.is_malformed) (timed memory.time marked))
-    → IfOk r (λ s. Tells check at frame memory (string_bytes s.text, s.is_malformed) (record { time = None; known = known }))
+    → IfOk r (λ s. Tells check at frame memory (string_bytes s.text, s.is_malformed) (record { time = None; known = known; options = memory.options }))
 tells_own check at frame memory known flags shown marked (Ok s) least names flag lines mark timely =
     let after : List Known = known_after check frame memory.known in
-    let attributes : [] ≡ ack_attributes (meaning frame) = sym (ap ack_attributes (own_meaning frame least)) in
-    let item : shown ≡ item_lines check after at frame None (meaning frame) =
-    lines ∙ own_item check known at frame least
-    ∙ ap (λ (k : List Known). item_lines check k at frame None (meaning frame)) names in (
-      None,
-      subst (λ (a : List ℕ). IsText a None) attributes no_text,
+    let item : shown ≡ item_lines check memory.options after at frame [] (meaning frame) =
+    lines ∙ own_item check memory.options known at frame least
+    ∙ ap (λ (k : List Known). item_lines check memory.options k at frame [] (meaning frame)) names in (
+      [],
+      subst (λ (i : Option Item). IsWords i []) (sym (own_meaning frame least)) (no_words frame),
       timely ∙ ap (timed memory.time)
           (mark ∙ ap (λ (n : ℕ). marked_if n shown) flag ∙ ap (marked_if (header_of frame).flags) item)
-          ∙ ap (λ (t : Option Time). unless_time t (timed memory.time (frame_lines check after at frame None))) (own_time frame least),
+          ∙ ap (λ (t : Option Time). unless_time t (timed memory.time (frame_lines check memory.options after at frame []))) (own_time frame least),
       leaves_these check frame memory None known (own_time frame least) names,
     )
 tells_own check at frame memory known flags shown marked (Err e) least names flag lines mark timely = tt

@@ -9,8 +9,9 @@ use Rattle.netlink_lines.specs.Messages.{Check, Memory, no_memory}
 use Rattle.netlink_lines.specs.Packet.{packets_of}
 use Rattle.netlink_input.specs.Pcap.{is_pcap, layout_of}
 use Rattle.netlink_input.specs.Reading.{Starts, TriesStart, start_size}
-use Rattle.netlink_lines.specs.Run.{RunsAs, RunsIn, RunsOver}
+use Rattle.netlink_lines.specs.Run.{RunsIn, RunsOver, RunsWith}
 use Rattle.netlink_lines.specs.Stream.{messages_of}
+use Rattle.netlink_lines.specs.declared.options.Options.{Options}
 use Rattle.netlink_input.specs.declared.pcap.Layout.{Layout}
 use Rattle.netlink_input.specs.declared.pcap.Layout.TheVariants.{Messages, Packets, Unread}
 use Rattle.netlink_input.specs.declared.pcap.Order.{Order}
@@ -45,57 +46,57 @@ layout_first first more all =
 
 -- ---- how the run goes on
 
-pub runs_messages : (check : Check) (old middle left start end : Option (List ℕ)) (first : List ℕ) (memory after : Memory)
-    (result : Result ⊤ Fault) → Starts old middle first → layout_of first ≡ Messages → memory ≡ no_memory
+pub runs_messages : (check : Check) (options : Options) (old middle left start end : Option (List ℕ)) (first : List ℕ) (memory after : Memory)
+    (result : Result ⊤ Fault) → Starts old middle first → layout_of first ≡ Messages → memory ≡ no_memory options
     → IfSome (prepend_known first middle) (λ bytes. RunsOver (messages_of check) memory (0 + length bytes) bytes left start end after result)
-    → IfSome old (λ input. RunsAs check input left start end result)
-runs_messages check None middle left start end first memory after result starts is none runs = tt
-runs_messages check (Some xs) None left start end first memory after result (took, few, all) is none runs = absurd took
-runs_messages check (Some xs) (Some ys) left start end first memory after result (took, few, all) is none runs =
+    → IfSome old (λ input. RunsWith check options input left start end result)
+runs_messages check options None middle left start end first memory after result starts is none runs = tt
+runs_messages check options (Some xs) None left start end first memory after result (took, few, all) is none runs = absurd took
+runs_messages check options (Some xs) (Some ys) left start end first memory after result (took, few, all) is none runs =
     let same : layout_of xs ≡ Messages = ap layout_of took ∙ layout_first first ys all ∙ is in
-    let whole : RunsOver (messages_of check) no_memory (length xs) xs left start end after result =
+    let whole : RunsOver (messages_of check) (no_memory options) (length xs) xs left start end after result =
     subst (λ (m : Memory). RunsOver (messages_of check) m (length xs) xs left start end after result) none
     (subst (λ (n : ℕ). RunsOver (messages_of check) memory n xs left start end after result) (omega arith)
     (subst (λ (l : List ℕ). RunsOver (messages_of check) memory (0 + length l) l left start end after result) (sym took) runs)) in
-    subst (λ (layout : Layout). RunsIn check layout xs left start end result) (sym same) (after, whole)
+    subst (λ (layout : Layout). RunsIn check options layout xs left start end result) (sym same) (after, whole)
 
-pub runs_packets : (check : Check) (order : Order) (old middle left start end : Option (List ℕ)) (first : List ℕ) (memory after : Memory)
-    (result : Result ⊤ Fault) → Starts old middle first → layout_of first ≡ Packets order → memory ≡ no_memory
+pub runs_packets : (check : Check) (options : Options) (order : Order) (old middle left start end : Option (List ℕ)) (first : List ℕ) (memory after : Memory)
+    (result : Result ⊤ Fault) → Starts old middle first → layout_of first ≡ Packets order → memory ≡ no_memory options
     → IfSome middle (λ bytes. RunsOver (packets_of check order) memory (24 + length bytes) bytes left start end after result)
-    → IfSome old (λ input. RunsAs check input left start end result)
-runs_packets check order None middle left start end first memory after result starts is none runs = tt
-runs_packets check order (Some xs) None left start end first memory after result (took, few, all) is none runs = absurd took
-runs_packets check order (Some xs) (Some ys) left start end first memory after result (took, few, all) is none runs =
+    → IfSome old (λ input. RunsWith check options input left start end result)
+runs_packets check options order None middle left start end first memory after result starts is none runs = tt
+runs_packets check options order (Some xs) None left start end first memory after result (took, few, all) is none runs = absurd took
+runs_packets check options order (Some xs) (Some ys) left start end first memory after result (took, few, all) is none runs =
     let same : layout_of xs ≡ Packets order = ap layout_of took ∙ layout_first first ys all ∙ is in
     let size : length first ≡ 24 = omega (arith, packets_size first order is, few, start_most (is_pcap first)) in
     let long : length xs ≡ 24 + length ys = omega (arith, ap length took, length-append first ys, size) in
     let rest : drop 24 xs ≡ ys = ap (drop 24) took ∙ drop_at first ys 24 size in
-    let whole : RunsOver (packets_of check order) no_memory (length xs) (drop 24 xs) left start end after result =
+    let whole : RunsOver (packets_of check order) (no_memory options) (length xs) (drop 24 xs) left start end after result =
     subst (λ (m : Memory). RunsOver (packets_of check order) m (length xs) (drop 24 xs) left start end after result) none
     (subst (λ (n : ℕ). RunsOver (packets_of check order) memory n (drop 24 xs) left start end after result) (sym long)
     (subst (λ (l : List ℕ). RunsOver (packets_of check order) memory (24 + length ys) l left start end after result) (sym rest) runs)) in
-    subst (λ (layout : Layout). RunsIn check layout xs left start end result) (sym same) (after, whole)
+    subst (λ (layout : Layout). RunsIn check options layout xs left start end result) (sym same) (after, whole)
 
-pub runs_unread : (check : Check) (why : Stop) (old middle left start : Option (List ℕ)) (first : List ℕ) → Starts old middle first
-    → layout_of first ≡ Unread why → IfSome old (λ input. RunsAs {R = ⊤} check input left start start (Err (fault.Stopped why)))
-runs_unread check why None middle left start first starts is = tt
-runs_unread check why (Some xs) None left start first (took, few, all) is = absurd took
-runs_unread check why (Some xs) (Some ys) left start first (took, few, all) is =
+pub runs_unread : (check : Check) (options : Options) (why : Stop) (old middle left start : Option (List ℕ)) (first : List ℕ) → Starts old middle first
+    → layout_of first ≡ Unread why → IfSome old (λ input. RunsWith {R = ⊤} check options input left start start (Err (fault.Stopped why)))
+runs_unread check options why None middle left start first starts is = tt
+runs_unread check options why (Some xs) None left start first (took, few, all) is = absurd took
+runs_unread check options why (Some xs) (Some ys) left start first (took, few, all) is =
     let same : layout_of xs ≡ Unread why = ap layout_of took ∙ layout_first first ys all ∙ is in
-    subst (λ (layout : Layout). RunsIn {R = ⊤} check layout xs left start start (Err (fault.Stopped why))) (sym same) (refl, Appends-nil start)
+    subst (λ (layout : Layout). RunsIn {R = ⊤} check options layout xs left start start (Err (fault.Stopped why))) (sym same) (refl, Appends-nil start)
 
 -- ---- how it ends before the first bytes were there: nothing was shown
 
-no_memory_in : (check : Check) (layout : Layout) (input : List ℕ) (left start : Option (List ℕ))
-    → RunsIn {R = ⊤} check layout input left start start (Err fault.OutOfMemory)
-no_memory_in check Messages input left start = (no_memory, ([], inl (input, refl), Appends-nil start, tt))
-no_memory_in check (Packets order) input left start = (no_memory, ([], inl (drop 24 input, refl), Appends-nil start, tt))
-no_memory_in check (Unread why) input left start = (tt, Appends-nil start)
+no_memory_in : (check : Check) (options : Options) (layout : Layout) (input : List ℕ) (left start : Option (List ℕ))
+    → RunsIn {R = ⊤} check options layout input left start start (Err fault.OutOfMemory)
+no_memory_in check options Messages input left start = (no_memory options, ([], inl (input, refl), Appends-nil start, tt))
+no_memory_in check options (Packets order) input left start = (no_memory options, ([], inl (drop 24 input, refl), Appends-nil start, tt))
+no_memory_in check options (Unread why) input left start = (tt, Appends-nil start)
 
-pub starts_without_memory : (check : Check) (old left start : Option (List ℕ))
-    → IfSome old (λ input. RunsAs {R = ⊤} check input left start start (Err fault.OutOfMemory))
-starts_without_memory check None left start = tt
-starts_without_memory check (Some xs) left start = no_memory_in check (layout_of xs) xs left start
+pub starts_without_memory : (check : Check) (options : Options) (old left start : Option (List ℕ))
+    → IfSome old (λ input. RunsWith {R = ⊤} check options input left start start (Err fault.OutOfMemory))
+starts_without_memory check options None left start = tt
+starts_without_memory check options (Some xs) left start = no_memory_in check options (layout_of xs) xs left start
 
 -- fewer than 4 bytes of messages were given
 few_given : (xs ys front : List ℕ) → xs ≡ front ++ ys → length front < start_size front → layout_of xs ≡ Messages
@@ -110,36 +111,36 @@ few_given xs ys front is short messages =
           )
     ]
 
-no_input_in : (check : Check) (layout : Layout) (xs ys front : List ℕ) (start : Option (List ℕ)) → xs ≡ front ++ ys
+no_input_in : (check : Check) (options : Options) (layout : Layout) (xs ys front : List ℕ) (start : Option (List ℕ)) → xs ≡ front ++ ys
     → length front < start_size front → layout_of xs ≡ layout
-    → RunsIn {R = ⊤} check layout xs (Some ys) start start (Err fault.Read)
-no_input_in check Messages xs ys front start is short same =
+    → RunsIn {R = ⊤} check options layout xs (Some ys) start start (Err fault.Read)
+no_input_in check options Messages xs ys front start is short same =
     let few = few_given xs ys front is short same in
     let long = length-append front ys in
     let size = length-take (length xs - length ys) xs in
-    (no_memory, ([], (xs, refl, λ holds. omega (arith, few, ap length is, long, size, holds.header)), Appends-nil start, refl))
-no_input_in check (Packets order) xs ys front start is short same =
+    (no_memory options, ([], (xs, refl, λ holds. omega (arith, few, ap length is, long, size, holds.header)), Appends-nil start, refl))
+no_input_in check options (Packets order) xs ys front start is short same =
     let rest : List ℕ = drop 24 xs in
     let left = length-drop 24 xs in
     let long = length-append front ys in
     let size = length-take (length rest - length ys) rest in
     let most = start_most (is_pcap front) in
-    (no_memory, ([], (rest, refl, λ holds. omega (arith, short, most, ap length is, long, left, size, holds.0)), Appends-nil start, refl))
-no_input_in check (Unread why) xs ys front start is short same = (tt, Appends-nil start)
+    (no_memory options, ([], (rest, refl, λ holds. omega (arith, short, most, ap length is, long, left, size, holds.0)), Appends-nil start, refl))
+no_input_in check options (Unread why) xs ys front start is short same = (tt, Appends-nil start)
 
-starts_without_input : (check : Check) (old left start : Option (List ℕ)) → TriesStart old left
-    → IfSome old (λ input. RunsAs {R = ⊤} check input left start start (Err fault.Read))
-starts_without_input check None left start tries = tt
-starts_without_input check (Some xs) None start (front, took, short) = absurd took
-starts_without_input check (Some xs) (Some ys) start (front, took, short) =
-    no_input_in check (layout_of xs) xs ys front start took short refl
+starts_without_input : (check : Check) (options : Options) (old left start : Option (List ℕ)) → TriesStart old left
+    → IfSome old (λ input. RunsWith {R = ⊤} check options input left start start (Err fault.Read))
+starts_without_input check options None left start tries = tt
+starts_without_input check options (Some xs) None start (front, took, short) = absurd took
+starts_without_input check options (Some xs) (Some ys) start (front, took, short) =
+    no_input_in check options (layout_of xs) xs ys front start took short refl
 
-pub no_start : (check : Check) (old left start : Option (List ℕ)) (why : Fault)
+pub no_start : (check : Check) (options : Options) (old left start : Option (List ℕ)) (why : Fault)
     → (why ≡ fault.OutOfMemory) ⊎ ((why ≡ fault.Read) × TriesStart old left)
-    → IfSome old (λ input. RunsAs {R = ⊤} check input left start start (Err why))
-no_start check old left start why (inl is) =
-    subst (λ (e : Fault). IfSome old (λ input. RunsAs {R = ⊤} check input left start start (Err e))) (sym is)
-    (starts_without_memory check old left start)
-no_start check old left start why (inr tries) =
-    subst (λ (e : Fault). IfSome old (λ input. RunsAs {R = ⊤} check input left start start (Err e))) (sym tries.0)
-    (starts_without_input check old left start tries.1)
+    → IfSome old (λ input. RunsWith {R = ⊤} check options input left start start (Err why))
+no_start check options old left start why (inl is) =
+    subst (λ (e : Fault). IfSome old (λ input. RunsWith {R = ⊤} check options input left start start (Err e))) (sym is)
+    (starts_without_memory check options old left start)
+no_start check options old left start why (inr tries) =
+    subst (λ (e : Fault). IfSome old (λ input. RunsWith {R = ⊤} check options input left start start (Err e))) (sym tries.0)
+    (starts_without_input check options old left start tries.1)

@@ -8,7 +8,7 @@ use Rattle.netlink_packet_core.specs.Attribute.{padding}
 use Rattle.netlink_packet_core.specs.FrameWalk.{IsWholeFrame, StartsFrame}
 use Rattle.netlink_packet_core.specs.Walks.{Passed, passed_ends, passed_faults, passed_keeps, passed_push}
 use Rattle.netlink_replies.specs.Meaning.{meaning}
-use Rattle.netlink_lines.specs.Ack.{IsText, ack_attributes}
+use Rattle.netlink_lines.specs.Ack.{IsWords}
 use Rattle.netlink_lines.specs.Format.{Format, ShowsAll, StopsAs, tell, told_from, told_nothing}
 use Rattle.netlink_lines.specs.Messages.{Check, Memory, Seen}
 use Rattle.netlink_lines.specs.Packet.{HasContent, IsTorn, Packet, StartsPacket, content_of, packets_of}
@@ -86,11 +86,11 @@ starts_whole bytes frame left is whole =
       ];
     }
 
-pub is_message : (check : Check) (at : ℕ) (frame : List ℕ) (text : Option (List ℕ)) → IsWholeFrame frame
-    → length frame ≤ longest → IsText (ack_attributes (meaning frame)) text
-    → IsOne (messages_of check) at frame (padding (length frame)) (record { at = at; frame = frame; text = text })
-is_message check at frame text whole most is end bytes after same place =
-    record { starts = starts_whole bytes frame after same whole; most = most; place = place; text = is }
+pub is_message : (check : Check) (at : ℕ) (frame words : List ℕ) → IsWholeFrame frame
+    → length frame ≤ longest → IsWords (meaning frame) words
+    → IsOne (messages_of check) at frame (padding (length frame)) (record { at = at; frame = frame; words = words })
+is_message check at frame words whole most is end bytes after same place =
+    record { starts = starts_whole bytes frame after same whole; most = most; place = place; words = is }
 
 -- a packet has no padding
 pub is_packet : (check : Check) (order : Order) (at : ℕ) (packet : List ℕ) (shown : Packet) → IsWholePacket order packet

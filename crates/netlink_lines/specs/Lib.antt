@@ -1,8 +1,10 @@
 pub mod Ack
+pub mod Concern
 pub mod Families
 pub mod Format
 pub mod Lines
 pub mod Messages
+pub mod Options
 pub mod Packet
 pub mod Requests
 pub mod Run

@@ -2,7 +2,6 @@
 use Rattle.std.specs.Prelude.{ℕ, ℤ, List, [], ◌∷◌, ◌++◌, Option, Some, None, codes, pos, if◌then◌else◌}
 use Rattle.std.specs.Ordering.{int_eq}
 use Rattle.netlink_family.specs.Shapes.{has_type}
-use Rattle.netlink_lines.specs.Ack.{text_words}
 use Rattle.netlink_lines.specs.SystemErrors.{code_text}
 use Rattle.netlink_address_lines.specs.Address.{address_line}
 use Rattle.netlink_names.specs.Known.{link_known}
@@ -18,15 +17,14 @@ use Rattle.netlink_names.specs.declared.device.Known.{Known}
 abbrev pub code_words : ℤ → List ℕ
 code_words code = if int_eq code (pos 0) then [] else codes " " ++ code_text code
 
--- a done message by its code and its text
-abbrev pub done_line : ℤ → Option (List ℕ) → List ℕ
-done_line code text = codes "done" ++ (code_words code ++ (text_words text ++ codes "\n"))
+-- a done message by its code and by what it says
+abbrev pub done_line : ℤ → List ℕ → List ℕ
+done_line code words = codes "done" ++ (code_words code ++ (words ++ codes "\n"))
 
--- an error by its code, which is 0 in an acknowledgement, and its text
-abbrev pub error_line : ℤ → Option (List ℕ) → List ℕ
-error_line code text =
-    (if int_eq code (pos 0) then codes "ack" else codes "error " ++ code_text code)
-    ++ (text_words text ++ codes "\n")
+-- an error by its code, which is 0 in an acknowledgement, and by what it says
+abbrev pub error_line : ℤ → List ℕ → List ℕ
+error_line code words =
+    (if int_eq code (pos 0) then codes "ack" else codes "error " ++ code_text code) ++ (words ++ codes "\n")
 
 -- the message types of links and addresses (linux/rtnetlink.h)
 abbrev pub link_types : List ℕ

@@ -8,12 +8,14 @@ use Rattle.netlink_packet_core.specs.Header.{header_of, payload_of}
 use Rattle.netlink_packet_core.specs.Refusal.{refusal_text}
 use Rattle.netlink_replies.specs.Meaning.{Item, meaning}
 use Rattle.netlink_replies.specs.declared.reply.Reply.TheVariants.{Message, Done, Acknowledged, Rejected, Overrun, Other}
-use Rattle.netlink_lines.specs.Ack.{IsText, ack_attributes, marked_if}
+use Rattle.netlink_lines.specs.Ack.{IsWords, marked_if}
 use Rattle.netlink_lines.specs.Families.{is_foreign}
 use Rattle.netlink_lines.specs.Lines.{done_line, error_line, known_by, route_line}
+use Rattle.netlink_lines.specs.Options.{labelled}
 use Rattle.netlink_lines.specs.Requests.{asked_line, is_dump, is_request}
 use Rattle.netlink_lines.specs.Time.{time_in, time_text}
 use Rattle.netlink_names.specs.declared.device.Known.{Known}
+use Rattle.netlink_lines.specs.declared.options.Options.{Options}
 use Rattle.netlink_lines.specs.declared.state.State.{State}
 use Rattle.netlink_lines.specs.declared.time.Time.{Time}
 
@@ -38,9 +40,9 @@ type_line t size =
     codes "type " ++ (decimal t ++ (codes ", " ++ (decimal size ++ codes " bytes\n")))
 
 -- a message by its flags, type and size, and by the line of such a message that is no request, if it has one
-abbrev pub line_or_type : ℕ → ℕ → ℕ → Option (List ℕ) → List ℕ
-line_or_type flags t size (Some line) = asked_line flags t line
-line_or_type flags t size None = type_line t size
+abbrev pub line_or_type : Options → ℕ → ℕ → ℕ → Option (List ℕ) → List ℕ
+line_or_type options flags t size (Some line) = labelled options t (asked_line flags t line)
+line_or_type options flags t size None = type_line t size
 
 -- a message whose payload has this error, by the offset, type and size of the message
 abbrev pub error_lines : ℕ → ℕ → ℕ → FamilyError → Lines
@@ -56,11 +58,11 @@ rejected_lines at frame error =
     else error_lines at (header_of frame).message_type (length frame) error
 
 -- a message of a family, by the known names of links, its offset and its frame, and by its payload's error
-abbrev pub family_lines : List Known → ℕ → List ℕ → Option FamilyError → Lines
-family_lines known at frame None =
-    good (line_or_type (header_of frame).flags (header_of frame).message_type (length frame)
+abbrev pub family_lines : Options → List Known → ℕ → List ℕ → Option FamilyError → Lines
+family_lines options known at frame None =
+    good (line_or_type options (header_of frame).flags (header_of frame).message_type (length frame)
     (route_line known ((header_of frame).message_type, payload_of frame)))
-family_lines known at frame (Some error) = rejected_lines at frame error
+family_lines options known at frame (Some error) = rejected_lines at frame error
 
 -- a message of type 15 at this offset, whose payload is no time
 abbrev pub wrong_time : ℕ → List ℕ → Lines
@@ -68,47 +70,48 @@ wrong_time at payload =
     bad at (refusal_text 15
     (codes "the payload has " ++ (decimal (length payload) ++ codes " bytes instead of 8")))
 
-abbrev pub own_lines : Check → List Known → ℕ → List ℕ → Lines
-own_lines check known at frame =
+abbrev pub own_lines : Check → Options → List Known → ℕ → List ℕ → Lines
+own_lines check options known at frame =
     if (header_of frame).message_type == 15 then wrong_time at (payload_of frame)
-    else family_lines known at frame (check (header_of frame).message_type (payload_of frame))
+    else family_lines options known at frame (check (header_of frame).message_type (payload_of frame))
 
--- a frame by what it means, and by the kernel's text in it
-abbrev pub item_lines : Check → List Known → ℕ → List ℕ → Option (List ℕ) → Option Item → Lines
-item_lines check known at frame text None = good (codes "noop\n")
-item_lines check known at frame text (Some (Err error)) = bad at (cause_text error)
-item_lines check known at frame text (Some (Ok (Done code attributes))) = good (done_line code text)
-item_lines check known at frame text (Some (Ok (Acknowledged attributes))) = good (error_line (pos 0) text)
-item_lines check known at frame text (Some (Ok (Rejected code request attributes))) = good (error_line code text)
-item_lines check known at frame text (Some (Ok Overrun)) = good (codes "overrun\n")
-item_lines check known at frame text (Some (Ok (Message whole))) = own_lines check known at frame
-item_lines check known at frame text (Some (Ok (Other whole))) = own_lines check known at frame
+-- a frame by what it means, and by what the kernel says in it
+abbrev pub item_lines : Check → Options → List Known → ℕ → List ℕ → List ℕ → Option Item → Lines
+item_lines check options known at frame words None = good (codes "noop\n")
+item_lines check options known at frame words (Some (Err error)) = bad at (cause_text error)
+item_lines check options known at frame words (Some (Ok (Done code attributes))) = good (done_line code words)
+item_lines check options known at frame words (Some (Ok (Acknowledged attributes))) = good (error_line (pos 0) words)
+item_lines check options known at frame words (Some (Ok (Rejected code request attributes))) = good (error_line code words)
+item_lines check options known at frame words (Some (Ok Overrun)) = good (codes "overrun\n")
+item_lines check options known at frame words (Some (Ok (Message whole))) = own_lines check options known at frame
+item_lines check options known at frame words (Some (Ok (Other whole))) = own_lines check options known at frame
 
--- the lines of the frame of a message at this offset, by the known names of links and the kernel's
--- text in it
-abbrev pub frame_lines : Check → List Known → ℕ → List ℕ → Option (List ℕ) → Lines
-frame_lines check known at frame text =
-    marked_if (header_of frame).flags (item_lines check known at frame text (meaning frame))
+-- the lines of the frame of a message at this offset, by the known names of links and what the kernel
+-- says in it
+abbrev pub frame_lines : Check → Options → List Known → ℕ → List ℕ → List ℕ → Lines
+frame_lines check options known at frame words =
+    marked_if (header_of frame).flags (item_lines check options known at frame words (meaning frame))
 
 -- the frame of a message at this offset has these lines
-abbrev pub HasLines : Check → List Known → ℕ → List ℕ → Lines → Type 0
-HasLines check known at frame lines =
-    (text : Option (List ℕ)) × IsText (ack_attributes (meaning frame)) text
-    × (lines ≡ frame_lines check known at frame text)
+abbrev pub HasLines : Check → Options → List Known → ℕ → List ℕ → Lines → Type 0
+HasLines check options known at frame lines =
+    (words : List ℕ) × IsWords (meaning frame) words
+    × (lines ≡ frame_lines check options known at frame words)
 
 -- ---- what the messages so far leave to the next
 
--- the time that precedes the next line, and the names of links
+-- the time that precedes the next line, the names of links, and what is printed besides the lines
 pub record Memory : Type 0 where
   pub time : Option Time
   pub known : List Known
+  pub options : Options
 
 abbrev pub memory_of : State → Memory
-memory_of state = record { time = state.time; known = state.known }
+memory_of state = record { time = state.time; known = state.known; options = state.options }
 
 -- no message so far
-abbrev pub no_memory : Memory
-no_memory = record { time = None; known = [] }
+abbrev pub no_memory : Options → Memory
+no_memory options = record { time = None; known = []; options = options }
 
 -- messages with these flags and of this type tell the names of links
 abbrev pub is_named : ℕ → ℕ → Bool
@@ -139,27 +142,30 @@ unless_time (Some time) lines = good []
 
 -- ---- a message after others
 
--- a message as it is in the input: its offset, its frame and the kernel's text in it
+-- a message as it is in the input: its offset, its frame and what the kernel says in it
 pub record Seen : Type 0 where
   pub at : ℕ
   pub frame : List ℕ
-  pub text : Option (List ℕ)
+  pub words : List ℕ
 
 -- its lines, by what the messages before it leave; the names of links are those after it
 abbrev pub seen_lines : Check → Memory → Seen → Lines
 seen_lines check memory seen =
     unless_time (time_in seen.frame)
     (timed memory.time
-    (frame_lines check (known_after check seen.frame memory.known) seen.at seen.frame seen.text))
+    (frame_lines check memory.options (known_after check seen.frame memory.known) seen.at seen.frame seen.words))
 
 -- what it leaves: a time is for the next message alone
 abbrev pub memory_after : Check → Memory → Seen → Memory
-memory_after check memory seen =
-    record { time = time_in seen.frame; known = known_after check seen.frame memory.known }
+memory_after check memory seen = record {
+  time = time_in seen.frame;
+  known = known_after check seen.frame memory.known;
+  options = memory.options;
+}
 
 -- the frame of a message at this offset has these lines after others, and leaves this
 abbrev pub Tells : Check → ℕ → List ℕ → Memory → Lines → Memory → Type 0
 Tells check at frame memory lines after =
-    (text : Option (List ℕ)) × IsText (ack_attributes (meaning frame)) text
-    × (lines ≡ seen_lines check memory (record { at = at; frame = frame; text = text }))
-    × (after ≡ memory_after check memory (record { at = at; frame = frame; text = text }))
+    (words : List ℕ) × IsWords (meaning frame) words
+    × (lines ≡ seen_lines check memory (record { at = at; frame = frame; words = words }))
+    × (after ≡ memory_after check memory (record { at = at; frame = frame; words = words }))

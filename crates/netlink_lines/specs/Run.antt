@@ -4,6 +4,7 @@ use Rattle.std.specs.Io.KnownBytes.{Appends}
 use Rattle.netlink_packet_core.specs.Walks.{Passed}
 use Rattle.netlink_lines.specs.Format.{Format, ShowsAll, StopsAs, told_from}
 use Rattle.netlink_lines.specs.Messages.{Check, Lines, Memory, no_memory}
+use Rattle.netlink_lines.specs.Options.{plain}
 use Rattle.netlink_lines.specs.Packet.{TellsTorn, packets_of}
 use Rattle.netlink_input.specs.Pcap.{layout_of}
 use Rattle.netlink_lines.specs.Stream.{messages_of}
@@ -11,6 +12,7 @@ use Rattle.netlink_input.specs.declared.pcap.Layout.{Layout}
 use Rattle.netlink_input.specs.declared.pcap.Layout.TheVariants.{Messages, Packets, Unread}
 use Rattle.netlink_input.specs.declared.fault.Fault.{Fault}
 use Rattle.netlink_input.specs.declared.fault.Fault.TheVariants as fault
+use Rattle.netlink_lines.specs.declared.options.Options.{Options}
 use Rattle.netlink_lines.specs.declared.runs.Outcome.{Outcome}
 use Rattle.netlink_input.specs.declared.stream.Stop.{Stop}
 
@@ -82,10 +84,10 @@ EndsOver f memory end bytes left old new after (Err why) =
     RunsOver {R = ⊤} f memory end bytes left old new after (Err why)
 
 -- the same over a whole input, or all of it from some bytes on
-abbrev pub RunsAll : {A R : Type 0} → Format A → ℕ → List ℕ → Option (List ℕ) → Option (List ℕ)
+abbrev pub RunsAll : {A R : Type 0} → Format A → Options → ℕ → List ℕ → Option (List ℕ) → Option (List ℕ)
     → Option (List ℕ) → Result R Fault → Type 0
-RunsAll f end bytes left old new result =
-    (after : Memory) × RunsOver f no_memory end bytes left old new after result
+RunsAll f options end bytes left old new result =
+    (after : Memory) × RunsOver f (no_memory options) end bytes left old new after result
 
 -- how a run ends whose input is not read for this cause, unless it fails before it knows
 abbrev pub Rejects : {R : Type 0} → Stop → Result R Fault → Type 0
@@ -95,18 +97,23 @@ Rejects why (Err fault.OutOfMemory) = ⊤
 Rejects why other = ⊥
 
 -- what a run over the input did, by what the input is
-abbrev pub RunsIn : {R : Type 0} → Check → Layout → List ℕ → Option (List ℕ) → Option (List ℕ)
+abbrev pub RunsIn : {R : Type 0} → Check → Options → Layout → List ℕ → Option (List ℕ) → Option (List ℕ)
     → Option (List ℕ) → Result R Fault → Type 0
-RunsIn check Messages input left old new result =
-    RunsAll (messages_of check) (length input) input left old new result
-RunsIn check (Packets order) input left old new result =
-    RunsAll (packets_of check order) (length input) (drop 24 input) left old new result
-RunsIn check (Unread why) input left old new result = Rejects why result × Appends old new []
+RunsIn check options Messages input left old new result =
+    RunsAll (messages_of check) options (length input) input left old new result
+RunsIn check options (Packets order) input left old new result =
+    RunsAll (packets_of check order) options (length input) (drop 24 input) left old new result
+RunsIn check options (Unread why) input left old new result = Rejects why result × Appends old new []
 
--- what a run over the input did
+-- what a run over the input did, by what it prints besides the lines
+abbrev pub RunsWith : {R : Type 0} → Check → Options → List ℕ → Option (List ℕ) → Option (List ℕ)
+    → Option (List ℕ) → Result R Fault → Type 0
+RunsWith check options input = RunsIn check options (layout_of input) input
+
+-- what a run over the input did that prints the lines alone
 abbrev pub RunsAs : {R : Type 0} → Check → List ℕ → Option (List ℕ) → Option (List ℕ)
     → Option (List ℕ) → Result R Fault → Type 0
-RunsAs check input = RunsIn check (layout_of input) input
+RunsAs check = RunsWith check plain
 
 -- how a run ends at the end of its input, by whether a message was malformed
 abbrev pub end_of : Bool → Result ⊤ Fault

@@ -4,7 +4,7 @@ use Rattle.netlink_packet_core.specs.FrameWalk.{StartsFrame}
 use Rattle.netlink_packet_core.specs.Header.{HoldsFrame}
 use Rattle.netlink_packet_core.specs.Walks.{WalksAs}
 use Rattle.netlink_replies.specs.Meaning.{meaning}
-use Rattle.netlink_lines.specs.Ack.{IsText, ack_attributes}
+use Rattle.netlink_lines.specs.Ack.{IsWords}
 use Rattle.netlink_lines.specs.Format.{Format}
 use Rattle.netlink_lines.specs.Messages.{Check, Seen, memory_after, seen_lines}
 use Rattle.netlink_input.specs.Stream.{IsStop, longest}
@@ -16,7 +16,7 @@ pub record StartsSeen (end : ℕ) (bytes : List ℕ) (seen : Seen) (rest : List 
   pub starts : StartsFrame bytes seen.frame rest
   pub most : length seen.frame ≤ longest
   pub place : seen.at ≡ end - length bytes
-  pub text : IsText (ack_attributes (meaning seen.frame)) seen.text
+  pub words : IsWords (meaning seen.frame) seen.words
 
 -- messages, by the errors of payloads
 abbrev pub messages_of : Check → Format Seen

@@ -1,11 +1,12 @@
-//! The kernel's text in an error or done message, and the mark of an interrupted dump.
+//! What the kernel says in an error or done message, and the mark of an interrupted dump.
 
 ghost use Rattle.std.specs.Prelude.{◌≡◌, IfOk, string_bytes};
 ghost use Rattle.std.specs.Option.{option_copied};
 ghost use Rattle.netlink_packet_core.specs.FrameWalk.{IsWholeFrame};
 ghost use Rattle.netlink_replies.specs.Meaning.{meaning, shown_item};
-ghost use Rattle.netlink_lines.specs.Ack.{IsText, ack_attributes, is_interrupted, text_words};
+ghost use Rattle.netlink_lines.specs.Ack.{IsSaid, IsWords, ack_attributes, ack_request, is_interrupted, text_words};
 
+use crate::concern::{missing_words, place_words};
 use netlink_packet_core::{DecodeError, NLM_F_DUMP_INTR, NetlinkBuffer};
 use netlink_replies::{ExtendedAck, Replies, Reply, Request};
 use netlink_words::text::sentence_text;
@@ -25,14 +26,27 @@ pub(crate) fn meaning_of(frame: &[u8]) -> Option<Result<Reply<&[u8]>, DecodeErro
     Replies::new(request).take(frame)
 }
 
-/// Returns the kernel's text in a message that means this, if it is an error or done message with a
-/// text.
-pub(crate) fn kernel_text<'a>(
-    item: &Option<Result<Reply<&'a [u8]>, DecodeError>>,
-) -> Option<&'a [u8]>
-    ensures text { IsText (ack_attributes (shown_item item.now)) (option_copied result) }
+/// Returns what the kernel says in a message that means this, if it is an error or done message: its
+/// text after a colon, where in the request the attribute is that it complains of, and which attribute
+/// the request lacks.
+pub(crate) fn ack_words(
+    alloc: Global,
+    item: &Option<Result<Reply<&[u8]>, DecodeError>>,
+) -> Result<String, AllocError>
+    ensures words { IfOk result (λ words. IsWords (shown_item item.now) (string_bytes words)) }
 {
-    text_in(ack_attributes(item))
+    said(alloc, ack_attributes(item), ack_request(item))
+}
+
+/// Returns what the attributes of an extended acknowledgement say of a request.
+fn said(alloc: Global, attributes: &[u8], request: &[u8]) -> Result<String, AllocError>
+    ensures { IfOk result (λ words. IsSaid attributes.now request.now (string_bytes words)) }
+{
+    let ack = ExtendedAck { attributes };
+    let text = text_words(alloc, ack.message())?;
+    let place = place_words(alloc, &ack, request)?;
+    let missing = missing_words(alloc, ack.missing_type(), ack.missing_nest())?;
+    format!(in alloc; "{text}{place}{missing}")
 }
 
 /// Returns the attributes of an extended acknowledgement; nothing if the frame is another message.
@@ -47,15 +61,18 @@ fn ack_attributes<'a>(item: &Option<Result<Reply<&'a [u8]>, DecodeError>>) -> &'
     }
 }
 
-/// Returns the kernel's text in the attributes of an extended acknowledgement, if there is one.
-fn text_in(attributes: &[u8]) -> Option<&[u8]>
-    ensures { IsText attributes.now (option_copied result) }
+/// Returns the request, or its header, that an error refuses; nothing if the frame is another message.
+fn ack_request<'a>(item: &Option<Result<Reply<&'a [u8]>, DecodeError>>) -> &'a [u8]
+    ensures { result.now ≡ ack_request (shown_item item.now) }
 {
-    ExtendedAck { attributes }.message()
+    match item {
+        Some(Ok(Reply::Rejected { request, .. })) => *request,
+        _ => &[],
+    }
 }
 
 /// Returns a text after a colon, if there is one.
-pub(crate) fn text_words(alloc: Global, text: Option<&[u8]>) -> Result<String, AllocError>
+fn text_words(alloc: Global, text: Option<&[u8]>) -> Result<String, AllocError>
     ensures { IfOk result (λ words. string_bytes words ≡ text_words (option_copied text.entry)) }
 {
     match text {

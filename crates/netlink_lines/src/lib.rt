@@ -10,6 +10,7 @@
 //! | word of a line | function | definition |
 //! |---|---|---|
 //! | `[1700000000.000042] ` | `time::time_text` | `Time::time_text` |
+//! | `[LINK]` | `options::labelled` | `Options::labelled` |
 //! | `interrupted`, a line before | `messages::marked` | `Ack::marked_if` |
 //! | `request `, or `request delete` for `Deleted` | `requests::request_line` | `Requests::request_line` |
 //! | the line of one of the three crates | `line::line_of` | `Lines::route_line` |
@@ -18,6 +19,8 @@
 //! | `ack`, `error -22` | `line::error_line` | `Lines::error_line` |
 //! | ` (Invalid argument)` after a code | `line::code_text`, `system_errors::error_name` | `SystemErrors::code_text` |
 //! | `: mtu less than device minimum` | `ack::text_words` | `Ack::text_words` |
+//! | `; byte 52, attribute 18/2/5` | `concern::place_words` | `Concern::place_words` |
+//! | `; attribute 4 is missing` | `concern::missing_words` | `Concern::missing_words` |
 //! | `noop`, `overrun` | `messages::item_shown` | `Messages::item_lines` |
 //! | `type 26, 28 bytes` | `messages::type_line` | `Messages::type_line` |
 //! | `byte 20: ` before an error | `messages::malformed` | `Messages::bad` |
@@ -38,10 +41,12 @@
 
 mod ack;
 mod capture;
+mod concern;
 mod families;
 pub mod laws;
 mod line;
 mod messages;
+mod options;
 mod packet;
 mod requests;
 mod runs;
@@ -50,7 +55,8 @@ mod system_errors;
 mod time;
 
 pub use crate::line::Line;
-pub use crate::runs::run;
+pub use crate::options::Options;
+pub use crate::runs::{run, run_with};
 pub use netlink_address_lines::address::address_text;
 pub use netlink_address_lines::neighbour::neighbour_text;
 pub use netlink_address_lines::neighbour_table::neighbour_table_text;

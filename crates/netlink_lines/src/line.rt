@@ -1,11 +1,10 @@
 //! The lines of messages.
 
 ghost use Rattle.std.specs.Prelude.{◌≡◌, IfOk, OnOk, string_bytes};
-ghost use Rattle.std.specs.Option.{option_copied, option_map};
+ghost use Rattle.std.specs.Option.{option_map};
 ghost use Rattle.netlink_lines.specs.Lines.{code_words, done_line, error_line, known_by, later_line, other_line, route_line};
 ghost use Rattle.netlink_lines.specs.SystemErrors.{code_text};
 
-use crate::ack::text_words;
 use crate::system_errors::error_name;
 use netlink_address_lines::address::address_line;
 use netlink_address_lines::neighbour::neighbour_line;
@@ -171,27 +170,20 @@ fn later_line(
     }
 }
 
-/// Returns the line of a done message by its code and its text: `done`, the code and its name if it is
-/// not 0, and the text.
-pub(crate) fn done_line(alloc: Global, code: i32, text: Option<&[u8]>) -> Result<String, AllocError>
-    ensures { IfOk result (λ line. string_bytes line ≡ done_line code (option_copied text.entry)) }
+/// Returns the line of a done message by its code and by what it says: `done`, the code and its name if
+/// it is not 0, and the words.
+pub(crate) fn done_line(alloc: Global, code: i32, words: &str) -> Result<String, AllocError>
+    ensures { IfOk result (λ line. string_bytes line ≡ done_line code words.now) }
 {
     let code = code_words(alloc, code)?;
-    let words = text_words(alloc, text)?;
     format!(in alloc; "done{code}{words}\n")
 }
 
-/// Returns the line of an error by its code and its text: `error`, the code and its name, or `ack` if it
-/// is 0, and the text.
-pub(crate) fn error_line(
-    alloc: Global,
-    code: i32,
-    text: Option<&[u8]>,
-) -> Result<String, AllocError>
-    ensures { IfOk result (λ line. string_bytes line
-        ≡ error_line code (option_copied text.entry)) }
+/// Returns the line of an error by its code and by what it says: `error`, the code and its name, or
+/// `ack` if it is 0, and the words.
+pub(crate) fn error_line(alloc: Global, code: i32, words: &str) -> Result<String, AllocError>
+    ensures { IfOk result (λ line. string_bytes line ≡ error_line code words.now) }
 {
-    let words = text_words(alloc, text)?;
     if code == 0 {
         return format!(in alloc; "ack{words}\n");
     }

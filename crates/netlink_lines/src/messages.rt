@@ -1,7 +1,6 @@
 //! What a message is shown as.
 
 ghost use Rattle.std.specs.Prelude.{◌≡◌, false, IfOk, OnOk, if◌then◌else◌, string_bytes};
-ghost use Rattle.std.specs.Option.{option_copied};
 ghost use Rattle.netlink_family.specs.Tables.{table_error};
 ghost use Rattle.netlink_packet_core.specs.FrameWalk.{IsWholeFrame};
 ghost use Rattle.netlink_packet_core.specs.Header.{header_of, payload_of};
@@ -10,9 +9,10 @@ ghost use Rattle.netlink_lines.specs.Ack.{marked_if};
 ghost use Rattle.netlink_lines.specs.Lines.{known_by, route_line};
 ghost use Rattle.netlink_lines.specs.Messages.{HasLines, Tells, bad, error_lines, family_lines, good, is_named, item_lines, known_after, line_or_type, memory_of, own_lines, rejected_lines, timed, type_line, wrong_time};
 
-use crate::ack::{is_interrupted, kernel_text, meaning_of};
+use crate::ack::{ack_words, is_interrupted, meaning_of};
 use crate::families::is_foreign;
 use crate::line::{Line, done_line, error_line};
+use crate::options::{Options, labelled};
 use crate::requests::{asked_line, is_dump, is_request};
 use crate::state::State;
 use crate::time::{NLMSG_TSTAMP, Time, time_in, time_text};
@@ -53,9 +53,10 @@ pub(crate) fn next_lines<F: Line>(
         (memory_of state.old) (string_bytes s.text, s.is_malformed) (memory_of state.new)) }
 {
     let before = state.time;
+    let options = state.options;
     // Most messages are of the family, so this is checked first.
     if NetlinkBuffer::new(frame).message_type() >= MIN_TYPE {
-        let shown = family_shown::<F>(alloc, &mut state.known, at, frame)?;
+        let shown = family_shown::<F>(alloc, options, &mut state.known, at, frame)?;
         state.time = None;
         let shown = marked(alloc, NetlinkBuffer::new(frame).flags(), shown)?;
         return timed(alloc, before, shown);
@@ -65,7 +66,7 @@ pub(crate) fn next_lines<F: Line>(
     match time {
         Some(_) => Ok(well_formed(String::new(alloc))),
         None => {
-            let shown = lines_of::<F>(alloc, &state.known.names(), at, frame)?;
+            let shown = lines_of::<F>(alloc, options, &state.known.names(), at, frame)?;
             timed(alloc, before, shown)
         }
     }
@@ -75,6 +76,7 @@ pub(crate) fn next_lines<F: Line>(
 /// the payload once for both. Requires that the bytes are one frame.
 fn family_shown<F: Line>(
     alloc: Global,
+    options: Options,
     known: &mut NameTable,
     at: u64,
     frame: &[u8],
@@ -82,7 +84,7 @@ fn family_shown<F: Line>(
     requires whole { IsWholeFrame frame.now }
     ensures names { OnOk result (known.new ≡ known_after (table_error F.Table)
         frame.now known.old) }
-    ensures lines { IfOk result (λ s. (string_bytes s.text, s.is_malformed) ≡ family_lines known.new at frame.now
+    ensures lines { IfOk result (λ s. (string_bytes s.text, s.is_malformed) ≡ family_lines options known.new at frame.now
         (table_error F.Table (header_of frame.now).message_type (payload_of frame.now))) }
 {
     let view = NetlinkBuffer::new(frame);
@@ -91,7 +93,7 @@ fn family_shown<F: Line>(
     match MessageView::<F>::new(message_type, view.payload()) {
         Ok(message) => {
             learn::<F>(alloc, known, flags, &message)?;
-            message_shown::<F>(alloc, &known.names(), flags, frame.len(), &message)
+            message_shown::<F>(alloc, options, &known.names(), flags, frame.len(), &message)
         }
         Err(error) => rejected(alloc, at, frame, &error),
     }
@@ -145,22 +147,23 @@ fn timed(alloc: Global, time: Option<Time>, shown: Shown) -> Result<Shown, Alloc
 ///
 /// The line of a message of a known type is that of the family or, if the family has none, its type
 /// and size, as for an unknown type. Control messages are `done`, with its code if that is not 0;
-/// `error` and its code, a negative errno, or `ack` if it is 0; `noop`; `overrun`. The kernel's text
-/// follows the code. The line of a malformed message is its error. A line `interrupted` comes first
+/// `error` and its code, a negative errno, or `ack` if it is 0; `noop`; `overrun`. What the kernel says
+/// follows the code: its text, and the attribute that it complains of. The line of a malformed message is its error. A line `interrupted` comes first
 /// if the flags have `NLM_F_DUMP_INTR`. Returns `AllocError` if an allocation fails.
 fn lines_of<F: Line>(
     alloc: Global,
+    options: Options,
     known: &Names<'_>,
     at: u64,
     frame: &[u8],
 ) -> Result<Shown, AllocError>
     requires whole { IsWholeFrame frame.now }
-    ensures lines { IfOk result (λ s. HasLines (table_error F.Table) known.now at
+    ensures lines { IfOk result (λ s. HasLines (table_error F.Table) options known.now at
         frame.now (string_bytes s.text, s.is_malformed)) }
 {
     let item = meaning_of(frame);
-    let text = kernel_text(&item);
-    let shown = item_shown::<F>(alloc, known, at, frame, text, item)?;
+    let words = ack_words(alloc, &item)?;
+    let shown = item_shown::<F>(alloc, options, known, at, frame, words.as_str(), item)?;
     marked(alloc, NetlinkBuffer::new(frame).flags(), shown)
 }
 
@@ -179,29 +182,30 @@ fn marked(alloc: Global, flags: u16, shown: Shown) -> Result<Shown, AllocError>
     Ok(Shown { text, is_malformed })
 }
 
-/// Returns the lines of a frame by what it means, and by the kernel's text in it.
+/// Returns the lines of a frame by what it means, and by what the kernel says in it.
 fn item_shown<F: Line>(
     alloc: Global,
+    options: Options,
     known: &Names<'_>,
     at: u64,
     frame: &[u8],
-    text: Option<&[u8]>,
+    words: &str,
     item: Option<Result<Reply<&[u8]>, DecodeError>>,
 ) -> Result<Shown, AllocError>
     requires whole { IsWholeFrame frame.now }
     ensures { IfOk result (λ s. (string_bytes s.text, s.is_malformed)
-        ≡ item_lines (table_error F.Table) known.now at frame.now
-        (option_copied text.entry) (shown_item item.entry)) }
+        ≡ item_lines (table_error F.Table) options known.now at frame.now
+        words.now (shown_item item.entry)) }
 {
     let line = match item {
         None => String::from_str(alloc, "noop\n")?,
         Some(Err(error)) => return malformed(alloc, at, error.to_string(alloc)?.as_str()),
-        Some(Ok(Reply::Done { code, .. })) => done_line(alloc, code, text)?,
-        Some(Ok(Reply::Acknowledged { .. })) => error_line(alloc, 0, text)?,
-        Some(Ok(Reply::Rejected { code, .. })) => error_line(alloc, code, text)?,
+        Some(Ok(Reply::Done { code, .. })) => done_line(alloc, code, words)?,
+        Some(Ok(Reply::Acknowledged { .. })) => error_line(alloc, 0, words)?,
+        Some(Ok(Reply::Rejected { code, .. })) => error_line(alloc, code, words)?,
         Some(Ok(Reply::Overrun)) => String::from_str(alloc, "overrun\n")?,
-        Some(Ok(Reply::Message(_))) => return own_shown::<F>(alloc, known, at, frame),
-        Some(Ok(Reply::Other(_))) => return own_shown::<F>(alloc, known, at, frame),
+        Some(Ok(Reply::Message(_))) => return own_shown::<F>(alloc, options, known, at, frame),
+        Some(Ok(Reply::Other(_))) => return own_shown::<F>(alloc, options, known, at, frame),
     };
     Ok(well_formed(line))
 }
@@ -210,13 +214,14 @@ fn item_shown<F: Line>(
 /// calls it.
 fn own_shown<F: Line>(
     alloc: Global,
+    options: Options,
     known: &Names<'_>,
     at: u64,
     frame: &[u8],
 ) -> Result<Shown, AllocError>
     requires whole { IsWholeFrame frame.now }
     ensures { IfOk result (λ s. (string_bytes s.text, s.is_malformed)
-        ≡ own_lines (table_error F.Table) known.now at frame.now) }
+        ≡ own_lines (table_error F.Table) options known.now at frame.now) }
 {
     let view = NetlinkBuffer::new(frame);
     let message_type = view.message_type();
@@ -224,7 +229,14 @@ fn own_shown<F: Line>(
         return wrong_time(alloc, at, view.payload());
     }
     match MessageView::<F>::new(message_type, view.payload()) {
-        Ok(message) => message_shown::<F>(alloc, known, view.flags(), frame.len(), &message),
+        Ok(message) => message_shown::<F>(
+            alloc,
+            options,
+            known,
+            view.flags(),
+            frame.len(),
+            &message,
+        ),
         Err(error) => rejected(alloc, at, frame, &error),
     }
 }
@@ -232,17 +244,21 @@ fn own_shown<F: Line>(
 /// Returns the line of a message without errors, whose frame has these flags and this size.
 fn message_shown<F: Line>(
     alloc: Global,
+    options: Options,
     known: &Names<'_>,
     flags: u16,
     size: usize,
     message: &MessageView<'_, F>,
 ) -> Result<Shown, AllocError>
     ensures { IfOk result (λ s. (string_bytes s.text, s.is_malformed)
-        ≡ good (line_or_type flags message.now.message_type size
+        ≡ good (line_or_type options flags message.now.message_type size
         (route_line known.now (message.now.message_type, message.now.payload.now)))) }
 {
     match F::line_by(alloc, known, message)? {
-        Some(line) => Ok(well_formed(asked_line(alloc, flags, message.message_type, line)?)),
+        Some(line) => {
+            let line = asked_line(alloc, flags, message.message_type, line)?;
+            Ok(well_formed(labelled(alloc, options, message.message_type, line)?))
+        }
         None => Ok(well_formed(type_line(alloc, message.message_type, size)?)),
     }
 }

@@ -4,12 +4,13 @@ ghost use Rattle.std.specs.Prelude.{◌≡◌, ◌<◌, ◌+◌, Some, IfSome, l
 ghost use Rattle.std.specs.Io.KnownBytes.{prepend_known};
 ghost use Rattle.netlink_family.specs.Tables.{table_error};
 ghost use Rattle.netlink_lines.specs.Messages.{memory_of};
-ghost use Rattle.netlink_lines.specs.Run.{EndsOver, RunsAs, RunsOver, end_of, end_with};
+ghost use Rattle.netlink_lines.specs.Run.{EndsOver, RunsAs, RunsOver, RunsWith, end_of, end_with};
 ghost use Rattle.netlink_lines.specs.Stream.{messages_of};
 
 use crate::capture::packets;
 use crate::line::Line;
 use crate::messages::next_lines;
+use crate::options::Options;
 use crate::state::State;
 use netlink_input::fault::Fault;
 use netlink_input::pcap::{FILE_HEADER_LEN, Layout, layout_of};
@@ -49,9 +50,24 @@ pub fn run<F: Line, R: Read, W: Write>(
         RunsAs (table_error F.Table) input (R.remaining reader.new)
         (W.contents writer.old) (W.contents writer.new) result) }
 {
+    let plain = Options { labels: false };
+    run_with::<F, R, W>(alloc, plain, reader, writer)
+}
+
+/// Runs as `run` does, and prints besides the lines what the options ask for.
+pub fn run_with<F: Line, R: Read, W: Write>(
+    alloc: Global,
+    options: Options,
+    reader: &mut R,
+    writer: &mut W,
+) -> Result<(), Fault>
+    ensures runs { IfSome (R.remaining reader.old) (λ input.
+        RunsWith (table_error F.Table) options input (R.remaining reader.new)
+        (W.contents writer.old) (W.contents writer.new) result) }
+{
     let mut first = Vec::with_capacity(alloc, FILE_HEADER_LEN)?;
     read_start(reader, &mut first)?;
-    let mut state = State::new(alloc);
+    let mut state = State::new(alloc, options);
     match layout_of(&first) {
         Layout::Messages => messages::<F, R, W>(alloc, &mut state, 0, first, reader, writer),
         Layout::Packets(order) => packets::<F, R, W>(alloc, &mut state, order, reader, writer),

@@ -16,11 +16,11 @@ use std::{env, io};
 
 /// Ends with status 0; with 1 and the fault's text on standard error; or with 2 and the usage.
 fn main(rt: HostRuntime) -> Ending<Fault, Usage> {
-    let is_asked = asked(env::args(&rt).ok());
+    let options = asked(env::args(&rt).ok());
     match BufReader::new(rt.alloc(), rt.reader()) {
         Ok(mut reader) => ended::<Joined<RouteTables>, _, _>(
             rt.alloc(),
-            is_asked,
+            options,
             &mut reader,
             &mut io::writer(&rt),
         ),

@@ -1,5 +1,6 @@
 #!/usr/bin/env python3
-"""Compares lines.txt with the lines that the installed `ip` prints for frames.bin. They are those of iproute2 6.1.
+"""Compares lines.txt and LABELS with the lines that the installed `ip` prints for frames.bin, each after its label. They
+are those of iproute2 6.1.
 
 Run it in namespaces without links and without lists of names, for example:
 
@@ -23,6 +24,9 @@ LINKS, ADDRESSES, ROUTES, RULES = (16, 17), (20, 21), (24, 25), (32, 33)
 IFLA_IFALIAS = 20
 RTM_F_CLONED = 0x200
 
+# What `ip monitor label` prints before the line of a message, by the type without its last two bits.
+LABELS = {16: "[LINK]", 20: "[ADDR]", 24: "[ROUTE]", 28: "[NEIGH]", 32: "[RULE]", 88: "[NSID]"}
+
 
 def frames_in(data):
     at = 0
@@ -34,6 +38,11 @@ def frames_in(data):
 
 def kind_of(frame):
     return struct.unpack_from("<H", frame, 4)[0]
+
+
+def label_of(frame):
+    """Returns what `ip monitor label` prints before the line of a frame."""
+    return LABELS.get(kind_of(frame) & ~3, "")
 
 
 def is_printed(frame):
@@ -84,15 +93,16 @@ def main():
     with tempfile.NamedTemporaryFile() as file:
         file.write(b"".join(frame for _, frame, _ in rows))
         file.flush()
-        words = ["ip", "-o", "monitor", "file", file.name]
+        words = ["ip", "-o", "monitor", "label", "file", file.name]
         printed = subprocess.run(words, stdout=subprocess.PIPE, check=True).stdout.decode("latin-1").split("\n")[:-1]
     if (len(frames), len(printed)) != (len(lines), len(rows)):
         sys.exit(f"{len(frames)} frames and {len(lines)} lines; ip printed {len(printed)} lines instead of {len(rows)}")
     different = 0
     for (place, frame, line), own in zip(rows, printed):
-        if normalized(frame, own) != monitored(frame, line):
+        label, wanted = label_of(frame), monitored(frame, line)
+        if own[: len(label)] != label or normalized(frame, own[len(label) :]) != wanted:
             different += 1
-            print(f"line {place}: ip prints {normalized(frame, own)!r}, not {monitored(frame, line)!r}")
+            print(f"line {place}: ip prints {own!r}, not {label + wanted!r}")
     print(f"{len(rows) - different} lines are equal, {different} differ, {len(lines) - len(rows)} skipped")
     sys.exit(1 if different else 0)
 

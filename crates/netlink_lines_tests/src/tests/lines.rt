@@ -43,6 +43,26 @@ const OTHERS: [u8; 136] = [
     8, 0, 1, 0, b'a', b' ', b'b', 0, // NLMSGERR_ATTR_MSG
 ];
 
+/// The error -22 with its request, RTM_NEWADDR with IFA_LOCAL, of which it names the byte 24; one with
+/// the byte 24 of a request of which there is the header alone, and one of a request that lacks the
+/// attribute 4, in the nest at byte 32 and in none.
+const CONCERNS: [u8; 216] = [
+    60, 0, 0, 0, 2, 0, 0, 2, 9, 0, 0, 0, 0, 0, 0, 0, // NLM_F_ACK_TLVS
+    0xea, 0xff, 0xff, 0xff, 32, 0, 0, 0, 20, 0, 5, 0, 9, 0, 0, 0, 0, 0, 0, 0, //
+    2, 24, 0, 0, 3, 0, 0, 0, 8, 0, 2, 0, 10, 0, 0, 1, // AF_INET, prefix 24, index 3, IFA_LOCAL
+    8, 0, 2, 0, 24, 0, 0, 0, // NLMSGERR_ATTR_OFFS
+    44, 0, 0, 0, 2, 0, 0, 3, 9, 0, 0, 0, 0, 0, 0, 0, // NLM_F_CAPPED and NLM_F_ACK_TLVS
+    0xea, 0xff, 0xff, 0xff, 32, 0, 0, 0, 20, 0, 5, 0, 9, 0, 0, 0, 0, 0, 0, 0, //
+    8, 0, 2, 0, 24, 0, 0, 0, // NLMSGERR_ATTR_OFFS
+    60, 0, 0, 0, 2, 0, 0, 3, 9, 0, 0, 0, 0, 0, 0, 0, //
+    0xea, 0xff, 0xff, 0xff, 48, 0, 0, 0, 16, 0, 5, 0, 9, 0, 0, 0, 0, 0, 0, 0, //
+    8, 0, 5, 0, 4, 0, 0, 0, 8, 0, 6, 0, 32, 0, 0, 0, // NLMSGERR_ATTR_MISS_TYPE and MISS_NEST
+    8, 0, 1, 0, b'a', b' ', b'b', 0, // NLMSGERR_ATTR_MSG
+    52, 0, 0, 0, 2, 0, 0, 3, 9, 0, 0, 0, 0, 0, 0, 0, //
+    0xea, 0xff, 0xff, 0xff, 48, 0, 0, 0, 16, 0, 5, 0, 9, 0, 0, 0, 0, 0, 0, 0, //
+    8, 0, 5, 0, 4, 0, 0, 0, 8, 0, 2, 0, 16, 0, 0, 0, // NLMSGERR_ATTR_MISS_TYPE and ATTR_OFFS
+];
+
 /// A request for all neighbours (linux/neighbour.h).
 const NEIGHBOURS: [u8; 28] = [
     28, 0, 0, 0, 30, 0, 1, 3, 1, 0, 0, 0, 0, 0, 0, 0, // length 28, RTM_GETNEIGH
@@ -63,7 +83,7 @@ const LATIN: [u8; 40] = [
 ];
 
 /// Messages, and the lines of each.
-const MESSAGES: [(&[u8], &str); 6] = [
+const MESSAGES: [(&[u8], &str); 7] = [
     (
         &LO,
         "Set 1: lo@if9: <LOOPBACK,UP,LOWER_UP> mtu 65536 master if5 state 0x7 link/loopback 00:00:00:00:00:fe kind veth\n",
@@ -72,6 +92,10 @@ const MESSAGES: [(&[u8], &str); 6] = [
     (
         &OTHERS,
         "error -2 (No such file or directory)\nack\ndone -22 (Invalid argument)\ninterrupted\nnoop\noverrun\nerror -22 (Invalid argument): a b\n",
+    ),
+    (
+        &CONCERNS,
+        "error -22 (Invalid argument); byte 24, attribute 2\nerror -22 (Invalid argument); byte 24\nerror -22 (Invalid argument): a b; attribute 4 is missing in the nest at byte 32\nerror -22 (Invalid argument); byte 16; attribute 4 is missing\n",
     ),
     (&NEIGHBOURS, "miss\n"),
     (&REQUEST, "type 26, 28 bytes\n"),

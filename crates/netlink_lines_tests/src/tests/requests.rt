@@ -1,6 +1,6 @@
 //! Requests, made by hand after linux/netlink.h and linux/rtnetlink.h, among what the kernel tells.
 
-use crate::tests::shown::{assert_run, joined};
+use crate::tests::shown::{assert_run, joined, shown_with_labels};
 use netlink_lines::Fault;
 use std::alloc::{AllocError, Global};
 use std::test::Fail;
@@ -47,52 +47,69 @@ const ID: [u8; 12] = [0, 0, 0, 0, 8, 0, 1, 0, 5, 0, 0, 0];
 /// One second and two microseconds.
 const TIME: [u8; 8] = [1, 0, 0, 0, 2, 0, 0, 0];
 
-/// Messages as type, flags and payload, and the lines of each. The flag 1 is NLM_F_REQUEST.
-const MESSAGES: [(u8, u8, &[u8], &str); 29] = [
+/// Messages as type, flags and payload, and the label and the line of each. The flag 1 is
+/// NLM_F_REQUEST. The time also has what precedes the label of the next message, which is of an
+/// interrupted dump.
+const MESSAGES: [(u8, u8, &[u8], &str, &str); 29] = [
     (
         16,
         5,
         &NOBODY,
+        "",
         "byte 0: Failed to parse message with type 16: the payload has 12 bytes, fewer than its header of 16\n",
     ),
-    (16, 0, &LAN, "3: lan0: <> link/ether\n"),
-    (16, 5, &WAN, "request 3: wan0: <> link/ether\n"),
-    (2, 0, &BUSY, "error -16 (Device or resource busy)\n"),
-    (28, 0, &STALE, "dev lan0 STALE\n"),
-    (17, 5, &BARE, "request delete 3: if3: <> link/ether\n"),
-    (2, 0, &BUSY, "error -16 (Device or resource busy)\n"),
-    (28, 0, &STALE, "dev lan0 STALE\n"),
-    (19, 5, &WAN, "request Set 3: wan0: <> link/ether\n"),
-    (18, 1, &WAN, "Get 3: wan0: <> link/ether\n"),
-    (30, 1, &STALE, "miss dev lan0 STALE\n"),
-    (28, 5, &STALE, "request dev lan0 STALE\n"),
-    (28, 5, &NOBODY, "request \n"),
-    (29, 5, &NOBODY, "request delete\n"),
+    (16, 0, &LAN, "[LINK]", "3: lan0: <> link/ether\n"),
+    (16, 5, &WAN, "[LINK]", "request 3: wan0: <> link/ether\n"),
+    (2, 0, &BUSY, "", "error -16 (Device or resource busy)\n"),
+    (28, 0, &STALE, "[NEIGH]", "dev lan0 STALE\n"),
+    (
+        17,
+        5,
+        &BARE,
+        "[LINK]",
+        "request delete 3: if3: <> link/ether\n",
+    ),
+    (2, 0, &BUSY, "", "error -16 (Device or resource busy)\n"),
+    (28, 0, &STALE, "[NEIGH]", "dev lan0 STALE\n"),
+    (
+        19,
+        5,
+        &WAN,
+        "[LINK]",
+        "request Set 3: wan0: <> link/ether\n",
+    ),
+    (18, 1, &WAN, "[LINK]", "Get 3: wan0: <> link/ether\n"),
+    (30, 1, &STALE, "[NEIGH]", "miss dev lan0 STALE\n"),
+    (28, 5, &STALE, "[NEIGH]", "request dev lan0 STALE\n"),
+    (28, 5, &NOBODY, "[NEIGH]", "request \n"),
+    (29, 5, &NOBODY, "[NEIGH]", "request delete\n"),
     (
         21,
         5,
         &ADDRESS,
+        "[ADDR]",
         "request delete 3: lan0 inet 10.0.0.1/24 scope global dynamic\n",
     ),
-    (24, 5, &ROUTE, "request 10.0.0.0/8\n"),
-    (25, 5, &ROUTE, "request delete 10.0.0.0/8\n"),
-    (25, 4, &ROUTE, "Deleted 10.0.0.0/8\n"),
-    (32, 5, &RULE, "request 0: from all lookup main\n"),
-    (33, 5, &RULE, "request delete 0: from all lookup main\n"),
-    (64, 5, &TABLE, "request inet arp\n"),
-    (67, 5, &TABLE, "type 67, 28 bytes\n"),
-    (88, 5, &ID, "request nsid 5\n"),
-    (89, 5, &ID, "request delete nsid 5\n"),
-    (44, 1, &NOBODY, "type 44, 28 bytes\n"),
-    (15, 1, &TIME, ""),
+    (24, 5, &ROUTE, "[ROUTE]", "request 10.0.0.0/8\n"),
+    (25, 5, &ROUTE, "[ROUTE]", "request delete 10.0.0.0/8\n"),
+    (25, 4, &ROUTE, "[ROUTE]", "Deleted 10.0.0.0/8\n"),
+    (32, 5, &RULE, "[RULE]", "request 0: from all lookup main\n"),
     (
-        16,
-        0x11,
-        &WAN,
-        "[1.000002] interrupted\nrequest 3: wan0: <> link/ether\n",
+        33,
+        5,
+        &RULE,
+        "[RULE]",
+        "request delete 0: from all lookup main\n",
     ),
-    (17, 0, &BARE, "Deleted 3: if3: <> link/ether\n"),
-    (28, 0, &STALE, "dev if3 STALE\n"),
+    (64, 5, &TABLE, "", "request inet arp\n"),
+    (67, 5, &TABLE, "", "type 67, 28 bytes\n"),
+    (88, 5, &ID, "[NSID]", "request nsid 5\n"),
+    (89, 5, &ID, "[NSID]", "request delete nsid 5\n"),
+    (44, 1, &NOBODY, "", "type 44, 28 bytes\n"),
+    (15, 1, &TIME, "", "[1.000002] interrupted\n"),
+    (16, 0x11, &WAN, "[LINK]", "request 3: wan0: <> link/ether\n"),
+    (17, 0, &BARE, "[LINK]", "Deleted 3: if3: <> link/ether\n"),
+    (28, 0, &STALE, "[NEIGH]", "dev if3 STALE\n"),
 ];
 
 /// Appends a message.
@@ -109,16 +126,23 @@ fn push_message(
 }
 
 /// The line of a request says that it is one, and no name is entered or removed by it. The lines of
-/// other messages with its flag stay.
+/// other messages with its flag stay. Labels precede the lines, if they are asked for, and change
+/// nothing else.
 #[test]
 fn requests_are_no_facts(rt: HostRuntime) -> Result<(), Fail> {
     let alloc = rt.alloc();
     let mut input: Vec<u8> = Vec::new(alloc);
     let mut wanted = String::new(alloc);
-    for (kind, flags, payload, lines) in MESSAGES {
+    let mut labelled = String::new(alloc);
+    for (kind, flags, payload, label, line) in MESSAGES {
         push_message(alloc, &mut input, kind, flags, payload)?;
-        wanted.push_str(lines)?;
+        wanted.push_str(line)?;
+        labelled.push_str(label)?;
+        labelled.push_str(line)?;
     }
     assert_run(&rt, alloc, &input, &wanted, Err(Fault::Malformed));
+    let (output, ended) = shown_with_labels(alloc, &input);
+    assert!(rt; ended == Err(Fault::Malformed));
+    assert_eq!(rt; output.as_slice(), labelled.as_bytes());
     Ok(())
 }

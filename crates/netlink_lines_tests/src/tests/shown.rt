@@ -2,7 +2,7 @@
 //! `run`.
 
 use netlink_family::Joined;
-use netlink_lines::{Fault, run};
+use netlink_lines::{Fault, Options, run, run_with};
 use netlink_route::RouteTables;
 use std::alloc::{AllocError, Global};
 use std::process::Abort;
@@ -35,6 +35,15 @@ pub(crate) fn push_lines(alloc: Global, input: &[u8], output: &mut Vec<u8>) -> R
 pub(crate) fn shown(alloc: Global, input: &[u8]) -> (Vec<u8>, Result<(), Fault>) {
     let mut output = Vec::new(alloc);
     let ended = push_lines(alloc, input, &mut output);
+    (output, ended)
+}
+
+/// Returns the lines of these bytes with labels, and how the run ended.
+pub(crate) fn shown_with_labels(alloc: Global, input: &[u8]) -> (Vec<u8>, Result<(), Fault>) {
+    let mut reader = input;
+    let mut output = Vec::new(alloc);
+    let labels = Options { labels: true };
+    let ended = run_with::<Joined<RouteTables>, _, _>(alloc, labels, &mut reader, &mut output);
     (output, ended)
 }
 

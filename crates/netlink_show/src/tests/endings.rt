@@ -2,7 +2,7 @@
 
 use crate::ending::{Usage, asked, ended};
 use netlink_family::Joined;
-use netlink_lines::{Cause, Fault, Stop};
+use netlink_lines::{Cause, Fault, Options, Stop};
 use netlink_program::Ending;
 use netlink_route::RouteTables;
 use std::alloc::{AllocError, Global};
@@ -22,17 +22,21 @@ fn args_of(alloc: Global, words: &[&str]) -> Result<Args, AllocError> {
 }
 
 #[test]
-fn a_name_alone_asks(rt: HostRuntime) -> Result<(), Fail> {
-    let rows: [(&[&str], bool); 4] = [
-        (&["netlink_show"], true),
-        (&[], false),
-        (&["netlink_show", ""], false),
-        (&["netlink_show", "links", "more"], false),
+fn arguments_ask_for_options(rt: HostRuntime) -> Result<(), Fail> {
+    let rows: [(&[&str], Option<bool>); 7] = [
+        (&["netlink_show"], Some(false)),
+        (&["netlink_show", "--label"], Some(true)),
+        (&[], None),
+        (&["netlink_show", ""], None),
+        (&["netlink_show", "--labels"], None),
+        (&["netlink_show", "label"], None),
+        (&["netlink_show", "--label", "more"], None),
     ];
     for (words, wanted) in rows.iter() {
-        assert!(rt; asked(Some(args_of(rt.alloc(), words)?)) == *wanted);
+        let wanted = wanted.map(|labels| Options { labels });
+        assert!(rt; asked(Some(args_of(rt.alloc(), words)?)) == wanted);
     }
-    assert!(rt; !asked(None));
+    assert!(rt; asked(None) == None);
     Ok(())
 }
 
@@ -57,7 +61,11 @@ fn each_ending_has_its_status_and_its_text(rt: HostRuntime) -> Result<(), Fail> 
             1,
             "byte 40: a message of 1048577 bytes is longer than 1048576\n",
         ),
-        (Ending::Usage(Usage), 2, "usage: netlink_show < FILE\n"),
+        (
+            Ending::Usage(Usage),
+            2,
+            "usage: netlink_show [--label] < FILE\n",
+        ),
     ];
     for (ending, status, text) in rows {
         assert_eq!(rt; ending.status(), status);
@@ -66,20 +74,21 @@ fn each_ending_has_its_status_and_its_text(rt: HostRuntime) -> Result<(), Fail> 
     Ok(())
 }
 
-/// Without arguments the input is read to its end. With any, it is not read.
+/// With options the input is read to its end. Without, it is not read.
 #[test]
 fn runs_end_with_their_status(rt: HostRuntime) {
-    for (is_asked, status, size) in [(true, 0, 5), (false, 2, 0)] {
+    let plain = Options { labels: false };
+    for (options, status, size) in [(Some(plain), 0, 5), (None, 2, 0)] {
         let mut reader: &[u8] = &NOOP;
         let mut output: Vec<u8> = Vec::new(rt.alloc());
         let ending = ended::<Joined<RouteTables>, _, _>(
             rt.alloc(),
-            is_asked,
+            options,
             &mut reader,
             &mut output,
         );
         assert_eq!(rt; ending.status(), status);
         assert_eq!(rt; output.len(), size);
-        assert_eq!(rt; reader.is_empty(), is_asked);
+        assert_eq!(rt; reader.is_empty(), options.is_some());
     }
 }

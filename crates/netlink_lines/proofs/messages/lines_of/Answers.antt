@@ -1,8 +1,8 @@
-use Rattle.std.proofs.Common.{◌≡◌, ◌∙◌, ap, List, ℕ, Bor, string_bytes}
-use Rattle.std.specs.Option.{option_copied}
+use Rattle.std.proofs.Common.{◌≡◌, ◌∙◌, ap, sym, subst, List, ℕ, Bor, string_bytes}
 use Rattle.netlink_family.specs.Tables.{table_error}
 use Rattle.netlink_packet_core.specs.Header.{header_of}
 use Rattle.netlink_replies.specs.Meaning.{shown_item}
+use Rattle.netlink_lines.specs.Ack.{IsWords}
 use Rattle.netlink_lines.proofs.Shown.{has_lines}
 use Rattle.netlink_lines.proofs.messages.lines_of.Goals as goal
 
@@ -10,10 +10,12 @@ pub returns : goal.returns
 returns g c =
     let flags : c.flags.result ≡ (header_of c.args.frame.now).flags =
     c.flags.ensures.number ∙ ap (λ (b : Bor (List ℕ)). (header_of b.now).flags) c.new.ensures.keeps in
+    let says : IsWords (shown_item c.meaning_of-item.result) c.as_str.result.now =
+    subst (λ (w : List ℕ). IsWords (shown_item c.meaning_of-item.result) w) (sym c.as_str.ensures.value) c.in_ok-words.ensures.words in
     record {
       lines =
-          has_lines (table_error g.F.Table) c.args.known.now c.args.at
-          c.args.frame.now (option_copied c.kernel_text-text.result) (shown_item c.meaning_of-item.result) c.flags.result
+          has_lines (table_error g.F.Table) c.args.options c.args.known.now c.args.at
+          c.args.frame.now c.as_str.result.now (shown_item c.meaning_of-item.result) c.flags.result
           (string_bytes c.in_ok-shown.shown.text, c.in_ok-shown.shown.is_malformed) c.marked.result c.meaning_of-item.ensures.item
-          c.kernel_text-text.ensures.text flags c.in_ok-shown.ensures c.marked.ensures;
+          says flags c.in_ok-shown.ensures c.marked.ensures;
     }

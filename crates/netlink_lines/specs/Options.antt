@@ -1,0 +1,25 @@
+-- What is printed besides the lines.
+use Rattle.std.specs.Prelude.{ℕ, ◌==◌, ◌/◌, Bool, false, List, [], ◌++◌, codes, if◌then◌else◌}
+use Rattle.netlink_lines.specs.declared.options.Options.{Options}
+
+-- the lines alone
+abbrev pub plain : Options
+plain = record { labels = false }
+
+-- the label of a message type, as `ip monitor label` prints it, by its group of four types
+abbrev pub label_in : ℕ → List ℕ
+label_in group =
+    if group == 4 then codes "[LINK]"
+    else if group == 5 then codes "[ADDR]"
+    else if group == 6 then codes "[ROUTE]"
+    else if group == 7 then codes "[NEIGH]"
+    else if group == 8 then codes "[RULE]"
+    else if group == 22 then codes "[NSID]"
+    else []
+
+abbrev pub label_of : ℕ → List ℕ
+label_of t = label_in (t / 4)
+
+-- the line of a message of this type, after its label if that is asked for
+abbrev pub labelled : Options → ℕ → List ℕ → List ℕ
+labelled options t line = (if options.labels then label_of t else []) ++ line

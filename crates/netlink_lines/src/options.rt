@@ -1,0 +1,45 @@
+//! What is printed besides the lines.
+
+ghost use Rattle.std.specs.Prelude.{◌≡◌, IfOk, string_bytes};
+ghost use Rattle.netlink_lines.specs.Options.{label_of, labelled};
+
+use std::alloc::{AllocError, Global};
+
+/// What a run prints besides the lines of the messages.
+#[derive(Clone, Copy, Debug, PartialEq, Eq)]
+pub struct Options {
+    /// Whether a label, such as `[LINK]`, precedes the line of a message, as with `ip monitor label`.
+    pub labels: bool,
+}
+
+/// Returns the line of a message of this type, after its label if that is asked for.
+pub(crate) fn labelled(
+    alloc: Global,
+    options: Options,
+    message_type: u16,
+    line: String,
+) -> Result<String, AllocError>
+    ensures { IfOk result (λ text. string_bytes text ≡ labelled options message_type (string_bytes line)) }
+{
+    if !options.labels {
+        return Ok(line);
+    }
+    let label = label_of(message_type);
+    format!(in alloc; "{label}{line}")
+}
+
+/// Returns the label of messages of this type, which is that of its group of four types (`RTM_BASE` of
+/// linux/rtnetlink.h). `ip` has none for neighbour tables.
+fn label_of(message_type: u16) -> &'static str
+    ensures { result.now ≡ label_of message_type }
+{
+    match message_type / 4 {
+        4 => "[LINK]",
+        5 => "[ADDR]",
+        6 => "[ROUTE]",
+        7 => "[NEIGH]",
+        8 => "[RULE]",
+        22 => "[NSID]",
+        _ => "",
+    }
+}
