@@ -12,7 +12,9 @@ pub struct Options {
     pub labels: bool,
 }
 
-/// Returns the line of a message of this type, after its label if that is asked for.
+/// Returns the line of a message of this type, after its label if that is asked for. Inline, since
+/// most runs ask for none.
+#[inline(always)]
 pub(crate) fn labelled(
     alloc: Global,
     options: Options,
