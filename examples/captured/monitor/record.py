@@ -2,7 +2,7 @@
 """Records what `ip monitor all` sees while the commands of commands.txt run, in namespaces that this script makes, and
 what `ip` of iproute2 6.1 prints for it.
 
-    ./record.py          (as root; needs iproute2 and unshare)
+    ./record.py          (as root; needs iproute2, unshare and bash)
     ./record.py lines    (makes lines.txt anew, of stream.bin)
 
 stream.bin: the datagrams, one after another. The kernel sends each message in a datagram of its own.
