@@ -18,9 +18,9 @@ LINKS, ADDRESSES = (16, 17), (20, 21)
 IFLA_LINKINFO, IFLA_INFO_KIND = 18, 1
 
 
-def lines_in(name):
+def lines_in(name, folder=FOLDER):
     """Returns the lines of a file. Each byte is a character, since names of links are any bytes."""
-    with open(os.path.join(FOLDER, name), "rb") as file:
+    with open(os.path.join(folder, name), "rb") as file:
         return file.read().decode("latin-1").split("\n")[:-1]
 
 
@@ -58,23 +58,21 @@ def with_kind(frame, theirs):
     return escaped(theirs) + (f" kind {kind}" if kind else "")
 
 
-def differences():
+def differences(folder=FOLDER):
     """Returns the words of `ip` and of the program in each line that may differ, by the number of the line."""
     found = {}
-    for line in lines_in("differences.tsv"):
+    for line in lines_in("differences.tsv", folder):
         place, theirs, ours, _reason = line.split("\t")
         found[int(place)] = theirs, ours
     return found
 
 
 def wanted_line(theirs, difference):
-    """Returns the line that the program must print. Returns None if `ip` does not print the listed word once."""
+    """Returns the line that the program must print. Returns None if `ip` does not print the listed words once."""
     if not difference:
         return theirs
-    words = theirs.split(" ")
-    if words.count(difference[0]) != 1:
-        return None
-    return " ".join(difference[1] if word == difference[0] else word for word in words)
+    words, (of_ip, own) = f" {theirs} ", difference
+    return words.replace(f" {of_ip} ", f" {own} ")[1:-1] if words.count(f" {of_ip} ") == 1 else None
 
 
 def line_error(place, theirs, ours, difference):

@@ -1,12 +1,12 @@
 #!/usr/bin/env python3
-"""Runs the built program `netlink_show` on captured datagrams, on frames for which `ip` printed lines, on inputs
-with each error, on every prefix of a stream, on random bytes, on pcap files, on pipes that stay open, with wrong
-arguments, and with inputs and outputs that fail.
+"""Runs the built program `netlink_show` on captured datagrams, on frames for which `ip` printed lines, on what a
+monitor saw, on inputs with each error, on every prefix of a stream, on random bytes, on pcap files, on pipes that stay
+open, with wrong arguments, and with inputs and outputs that fail.
 
 This script computes the expected lines for the captured datagrams itself, with Python's struct and ipaddress and the
 numbers of linux/if.h, if_link.h and if_addr.h. The expected lines for acknowledgements, errors and messages made here
-are written by hand, or are those that `ip` prints (tests/lib/ip_lines.py). The expected error texts are those of
-docs/FORMAT.md.
+are written by hand, or are those that `ip` prints (ip_lines.py and monitor_lines.py in tests/lib). The expected error
+texts are those of docs/FORMAT.md.
 """
 
 import ipaddress
@@ -22,6 +22,7 @@ sys.path.insert(0, os.path.join(sys.path[0], "..", "lib"))
 from built import TOP, FailingDevices, built, error_of, in_parallel, row, run, silent, tally  # noqa: E402 (it is in that folder)
 from ip_lines import ip_errors  # noqa: E402
 from live import closed_error, live_error, memory_error  # noqa: E402
+from monitor_lines import monitor_errors, monitor_rows  # noqa: E402
 from pcap_rows import header as pcap_header  # noqa: E402
 from pcap_rows import packet as pcap_packet  # noqa: E402
 from pcap_rows import pcap_rows, tshark_errors, without_padding  # noqa: E402
@@ -427,24 +428,26 @@ def rows():
         yield row(f"arguments {words}", words, USAGE, link(NAMED))
 
 
+def stop_of(data):
+    """Returns why bytes start with no whole message, or None."""
+    left, said = len(data), number(data[:4])
+    if left < 16:
+        return f"{FRAME}length is {left} but {MINIMUM}"
+    if said < 16:
+        return f"{FRAME}length field says {said} but {MINIMUM}"
+    if said > LONGEST:
+        return f"a message of {said} bytes is longer than {LONGEST}"
+    return f"{FRAME}length field says {said} the buffer is {left} bytes long" if said > left else None
+
+
 def shown(data, offset=0):
     """Returns what the program does with a stream of messages of unknown types, at an offset of its input: its status,
     output and error. Returns None if a type is known."""
     at, lines = 0, []
     while at < len(data):
-        left, error = len(data) - at, None
-        said = number(data[at : at + 4])
-        if left < 16:
-            error = f"{FRAME}length is {left} but {MINIMUM}"
-        elif said < 16:
-            error = f"{FRAME}length field says {said} but {MINIMUM}"
-        elif said > LONGEST:
-            error = f"a message of {said} bytes is longer than {LONGEST}"
-        elif said > left:
-            error = f"{FRAME}length field says {said} the buffer is {left} bytes long"
-        if error:
+        if error := stop_of(data[at:]):
             return 1, "".join(lines).encode(), f"byte {offset + at}: {error}"
-        kind = number(data[at + 4 : at + 6])
+        said, kind = number(data[at : at + 4]), number(data[at + 4 : at + 6])
         if kind in KNOWN:
             return None
         mark = "interrupted\n" if number(data[at + 6 : at + 8]) & 0x10 else ""
@@ -549,16 +552,17 @@ def names_error(program):
 def main():
     program = built("netlink_show", "netlink_show")
     files = pcap_rows(frame, shown, captured_lines().values())
-    all_rows = [*rows(), *stream_rows(), *files, *failing_rows(FailingDevices())]
+    all_rows = [*rows(), *stream_rows(), *files, *failing_rows(FailingDevices()), *monitor_rows(stop_of)]
     errors = [it for it in in_parallel(lambda it: error_of(program, it), all_rows) if it]
     checks = [*live_checks(program)]
     errors += [it for it in checks if it]
     from_ip, frames = ip_errors(program)
+    from_monitor, messages = monitor_errors(program)
     from_tshark, read = tshark_errors(frame)
     if read is None:
         print("skipped: tshark (it is not installed)")
-    errors += from_ip + from_tshark
-    tally("show", errors, len(all_rows) + len(checks) + frames + (read or 0) - len(errors))
+    errors += from_ip + from_monitor + from_tshark
+    tally("show", errors, len(all_rows) + len(checks) + frames + messages + (read or 0) - len(errors))
 
 
 main()
