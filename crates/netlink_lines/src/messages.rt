@@ -257,7 +257,11 @@ fn message_shown<F: Line>(
     match F::line_by(alloc, known, message)? {
         Some(line) => {
             let line = asked_line(alloc, flags, message.message_type, line)?;
-            Ok(well_formed(labelled(alloc, options, message.message_type, line)?))
+            if options.labels {
+                let line = labelled(alloc, message.message_type, line.as_str())?;
+                return Ok(well_formed(line));
+            }
+            Ok(well_formed(line))
         }
         None => Ok(well_formed(type_line(alloc, message.message_type, size)?)),
     }

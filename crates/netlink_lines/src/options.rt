@@ -1,7 +1,7 @@
 //! What is printed besides the lines.
 
-ghost use Rattle.std.specs.Prelude.{◌≡◌, IfOk, string_bytes};
-ghost use Rattle.netlink_lines.specs.Options.{label_of, labelled};
+ghost use Rattle.std.specs.Prelude.{◌≡◌, ◌++◌, IfOk, string_bytes};
+ghost use Rattle.netlink_lines.specs.Options.{label_of};
 
 use std::alloc::{AllocError, Global};
 
@@ -12,20 +12,10 @@ pub struct Options {
     pub labels: bool,
 }
 
-/// Returns the line of a message of this type, after its label if that is asked for. Inline, since
-/// most runs ask for none.
-#[inline(always)]
-pub(crate) fn labelled(
-    alloc: Global,
-    options: Options,
-    message_type: u16,
-    line: String,
-) -> Result<String, AllocError>
-    ensures { IfOk result (λ text. string_bytes text ≡ labelled options message_type (string_bytes line)) }
+/// Returns the line of a message of this type after its label.
+pub(crate) fn labelled(alloc: Global, message_type: u16, line: &str) -> Result<String, AllocError>
+    ensures { IfOk result (λ text. string_bytes text ≡ label_of message_type ++ line.now) }
 {
-    if !options.labels {
-        return Ok(line);
-    }
     let label = label_of(message_type);
     format!(in alloc; "{label}{line}")
 }
