@@ -1,5 +1,5 @@
 -- The attribute of a request that the kernel complains of.
-use Rattle.std.specs.Prelude.{ℕ, ◌≡◌, ◌==◌, ◌/◌, nat_lt, List, [], ◌∷◌, ◌++◌, length, Option, Some, None, codes, decimal, if◌then◌else◌}
+use Rattle.std.specs.Prelude.{ℕ, ◌≡◌, ◌==◌, ◌/◌, nat_lt, List, [], ◌++◌, length, Option, Some, None, codes, decimal, if◌then◌else◌}
 use Rattle.std.specs.List.{fold}
 use Rattle.netlink_packet_core.specs.Fields.{number_at}
 use Rattle.netlink_replies.specs.Paths.{IsPath, place_in}

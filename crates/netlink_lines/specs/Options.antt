@@ -1,5 +1,5 @@
 -- What is printed besides the lines.
-use Rattle.std.specs.Prelude.{ℕ, ◌==◌, ◌/◌, Bool, false, List, [], ◌++◌, codes, if◌then◌else◌}
+use Rattle.std.specs.Prelude.{ℕ, ◌==◌, ◌/◌, false, List, [], ◌++◌, codes, if◌then◌else◌}
 use Rattle.netlink_lines.specs.declared.options.Options.{Options}
 
 -- the lines alone

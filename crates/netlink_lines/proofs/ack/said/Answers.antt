@@ -1,4 +1,4 @@
-use Rattle.std.proofs.Common.{rules, ◌≡◌, ◌∙◌, ◌++◌, ap, arith, List, ℕ, Option, string_bytes, IfOk, Result, Ok}
+use Rattle.std.proofs.Common.{rules, ◌≡◌, ◌∙◌, ap, arith, ℕ, Option, string_bytes}
 use Rattle.netlink_packet_core.specs.WalkLaws.{has_walk}
 use Rattle.netlink_lines.specs.Ack.{number_of, text_of, text_words}
 use Rattle.netlink_lines.specs.Concern.{IsPlace, missing_words}

@@ -1,4 +1,4 @@
-use Rattle.std.proofs.Common.{rules, ◌≡◌, ◌∙◌, ◌++◌, ℕ, List, Option, Some, IfOk, ap, codes, decimal, length, sym, string_bytes, string_len, ◌==◌, false, true}
+use Rattle.std.proofs.Common.{rules, ◌≡◌, ◌∙◌, ◌++◌, IfOk, codes, decimal, length, sym, string_bytes, string_len, false, true}
 use Rattle.std.proofs.lemmas.Bool.{eq-eqb, eqb-true}
 use Rattle.netlink_lines.proofs.Words.{bare_place, no_place, path_place}
 use Rattle.netlink_lines.proofs.concern.place_words.Goals as goal
