@@ -40,7 +40,8 @@ def once(folder, crate, words):
 
 def compare(folders, seed):
     """Prints a row for each workload: the median of its times in each of the two folders, and their ratio. Ends the
-    script with status 1 if the outputs differ."""
+    script with status 1 if outputs differ, and names the workloads. That of `decode` does if more kinds have shapes."""
+    differing = []
     print("| workload | seconds at the start | seconds now | start over now |")
     print("|---|--:|--:|--:|", flush=True)
     for name, crate, words in workloads():
@@ -52,7 +53,8 @@ def compare(folders, seed):
                 seconds, output = once(folder, crate, words)
                 times[folder].append(seconds)
                 outputs.add(output)
-                if len(outputs) > 1:
-                    sys.exit(f"{name}: the outputs differ")
         old, new = (statistics.median(times[folder]) for folder in folders)
         print(f"| {name} | {old:.3f} | {new:.3f} | {old / new:.2f} |", flush=True)
+        differing += [name] * (len(outputs) > 1)
+    if differing:
+        sys.exit(f"the outputs differ: {', '.join(differing)}")
