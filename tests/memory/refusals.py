@@ -25,7 +25,7 @@ OTHER_ALLOCATORS = "aligned_alloc posix_memalign memalign valloc reallocarray mm
 
 # The result if an allocation fails while a program reads its arguments, and the result if one fails later.
 FRAME_USAGE = (2, b"", b"usage: netlink_frame normalize|show|nlas|canon|frames\n")
-SHOW_USAGE = (2, b"", b"usage: netlink_show < FILE\n")
+SHOW_USAGE = (2, b"", b"usage: netlink_show [--label] < FILE\n")
 OUT_OF_MEMORY = (1, b"", b"out of memory\n")
 
 # The result of a test that passes, and the results of a test that returns out of memory by `?`.
@@ -65,6 +65,7 @@ DATAGRAMS = {
     "links, the last one truncated": ("links-0.bin", -1),
     "addresses": ("addresses-0.bin", None),
     "an error with its request": ("link-mtu-refused-0.bin", None),
+    "an error that names an attribute": ("replies/option-short-0.bin", None),
     "neighbours": ("neighbours-0.bin", None),
     "routes": ("routes-0.bin", None),
     "rules": ("rules-0.bin", None),
