@@ -1,3 +1,4 @@
+pub mod IpProtocols
 pub mod Namespace
 pub mod Route
 pub mod RouteCache

@@ -7,6 +7,7 @@ use Rattle.netlink_family.specs.Strings.{until_nul}
 use Rattle.netlink_packet_core.specs.Numbers.{number_be}
 use Rattle.netlink_route.specs.declared.rules.TheConstants.{FRA_DPORT_RANGE, FRA_DST, FRA_FWMARK, FRA_FWMASK, FRA_IIFNAME, FRA_IP_PROTO, FRA_L3MDEV, FRA_OIFNAME, FRA_PRIORITY, FRA_PROTOCOL, FRA_SPORT_RANGE, FRA_SRC, FRA_TUN_ID, FRA_UID_RANGE}
 use Rattle.netlink_words.specs.Parts.{hex_part, host_length, keyed, or_zero, prefix_text, tos_part, when, with_parts}
+use Rattle.netlink_route_lines.specs.IpProtocols.{ip_protocol_name}
 use Rattle.netlink_route_lines.specs.RuleParts.{action_part, installer_part, link_part, lookup_parts, ports_part, rule_byte, rule_bytes, rule_flags, rule_number, rule_small, users_part}
 
 unfoldable pub word_or_all : List ℕ → List ℕ
@@ -54,9 +55,14 @@ abbrev pub is_set : Option ℕ → Bool
 is_set None = false
 is_set (Some n) = not (n == 0)
 
+-- an IP protocol by its number and its name, if it has one
+unfoldable pub protocol_words : ℕ → List ℕ → List ℕ
+protocol_words n [] = codes "ipproto ipproto-" ++ decimal n
+protocol_words n (b ∷ name) = keyed (codes "ipproto") (b ∷ name)
+
 unfoldable pub ip_protocol_part : Option ℕ → List ℕ
 ip_protocol_part None = []
-ip_protocol_part (Some n) = codes "ipproto ipproto-" ++ decimal n
+ip_protocol_part (Some n) = protocol_words n (ip_protocol_name n)
 
 unfoldable pub tunnel_part : Option ℕ → List ℕ
 tunnel_part None = []

@@ -62,7 +62,8 @@
 //! | `[detached]` after `iif` or `oif` | `rule_matches::push_link` | `RuleParts::link_part` |
 //! | `lookup [l3mdev-table]` | `rule::push_links` | `Rule::rule_links` |
 //! | `uidrange 1000-2000` | `rule_matches::push_users` | `RuleParts::users_part` |
-//! | `ipproto ipproto-6` | `rule::push_ip_protocol` | `Rule::ip_protocol_part` |
+//! | `ipproto ipproto-254`, one without a name | `rule::push_ip_protocol` | `Rule::ip_protocol_part` |
+//! | `ipproto tcp` | `ip_protocols::ip_protocol_name` | `IpProtocols::ip_protocol_name` |
 //! | `sport` | `rule::push_ranges` | `Rule::rule_ranges` |
 //! | `dport` | `rule::push_ranges` | `Rule::rule_ranges` |
 //! | `443` or `80-90` after either | `rule_matches::push_ports` | `RuleParts::ports_part` |
@@ -86,6 +87,7 @@
 //! | `unassigned` in place of an id | `namespace::push_id` | `Namespace::id_part` |
 #![tactic(auto)]
 
+mod ip_protocols;
 pub mod namespace;
 pub mod route;
 pub mod route_cache;

@@ -4,9 +4,10 @@ ghost use Rattle.std.specs.Prelude.{◌≡◌, [], IfOk, OnOk, string_bytes};
 ghost use Rattle.std.specs.Option.{option_copied, option_map};
 ghost use Rattle.netlink_route.specs.declared.rules.TheConstants.{FRA_IIFNAME, FRA_OIFNAME};
 ghost use Rattle.netlink_words.specs.Parts.{AddsPart, AddsParts, with_parts};
-ghost use Rattle.netlink_route_lines.specs.Rule.{destination_part, iif_part, ip_protocol_part, is_set, mark_part, oif_part, rule_front, rule_heading, rule_line, rule_links, rule_marks, rule_name, rule_parts, rule_ranges, rule_where, source_part, tunnel_part, word_or_all};
+ghost use Rattle.netlink_route_lines.specs.Rule.{destination_part, iif_part, ip_protocol_part, is_set, mark_part, oif_part, protocol_words, rule_front, rule_heading, rule_line, rule_links, rule_marks, rule_name, rule_parts, rule_ranges, rule_where, source_part, tunnel_part, word_or_all};
 ghost use Rattle.netlink_route_lines.specs.RuleParts.{rule_byte};
 
+use crate::ip_protocols::ip_protocol_name;
 use crate::rule_ends::{push_action, push_installer, push_lookup};
 use crate::rule_matches::{push_link, push_ports, push_users};
 use netlink_family::MessageView;
@@ -280,18 +281,34 @@ fn push_ranges(
     push_ports(alloc, text, "dport", destination)
 }
 
-/// Appends the number of an IP protocol, whose names are not built into `ip`.
+/// Appends an IP protocol, if there is one.
 #[tactic(auto, unfolding(crate::specs::Rule::ip_protocol_part, netlink_words::specs::Parts::with_part))]
 fn push_ip_protocol(alloc: Global, text: &mut String, number: Option<u8>) -> Result<(), AllocError>
     ensures { OnOk result (AddsPart text.old text.new (ip_protocol_part number)) }
 {
     match number {
-        Some(number) => push_part(
-            text,
-            format!(in alloc; "ipproto ipproto-{number}")?.as_str(),
-        ),
+        Some(number) => push_protocol_words(alloc, text, number, ip_protocol_name(number)),
         None => Ok(()),
     }
+}
+
+/// Appends an IP protocol by its name, or by its number if the name is empty.
+#[tactic(auto, unfolding(crate::specs::Rule::protocol_words, netlink_words::specs::Parts::with_part))]
+fn push_protocol_words(
+    alloc: Global,
+    text: &mut String,
+    number: u8,
+    name: &str,
+) -> Result<(), AllocError>
+    ensures { OnOk result (AddsPart text.old text.new (protocol_words number name.now)) }
+{
+    if name.is_empty() {
+        return push_part(
+            text,
+            format!(in alloc; "ipproto ipproto-{number}")?.as_str(),
+        );
+    }
+    push_keyed(text, "ipproto", name)
 }
 
 /// Appends the id of a tunnel.

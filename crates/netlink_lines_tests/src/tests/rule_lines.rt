@@ -82,7 +82,7 @@ const RULES: [(&[u8], &str); 18] = [
             8, 0, 6, 0, 4, 0, 0, 0, 8, 0, 23, 0, 80, 0, 80, 0, 6, 0, 28, 0, 255, 255, 0, 0, 8, 0,
             24, 0, 232, 3, 208, 7, 5, 0, 22, 0, 6, 0, 0, 0,
         ],
-        "4: from all ipproto ipproto-6 sport 80 dport 1000-2000 lookup 7\n",
+        "4: from all ipproto tcp sport 80 dport 1000-2000 lookup 7\n",
     ),
     (
         &[
