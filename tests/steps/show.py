@@ -239,12 +239,12 @@ LINES = [
     (link(attribute(0x8012, attribute(1, b"veth\0"))), b"7: if7: <> link/netrom kind veth\n"),
 ]
 
-# Messages of unknown types, requests that `ip` does not print, messages about namespaces without an id, and routes of no
-# family, of MPLS (28) and of multicast routing (128, 129).
+# Messages of unknown types, requests for routes, and routes of no family, of MPLS (28) and of multicast routing (128,
+# 129).
 LINES += [(frame(kind, b"abc"), f"type {kind}, 19 bytes\n".encode()) for kind in (0, 5, 36, 40, 65535)]
 LINES += [
     (frame(kind, bytes(size)), f"type {kind}, {16 + size} bytes\n".encode())
-    for kind, size in ((24, 12), (26, 12), (26, 4), (34, 12), (66, 4), (67, 4), (88, 4), (89, 4), (90, 4))
+    for kind, size in ((24, 12), (26, 12), (26, 4))
 ]
 LINES += [(frame(25, bytes([family, *bytes(11)])), b"type 25, 28 bytes\n") for family in (28, 128, 129)]
 
@@ -266,8 +266,27 @@ LINES += [
     (frame(64, b"\2\0\0\0" + attribute(1, b"arp_cache\0")), b"inet arp_cache\n"),
     (frame(88, bytes(4) + attribute(1, b"\5\0\0\0")), b"nsid 5\n"),
     (frame(89, bytes(4) + attribute(1, b"\xff\xff\xff\xff")), b"Deleted nsid unassigned\n"),
+    (frame(32, b"\2\0\0\0\xfe\0\0\1" + bytes(4) + attribute(22, b"\6")), b"0: from all ipproto tcp lookup main\n"),
 ]
 LINES += [(frame(40, bytes(LONGEST - 16)), b"type 40, 1048576 bytes\n")]
+
+# Requests for rules, neighbour tables and ids, one that sets a table, and messages about a namespace without an id, and
+# the lines that docs/FORMAT.md defines.
+LINES += [
+    (frame(34, b"\2\0\0\0\xfe\0\0\1" + bytes(4)), b"Get 0: from all lookup main\n"),
+    (frame(34, b"\2" + bytes(11), flags=0x301), b"Get 0: from all none\n"),
+    (frame(66, bytes(4), flags=0x301), b"Get family 0\n"),
+    (frame(66, b"\2\0\0\0" + attribute(1, b"arp_cache\0")), b"Get inet arp_cache\n"),
+    (frame(67, b"\2\0\0\0" + attribute(1, b"arp_cache\0")), b"Set inet arp_cache\n"),
+    (frame(67, b"\2\0\0\0" + attribute(2, b"\1\0\0\0"), flags=5), b"request Set inet thresh1 1\n"),
+    (frame(88, bytes(4)), b"nsid\n"),
+    (frame(89, bytes(4)), b"Deleted nsid\n"),
+    (frame(90, bytes(4)), b"Get nsid\n"),
+    (frame(90, bytes(4) + attribute(1, b"\5\0\0\0")), b"Get nsid 5\n"),
+    (frame(90, bytes(4) + attribute(2, b"\x64\0\0\0") + attribute(4, b"\1\0\0\0")), b"Get pid 100 target-nsid 1\n"),
+    (frame(90, bytes(4) + attribute(3, b"\4\0\0\0")), b"Get fd 4\n"),
+    (frame(88, bytes(4) + attribute(5, b"\2\0\0\0")), b"current-nsid 2\n"),
+]
 
 # A request of 18 bytes and its padding.
 REQUEST = struct.pack("<IHHII", 18, 16, 5, 1, 0) + b"\7\7\0\0"
@@ -366,7 +385,7 @@ LINES += [
 # id with one byte and with three; and the line of each.
 OLD = b"\2" + bytes(15) + attribute(29, b"\1\0\0\0")
 LINES += [(frame(kind, OLD, flags=0x301), f"type {kind}, 40 bytes\n".encode()) for kind in (22, 26, 90)]
-LINES += [(frame(90, bytes(size), flags=1), f"type 90, {16 + size} bytes\n".encode()) for size in (1, 3)]
+LINES += [(frame(90, bytes(size), flags=1), b"Get nsid\n") for size in (1, 3)]
 
 # An address, a route and a neighbour of MCTP (45), whose addresses have one byte, and the line of each.
 LINES += [

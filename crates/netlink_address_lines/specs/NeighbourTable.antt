@@ -1,5 +1,5 @@
 -- The line of a neighbour table, in the order of `ip ntable show`, by its message type and payload.
-use Rattle.std.specs.Prelude.{ℕ, ◌==◌, List, [], ◌∷◌, ◌++◌, drop, slice_index, take, Option, Some, None, codes, if◌then◌else◌}
+use Rattle.std.specs.Prelude.{ℕ, ◌==◌, List, [], ◌∷◌, ◌++◌, drop, slice_index, take, Option, Some, None, codes}
 use Rattle.std.specs.Option.{option_map}
 use Rattle.netlink_family.specs.Finding.{found_in}
 use Rattle.netlink_family.specs.Strings.{until_nul}
@@ -7,7 +7,7 @@ use Rattle.netlink_packet_core.specs.Numbers.{number_le}
 use Rattle.netlink_route.specs.declared.neighbour_tables.TheConstants.{NDTA_GC_INTERVAL, NDTA_NAME, NDTA_PARMS, NDTA_THRESH1, NDTA_THRESH2, NDTA_THRESH3, NDTPA_ANYCAST_DELAY, NDTPA_APP_PROBES, NDTPA_BASE_REACHABLE_TIME, NDTPA_DELAY_PROBE_TIME, NDTPA_GC_STALETIME, NDTPA_IFINDEX, NDTPA_LOCKTIME, NDTPA_MCAST_PROBES, NDTPA_PROXY_DELAY, NDTPA_PROXY_QLEN, NDTPA_QUEUE_LEN, NDTPA_REACHABLE_TIME, NDTPA_REFCNT, NDTPA_RETRANS_TIME, NDTPA_UCAST_PROBES}
 use Rattle.netlink_names.specs.Device.{device_part}
 use Rattle.netlink_words.specs.NumberNames.{family_text}
-use Rattle.netlink_words.specs.Parts.{number_part, with_parts}
+use Rattle.netlink_words.specs.Parts.{number_part, when, with_parts}
 use Rattle.netlink_words.specs.Text.{name_text}
 use Rattle.netlink_names.specs.declared.device.Known.{Known}
 
@@ -67,14 +67,20 @@ abbrev pub parms_parts : List Known → Option (List ℕ) → List (List ℕ)
 parms_parts known None = []
 parms_parts known (Some block) = parm_parts known block
 
--- the family, name, limits and parameters
-unfoldable pub table_text : List Known → List ℕ → List ℕ
-table_text known payload =
-    with_parts (family_text (slice_index (take 4 payload) 0))
-    (table_name (option_map until_nul (found_in (drop 4 payload) NDTA_NAME))
-    ∷ (limit_parts payload ++ parms_parts known (found_in (drop 4 payload) NDTA_PARMS)))
+-- the verb of a request, and the family
+unfoldable pub table_front : ℕ → List ℕ → List (List ℕ)
+table_front t payload =
+    when (t == 66) (codes "Get")
+    ∷ when (t == 67) (codes "Set")
+    ∷ family_text (slice_index (take 4 payload) 0) ∷ []
 
--- the line of a table; a request has none
-unfoldable pub neighbour_table_line : List Known → ℕ → List ℕ → Option (List ℕ)
-neighbour_table_line known t payload =
-    if t == 64 then Some (table_text known payload ++ codes "\n") else None
+-- the verb, family, name, limits and parameters
+unfoldable pub table_text : List Known → ℕ → List ℕ → List ℕ
+table_text known t payload =
+    with_parts [] (table_front t payload
+    ++ (table_name (option_map until_nul (found_in (drop 4 payload) NDTA_NAME))
+    ∷ (limit_parts payload ++ parms_parts known (found_in (drop 4 payload) NDTA_PARMS))))
+
+-- the line of a table
+unfoldable pub neighbour_table_line : List Known → ℕ → List ℕ → List ℕ
+neighbour_table_line known t payload = table_text known t payload ++ codes "\n"

@@ -42,6 +42,7 @@
 //!
 //! | word of a line | function | definition |
 //! |---|---|---|
+//! | `Get`, `Set` | `neighbour_table::push_front` | `NeighbourTable::table_front` |
 //! | `inet` | `netlink_words::number_names::family_text` | `netlink_words::NumberNames::family_text` |
 //! | `arp_cache` | `neighbour_table::push_name` | `NeighbourTable::table_name` |
 //! | `thresh1 128` | `neighbour_table::push_limits` | `NeighbourTable::limit_parts` |

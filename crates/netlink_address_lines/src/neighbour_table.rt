@@ -1,10 +1,10 @@
 //! The line of a neighbour table.
 
 ghost use Rattle.std.specs.Prelude.{◌≡◌, IfOk, OnOk, string_bytes};
-ghost use Rattle.std.specs.Option.{option_copied, option_map};
+ghost use Rattle.std.specs.Option.{option_copied};
 ghost use Rattle.netlink_family.specs.Shapes.{rows_in};
 ghost use Rattle.netlink_route.specs.declared.neighbour_tables.TheConstants.{PARMS};
-ghost use Rattle.netlink_address_lines.specs.NeighbourTable.{delay_parts, limit_parts, long_part, neighbour_table_line, parm_parts, probe_parts, table_name, table_text, time_parts};
+ghost use Rattle.netlink_address_lines.specs.NeighbourTable.{delay_parts, limit_parts, long_part, neighbour_table_line, parm_parts, probe_parts, table_front, table_name, table_text, time_parts};
 ghost use Rattle.netlink_words.specs.Parts.{AddsPart, AddsParts};
 
 use netlink_family::{BlockView, MessageView, Table};
@@ -16,22 +16,22 @@ use netlink_route::neighbour_tables::{
     NDTPA_ANYCAST_DELAY, NDTPA_APP_PROBES, NDTPA_BASE_REACHABLE_TIME, NDTPA_DELAY_PROBE_TIME,
     NDTPA_GC_STALETIME, NDTPA_IFINDEX, NDTPA_LOCKTIME, NDTPA_MCAST_PROBES, NDTPA_PROXY_DELAY,
     NDTPA_PROXY_QLEN, NDTPA_QUEUE_LEN, NDTPA_REACHABLE_TIME, NDTPA_REFCNT, NDTPA_RETRANS_TIME,
-    NDTPA_UCAST_PROBES, RTM_NEWNEIGHTBL,
+    NDTPA_UCAST_PROBES, RTM_GETNEIGHTBL, RTM_SETNEIGHTBL,
 };
 use netlink_words::number_names::family_text;
-use netlink_words::parts::{push_number, push_part};
+use netlink_words::parts::{push_number, push_part, push_when};
 use netlink_words::text::name_text;
 use std::alloc::{AllocError, Global};
 
 /// Returns the line of a message about a neighbour table, as `ip -o ntable show` prints it, with one
 /// space between its parts: the family and the name, the limits, the link, the times in milliseconds
-/// and the numbers of probes. Returns `None` for a request.
+/// and the numbers of probes. `Get` or `Set` precedes them in a request.
 pub fn neighbour_table_text(
     alloc: Global,
     known: &[Known],
     table: &MessageView<'_, NeighbourTables>,
-) -> Result<Option<String>, AllocError>
-    ensures line { IfOk result (λ text. option_map string_bytes text
+) -> Result<String, AllocError>
+    ensures line { IfOk result (λ text. string_bytes text
         ≡ neighbour_table_line known.now table.now.message_type table.now.payload.now) }
 {
     neighbour_table_line(alloc, &Names::of(known), table)
@@ -43,34 +43,49 @@ pub fn neighbour_table_line(
     alloc: Global,
     known: &Names<'_>,
     table: &MessageView<'_, NeighbourTables>,
-) -> Result<Option<String>, AllocError>
-    ensures { IfOk result (λ text. option_map string_bytes text
+) -> Result<String, AllocError>
+    ensures { IfOk result (λ text. string_bytes text
         ≡ neighbour_table_line known.now table.now.message_type table.now.payload.now) }
 {
-    if table.message_type != RTM_NEWNEIGHTBL {
-        return Ok(None);
-    }
     let mut text = table_text(alloc, known, table)?;
     text.push_str("\n")?;
-    Ok(Some(text))
+    Ok(text)
 }
 
-/// Returns the family, the name, the limits and the parameters.
+/// Returns the verb, the family, the name, the limits and the parameters.
 #[tactic(auto, unfolding(crate::specs::NeighbourTable::table_text), using(netlink_words::specs::Joined::with_parts_append))]
 fn table_text(
     alloc: Global,
     known: &Names<'_>,
     table: &MessageView<'_, NeighbourTables>,
 ) -> Result<String, AllocError>
-    ensures { IfOk result (λ text. string_bytes text ≡ table_text known.now table.now.payload.now) }
+    ensures { IfOk result (λ text. string_bytes text
+        ≡ table_text known.now table.now.message_type table.now.payload.now) }
 {
-    let mut text = family_text(alloc, table.header().u8(NDTM_FAMILY))?;
+    let mut text = String::new(alloc);
+    push_front(alloc, &mut text, table)?;
     push_name(alloc, &mut text, table.view().str_bytes(NDTA_NAME))?;
     push_limits(alloc, &mut text, table)?;
     if let Some(parms) = table.view().nest(NDTA_PARMS) {
         push_parms(alloc, &mut text, known, &parms)?;
     }
     Ok(text)
+}
+
+/// Appends the verb of a request and the family.
+#[tactic(auto, unfolding(crate::specs::NeighbourTable::table_front))]
+fn push_front(
+    alloc: Global,
+    text: &mut String,
+    table: &MessageView<'_, NeighbourTables>,
+) -> Result<(), AllocError>
+    ensures { OnOk result (AddsParts text.old text.new
+        (table_front table.now.message_type table.now.payload.now)) }
+{
+    push_when(text, table.message_type == RTM_GETNEIGHTBL, "Get")?;
+    push_when(text, table.message_type == RTM_SETNEIGHTBL, "Set")?;
+    let family = family_text(alloc, table.header().u8(NDTM_FAMILY))?;
+    push_part(text, family.as_str())
 }
 
 /// Appends the link, the times, the numbers of probes and the delays.

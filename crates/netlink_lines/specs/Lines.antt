@@ -52,9 +52,9 @@ namespace_types = 88 ∷ 89 ∷ 90 ∷ []
 -- the line of a message that is about a rule, a neighbour table or an id of a namespace
 abbrev pub later_line : List Known → ℕ → List ℕ → Option (List ℕ)
 later_line known t payload =
-    if has_type rule_types t then rule_line t payload
-    else if has_type neighbour_table_types t then neighbour_table_line known t payload
-    else if has_type namespace_types t then namespace_line t payload
+    if has_type rule_types t then Some (rule_line t payload)
+    else if has_type neighbour_table_types t then Some (neighbour_table_line known t payload)
+    else if has_type namespace_types t then Some (namespace_line t payload)
     else None
 
 -- the line of a message that is about neither a link nor an address

@@ -162,10 +162,10 @@ fn later_line(
         ≡ later_line known.now message.now.message_type message.now.payload.now) }
 {
     match message.split() {
-        Ok(rule) => rule_text(alloc, &rule),
+        Ok(rule) => Ok(Some(rule_text(alloc, &rule)?)),
         Err(other) => match other.split() {
-            Ok(table) => neighbour_table_line(alloc, known, &table),
-            Err(namespace) => namespace_text(alloc, &namespace),
+            Ok(table) => Ok(Some(neighbour_table_line(alloc, known, &table)?)),
+            Err(namespace) => Ok(Some(namespace_text(alloc, &namespace)?)),
         },
     }
 }

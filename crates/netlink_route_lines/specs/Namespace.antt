@@ -4,8 +4,8 @@ use Rattle.std.specs.Fmt.{signed_decimal}
 use Rattle.std.specs.Option.{option_map}
 use Rattle.netlink_family.specs.Finding.{first_at}
 use Rattle.netlink_packet_core.specs.Numbers.{number_le, signed}
-use Rattle.netlink_route.specs.declared.namespaces.TheConstants.{NETNSA_CURRENT_NSID, NETNSA_NSID}
-use Rattle.netlink_words.specs.Parts.{when, with_parts}
+use Rattle.netlink_route.specs.declared.namespaces.TheConstants.{NETNSA_CURRENT_NSID, NETNSA_FD, NETNSA_NSID, NETNSA_PID, NETNSA_TARGET_NSID}
+use Rattle.netlink_words.specs.Parts.{number_part, when, with_parts}
 
 -- the first id of a kind
 abbrev pub namespace_id : List ℕ → ℕ → Option ℤ
@@ -17,18 +17,27 @@ id_part key None = []
 id_part key (Some id) =
     key ++ (if int_lt id (pos 0) then codes " unassigned" else codes " " ++ signed_decimal id)
 
--- the line of an id, and of the id in the namespace of the socket
-unfoldable pub id_line : ℕ → ℤ → Option ℤ → List ℕ
-id_line t id current =
-    with_parts [] (when (t == 89) (codes "Deleted")
-    ∷ id_part (codes "nsid") (Some id) ∷ id_part (codes "current-nsid") current ∷ []) ++ codes "\n"
+-- the first number of a kind
+abbrev pub namespace_number : List ℕ → ℕ → Option ℕ
+namespace_number payload kind = option_map number_le (first_at 4 payload kind)
 
-abbrev pub line_of_id : ℕ → Option ℤ → Option ℤ → Option (List ℕ)
-line_of_id t None current = None
-line_of_id t (Some id) current = Some (id_line t id current)
+-- the id, what else identifies a namespace in a request, and the id in the namespace of the socket
+unfoldable pub id_parts : List ℕ → List (List ℕ)
+id_parts payload =
+    id_part (codes "nsid") (namespace_id payload NETNSA_NSID)
+    ∷ number_part (codes "pid") (namespace_number payload NETNSA_PID)
+    ∷ number_part (codes "fd") (namespace_number payload NETNSA_FD)
+    ∷ id_part (codes "target-nsid") (namespace_id payload NETNSA_TARGET_NSID)
+    ∷ id_part (codes "current-nsid") (namespace_id payload NETNSA_CURRENT_NSID) ∷ []
 
--- the line of a message; a request has none, and neither has a message without an id
-unfoldable pub namespace_line : ℕ → List ℕ → Option (List ℕ)
+-- the words, or the key alone if there are none
+unfoldable pub ids_or_key : List ℕ → List ℕ
+ids_or_key [] = codes "nsid"
+ids_or_key (b ∷ words) = b ∷ words
+
+-- the line of a message
+unfoldable pub namespace_line : ℕ → List ℕ → List ℕ
 namespace_line t payload =
-    if t == 90 then None
-    else line_of_id t (namespace_id payload NETNSA_NSID) (namespace_id payload NETNSA_CURRENT_NSID)
+    with_parts [] (when (t == 89) (codes "Deleted")
+    ∷ when (t == 90) (codes "Get")
+    ∷ ids_or_key (with_parts [] (id_parts payload)) ∷ []) ++ codes "\n"

@@ -26,6 +26,7 @@ mark_part mark (Some mask) =
 unfoldable pub rule_heading : ℕ → List ℕ → List (List ℕ)
 rule_heading t payload =
     when (t == 33) (codes "Deleted")
+    ∷ when (t == 34) (codes "Get")
     ∷ (decimal (or_zero (rule_number payload FRA_PRIORITY)) ++ codes ":")
     ∷ when (not (bit_and (rule_flags payload) 0x2 == 0)) (codes "not") ∷ []
 
@@ -110,8 +111,6 @@ rule_parts t payload =
     ++ (lookup_parts payload
     ++ (action_part payload ∷ installer_part (rule_small payload FRA_PROTOCOL) ∷ [])))
 
--- the line of a rule; a request has none
-unfoldable pub rule_line : ℕ → List ℕ → Option (List ℕ)
-rule_line t payload =
-    if t == 34 then None
-    else Some (with_parts [] (rule_parts t payload) ++ codes "\n")
+-- the line of a rule
+unfoldable pub rule_line : ℕ → List ℕ → List ℕ
+rule_line t payload = with_parts [] (rule_parts t payload) ++ codes "\n"

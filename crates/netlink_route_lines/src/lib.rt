@@ -50,7 +50,7 @@
 //!
 //! | word of a line | function | definition |
 //! |---|---|---|
-//! | `Deleted` | `rule::push_heading` | `Rule::rule_heading` |
+//! | `Deleted`, `Get` | `rule::push_heading` | `Rule::rule_heading` |
 //! | `1005:`, the priority | `rule::push_heading` | `Rule::rule_heading` |
 //! | `not` | `rule::push_heading` | `Rule::rule_heading` |
 //! | `from all` | `rule::push_source` | `Rule::source_part` |
@@ -81,9 +81,13 @@
 //!
 //! | word of a line | function | definition |
 //! |---|---|---|
-//! | `Deleted` | `namespace::id_line` | `Namespace::id_line` |
-//! | `nsid 5` | `namespace::id_line` | `Namespace::id_line` |
-//! | `current-nsid 0` | `namespace::id_line` | `Namespace::id_line` |
+//! | `Deleted`, `Get` | `namespace::namespace_text` | `Namespace::namespace_line` |
+//! | `nsid 5` | `namespace::ids_text` | `Namespace::id_parts` |
+//! | `pid 100` | `namespace::ids_text` | `Namespace::id_parts` |
+//! | `fd 4` | `namespace::ids_text` | `Namespace::id_parts` |
+//! | `target-nsid 1` | `namespace::ids_text` | `Namespace::id_parts` |
+//! | `current-nsid 0` | `namespace::ids_text` | `Namespace::id_parts` |
+//! | `nsid`, if none of these is there | `namespace::ids_or_key` | `Namespace::ids_or_key` |
 //! | `unassigned` in place of an id | `namespace::push_id` | `Namespace::id_part` |
 #![tactic(auto)]
 

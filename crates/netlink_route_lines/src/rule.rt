@@ -1,7 +1,7 @@
 //! The line of a routing rule.
 
 ghost use Rattle.std.specs.Prelude.{◌≡◌, [], IfOk, OnOk, string_bytes};
-ghost use Rattle.std.specs.Option.{option_copied, option_map};
+ghost use Rattle.std.specs.Option.{option_copied};
 ghost use Rattle.netlink_route.specs.declared.rules.TheConstants.{FRA_IIFNAME, FRA_OIFNAME};
 ghost use Rattle.netlink_words.specs.Parts.{AddsPart, AddsParts, with_parts};
 ghost use Rattle.netlink_route_lines.specs.Rule.{destination_part, iif_part, ip_protocol_part, is_set, mark_part, oif_part, protocol_words, rule_front, rule_heading, rule_line, rule_links, rule_marks, rule_name, rule_parts, rule_ranges, rule_where, source_part, tunnel_part, word_or_all};
@@ -31,19 +31,15 @@ const FIB_RULE_IIF_DETACHED: u32 = 0x8;
 const FIB_RULE_OIF_DETACHED: u32 = 0x10;
 
 /// Returns the line of a message about a rule, as `ip rule show` prints it, with one space between
-/// its parts: the verb, the priority, what the rule matches, and what it does. Returns `None` for a
-/// request.
+/// its parts: the verb, the priority, what the rule matches, and what it does.
 #[tactic(auto, unfolding(crate::specs::Rule::rule_line))]
-pub fn rule_text(alloc: Global, rule: &MessageView<'_, Rules>) -> Result<Option<String>, AllocError>
-    ensures line { IfOk result (λ text. option_map string_bytes text
+pub fn rule_text(alloc: Global, rule: &MessageView<'_, Rules>) -> Result<String, AllocError>
+    ensures line { IfOk result (λ text. string_bytes text
         ≡ rule_line rule.now.message_type rule.now.payload.now) }
 {
-    if rule.message_type == RTM_GETRULE {
-        return Ok(None);
-    }
     let mut text = parts_text(alloc, rule)?;
     text.push_str("\n")?;
-    Ok(Some(text))
+    Ok(text)
 }
 
 /// Returns the parts of a rule.
@@ -89,6 +85,7 @@ fn push_heading(
         (AddsParts text.old text.new (rule_heading rule.now.message_type rule.now.payload.now)) }
 {
     push_when(text, rule.message_type == RTM_DELRULE, "Deleted")?;
+    push_when(text, rule.message_type == RTM_GETRULE, "Get")?;
     let priority = or_zero(rule.view().u32(FRA_PRIORITY));
     push_part(text, format!(in alloc; "{priority}:")?.as_str())?;
     let flags = rule.header().u32(FRH_FLAGS);

@@ -51,8 +51,8 @@ const MESSAGES: [(u8, [u8; 2], &[u8], &str); 26] = [
     (34, [1, 3], &OLD, "type 34, 40 bytes\n"),
     (66, [5, 3], &OLD, "type 66, 40 bytes\n"),
     (90, [1, 3], &OLD, "type 90, 40 bytes\n"),
-    (90, [1, 0], &[0], "type 90, 17 bytes\n"),
-    (90, [1, 0], &[0; 3], "type 90, 19 bytes\n"),
+    (90, [1, 0], &[0], "Get nsid\n"),
+    (90, [1, 0], &[0; 3], "Get nsid\n"),
     (
         22,
         [1, 0],

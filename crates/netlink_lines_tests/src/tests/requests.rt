@@ -44,13 +44,25 @@ const TABLE: [u8; 12] = [2, 0, 0, 0, 8, 0, 1, 0, b'a', b'r', b'p', 0];
 
 const ID: [u8; 12] = [0, 0, 0, 0, 8, 0, 1, 0, 5, 0, 0, 0];
 
+/// The id of the namespace of the process 100.
+const OF_PROCESS: [u8; 12] = [0, 0, 0, 0, 8, 0, 2, 0, 100, 0, 0, 0];
+
+/// The id 1 for the namespace of the file 4, as a request with all that may stand in one.
+const OF_FILE: [u8; 36] = [
+    0, 0, 0, 0, // AF_UNSPEC
+    8, 0, 5, 0, 7, 0, 0, 0, // NETNSA_CURRENT_NSID
+    8, 0, 4, 0, 255, 255, 255, 255, // NETNSA_TARGET_NSID
+    8, 0, 3, 0, 4, 0, 0, 0, // NETNSA_FD
+    8, 0, 1, 0, 1, 0, 0, 0, // NETNSA_NSID
+];
+
 /// One second and two microseconds.
 const TIME: [u8; 8] = [1, 0, 0, 0, 2, 0, 0, 0];
 
 /// Messages as type, flags and payload, and the label and the line of each. The flag 1 is
 /// NLM_F_REQUEST. The time also has what precedes the label of the next message, which is of an
 /// interrupted dump.
-const MESSAGES: [(u8, u8, &[u8], &str, &str); 29] = [
+const MESSAGES: [(u8, u8, &[u8], &str, &str); 35] = [
     (
         16,
         5,
@@ -101,10 +113,22 @@ const MESSAGES: [(u8, u8, &[u8], &str, &str); 29] = [
         "[RULE]",
         "request delete 0: from all lookup main\n",
     ),
+    (34, 1, &RULE, "[RULE]", "Get 0: from all lookup main\n"),
     (64, 5, &TABLE, "", "request inet arp\n"),
-    (67, 5, &TABLE, "", "type 67, 28 bytes\n"),
+    (66, 1, &TABLE, "", "Get inet arp\n"),
+    (67, 5, &TABLE, "", "request Set inet arp\n"),
     (88, 5, &ID, "[NSID]", "request nsid 5\n"),
     (89, 5, &ID, "[NSID]", "request delete nsid 5\n"),
+    (90, 1, &ID, "[NSID]", "Get nsid 5\n"),
+    (90, 1, &OF_PROCESS, "[NSID]", "Get pid 100\n"),
+    (
+        88,
+        5,
+        &OF_FILE,
+        "[NSID]",
+        "request nsid 1 fd 4 target-nsid unassigned current-nsid 7\n",
+    ),
+    (89, 4, &[0; 4], "[NSID]", "Deleted nsid\n"),
     (44, 1, &NOBODY, "", "type 44, 28 bytes\n"),
     (15, 1, &TIME, "", "[1.000002] interrupted\n"),
     (16, 0x11, &WAN, "[LINK]", "request 3: wan0: <> link/ether\n"),
