@@ -239,12 +239,11 @@ LINES = [
     (link(attribute(0x8012, attribute(1, b"veth\0"))), b"7: if7: <> link/netrom kind veth\n"),
 ]
 
-# Messages of unknown types, requests for routes, and routes of no family, of MPLS (28) and of multicast routing (128,
-# 129).
+# Messages of unknown types, and routes of no family, of MPLS (28) and of multicast routing (128, 129).
 LINES += [(frame(kind, b"abc"), f"type {kind}, 19 bytes\n".encode()) for kind in (0, 5, 36, 40, 65535)]
 LINES += [
     (frame(kind, bytes(size)), f"type {kind}, {16 + size} bytes\n".encode())
-    for kind, size in ((24, 12), (26, 12), (26, 4))
+    for kind, size in ((24, 12), (25, 12))
 ]
 LINES += [(frame(25, bytes([family, *bytes(11)])), b"type 25, 28 bytes\n") for family in (28, 128, 129)]
 
@@ -270,9 +269,13 @@ LINES += [
 ]
 LINES += [(frame(40, bytes(LONGEST - 16)), b"type 40, 1048576 bytes\n")]
 
-# Requests for rules, neighbour tables and ids, one that sets a table, and messages about a namespace without an id, and
+# Requests for routes, rules, neighbour tables and ids, one that sets a table, and messages about a namespace without an id, and
 # the lines that docs/FORMAT.md defines.
 LINES += [
+    (frame(26, ROUTE), b"Get default via 10.1.0.2 dev if3\n"),
+    (frame(26, bytes(12), flags=0x301), b"Get none default proto unspec\n"),
+    (frame(26, bytes(4), flags=0x301), b"Get none default proto unspec\n"),
+    (frame(26, b"\x0a\x80" + bytes(10) + attribute(1, bytes(15) + b"\1"), flags=1), b"Get none ::1 proto unspec\n"),
     (frame(34, b"\2\0\0\0\xfe\0\0\1" + bytes(4)), b"Get 0: from all lookup main\n"),
     (frame(34, b"\2" + bytes(11), flags=0x301), b"Get 0: from all none\n"),
     (frame(66, bytes(4), flags=0x301), b"Get family 0\n"),

@@ -22,7 +22,7 @@
 //! | `; byte 52, attribute 18/2/5` | `concern::place_words` | `Concern::place_words` |
 //! | `; attribute 4 is missing` | `concern::missing_words` | `Concern::missing_words` |
 //! | `noop`, `overrun` | `messages::item_shown` | `Messages::item_lines` |
-//! | `type 26, 28 bytes` | `messages::type_line` | `Messages::type_line` |
+//! | `type 36, 28 bytes` | `messages::type_line` | `Messages::type_line` |
 //! | `byte 20: ` before an error | `messages::malformed` | `Messages::bad` |
 //! | `Failed to parse message with type 16: ..` | `messages::error_shown` | `Messages::error_lines` |
 //! | `.. the payload has 4 bytes instead of 8` | `messages::wrong_time` | `Messages::wrong_time` |

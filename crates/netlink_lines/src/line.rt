@@ -72,8 +72,8 @@ pub trait Line: Family {
 }
 
 impl Line for Joined<RouteTables> {
-    /// Returns the line of a message as `ip -o` writes it, and `None` for one that `ip` does not
-    /// write, such as a request for routes.
+    /// Returns the line of a message as `ip -o` writes it. A request has the words of the same message
+    /// after `Get` or `Set`. Returns `None` for a route of a family that has no lines.
     fn line(
         alloc: Global,
         known: &[Known],

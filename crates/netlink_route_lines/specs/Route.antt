@@ -1,5 +1,5 @@
 -- The line of a route, in the order of `ip route show`, by its message type and its payload.
-use Rattle.std.specs.Prelude.{ℕ, ◌==◌, ◌||◌, not, Bool, false, List, [], ◌∷◌, ◌++◌, take, slice_index, nat_lt, Option, Some, None, codes, decimal, if◌then◌else◌}
+use Rattle.std.specs.Prelude.{ℕ, ◌==◌, ◌&&◌, ◌||◌, not, Bool, false, List, [], ◌∷◌, ◌++◌, take, slice_index, nat_lt, Option, Some, None, codes, decimal, if◌then◌else◌}
 use Rattle.std.specs.Fmt.{digits}
 use Rattle.std.specs.Int.Bits.{bit_and}
 use Rattle.std.specs.Option.{option_map}
@@ -52,6 +52,7 @@ source_text payload =
 unfoldable pub route_front : ℕ → List ℕ → List (List ℕ)
 route_front t payload =
     when (t == 25) (codes "Deleted")
+    ∷ when (t == 26) (codes "Get")
     ∷ type_part (route_byte payload 7)
     ∷ target_text payload
     ∷ keyed (codes "from") (source_text payload)
@@ -134,8 +135,13 @@ route_words known t payload =
     with_rest known (with_parts (with_parts (with_parts [] (route_front t payload)) (route_next known payload))
     (origin_parts payload)) payload
 
--- the line of an IPv4 or IPv6 route; a request has none
+-- a message about a route of IPv4 or IPv6, or a request for routes of any family
+abbrev pub is_shown : ℕ → ℕ → Bool
+is_shown t family = not (host_length family == 0) || (t == 26 && family == 0)
+
+-- the line of a route of these families
 unfoldable pub route_entry_line : List Known → ℕ → List ℕ → Option (List ℕ)
 route_entry_line known t payload =
-    if t == 26 || host_length (route_byte payload 0) == 0 then None
-    else Some (hops_text known (route_words known t payload) (first_at 12 payload RTA_MULTIPATH) ++ codes "\n")
+    if is_shown t (route_byte payload 0)
+    then Some (hops_text known (route_words known t payload) (first_at 12 payload RTA_MULTIPATH) ++ codes "\n")
+    else None

@@ -9,7 +9,7 @@
 //!
 //! | word of a line | function | definition |
 //! |---|---|---|
-//! | `Deleted` | `route::push_front` | `Route::route_front` |
+//! | `Deleted`, `Get` | `route::push_front` | `Route::route_front` |
 //! | `local`, `blackhole` and the other types | `route::push_type` | `Route::type_part` |
 //! | `10.3.0.0/16`, `default` | `route::push_target` | `Route::target_text` |
 //! | `from 10.0.0.0/8` | `route::push_source` | `Route::route_front` |

@@ -4,7 +4,7 @@ ghost use Rattle.std.specs.Prelude.{◌≡◌, IfOk, OnOk, codes, string_bytes};
 ghost use Rattle.std.specs.Option.{option_map};
 ghost use Rattle.netlink_route.specs.declared.routes.TheConstants.{RTA_DST, RTA_GATEWAY, RTA_PREFSRC, RTA_SRC, RTA_VIA};
 ghost use Rattle.netlink_words.specs.Parts.{AddsPart, AddsParts, keyed, prefix_text};
-ghost use Rattle.netlink_route_lines.specs.Route.{installer_part, is_own, kept_parts, last_parts, mark_part, origin_parts, preference_part, route_bytes, route_entry_line, route_front, route_next, route_table, route_words, scope_part, table_part, type_part, with_rest, word_or_default};
+ghost use Rattle.netlink_route_lines.specs.Route.{installer_part, is_own, is_shown, kept_parts, last_parts, mark_part, origin_parts, preference_part, route_bytes, route_entry_line, route_front, route_next, route_table, route_words, scope_part, table_part, type_part, with_rest, word_or_default};
 
 use crate::route_cache::{push_cache, push_lifetime};
 use crate::route_flags::{push_hop_flags, push_preference};
@@ -41,8 +41,8 @@ const USUAL: usize = 128;
 
 /// Returns the line of a message about an IPv4 or IPv6 route, as `ip route show table all`,
 /// `ip route get` and `ip monitor route` print it, with one space between its parts. A known link is
-/// named, and any other is `if` and its index. Returns `None` for a request and for a route of
-/// another family.
+/// named, and any other is `if` and its index. `Get` stands before the words of a request. Returns
+/// `None` for a route of another family.
 pub fn route_text(
     alloc: Global,
     known: &[Known],
@@ -64,7 +64,7 @@ pub fn route_entry_line(
     ensures { IfOk result (λ text. option_map string_bytes text
         ≡ route_entry_line known.now route.now.message_type route.now.payload.now) }
 {
-    if route.message_type == RTM_GETROUTE || host_length(route.header().u8(RTM_FAMILY)) == 0 {
+    if !is_shown(route.message_type, route.header().u8(RTM_FAMILY)) {
         return Ok(None);
     }
     let route = route.indexed();
@@ -72,6 +72,14 @@ pub fn route_entry_line(
     push_hops(alloc, &mut text, known, &route)?;
     text.push_str("\n")?;
     Ok(Some(text))
+}
+
+/// Returns whether a message of this type about a route of this family has a line: one of IPv4 or
+/// IPv6, and a request for routes of any family.
+fn is_shown(message_type: u16, family: u8) -> bool
+    ensures { result ≡ is_shown message_type family }
+{
+    host_length(family) != 0 || (message_type == RTM_GETROUTE && family == 0)
 }
 
 /// Returns what precedes the next hops.
@@ -104,6 +112,7 @@ fn push_front(
         (AddsParts text.old text.new (route_front route.now.message.message_type route.now.message.payload.now)) }
 {
     push_when(text, route.message.message_type == RTM_DELROUTE, "Deleted")?;
+    push_when(text, route.message.message_type == RTM_GETROUTE, "Get")?;
     push_type(alloc, text, route.header().u8(RTM_TYPE))?;
     let whole = host_length(route.header().u8(RTM_FAMILY));
     let to = target_of(route);

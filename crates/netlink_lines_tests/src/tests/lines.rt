@@ -98,7 +98,7 @@ const MESSAGES: [(&[u8], &str); 7] = [
         "error -22 (Invalid argument); byte 24, attribute 2\nerror -22 (Invalid argument); byte 24\nerror -22 (Invalid argument): a b; attribute 4 is missing in the nest at byte 32\nerror -22 (Invalid argument); byte 16; attribute 4 is missing\n",
     ),
     (&NEIGHBOURS, "miss\n"),
-    (&REQUEST, "type 26, 28 bytes\n"),
+    (&REQUEST, "Get none default proto unspec\n"),
     (&LATIN, "-1: c\\xe9: <> link/ether\n"),
 ];
 

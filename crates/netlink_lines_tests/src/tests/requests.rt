@@ -62,7 +62,7 @@ const TIME: [u8; 8] = [1, 0, 0, 0, 2, 0, 0, 0];
 /// Messages as type, flags and payload, and the label and the line of each. The flag 1 is
 /// NLM_F_REQUEST. The time also has what precedes the label of the next message, which is of an
 /// interrupted dump.
-const MESSAGES: [(u8, u8, &[u8], &str, &str); 35] = [
+const MESSAGES: [(u8, u8, &[u8], &str, &str); 38] = [
     (
         16,
         5,
@@ -105,6 +105,9 @@ const MESSAGES: [(u8, u8, &[u8], &str, &str); 35] = [
     (24, 5, &ROUTE, "[ROUTE]", "request 10.0.0.0/8\n"),
     (25, 5, &ROUTE, "[ROUTE]", "request delete 10.0.0.0/8\n"),
     (25, 4, &ROUTE, "[ROUTE]", "Deleted 10.0.0.0/8\n"),
+    (26, 1, &ROUTE, "[ROUTE]", "Get 10.0.0.0/8\n"),
+    (26, 1, &NOBODY, "[ROUTE]", "Get none default proto unspec\n"),
+    (24, 4, &NOBODY, "", "type 24, 28 bytes\n"),
     (32, 5, &RULE, "[RULE]", "request 0: from all lookup main\n"),
     (
         33,
