@@ -239,13 +239,13 @@ LINES = [
     (link(attribute(0x8012, attribute(1, b"veth\0"))), b"7: if7: <> link/netrom kind veth\n"),
 ]
 
-# Messages of unknown types, and routes of no family, of MPLS (28) and of multicast routing (128, 129).
+# Messages of unknown types, and routes of no family and of multicast routing (128, 129).
 LINES += [(frame(kind, b"abc"), f"type {kind}, 19 bytes\n".encode()) for kind in (0, 5, 36, 40, 65535)]
 LINES += [
     (frame(kind, bytes(size)), f"type {kind}, {16 + size} bytes\n".encode())
     for kind, size in ((24, 12), (25, 12))
 ]
-LINES += [(frame(25, bytes([family, *bytes(11)])), b"type 25, 28 bytes\n") for family in (28, 128, 129)]
+LINES += [(frame(25, bytes([family, *bytes(11)])), b"type 25, 28 bytes\n") for family in (128, 129)]
 
 # A route, neighbours, a rule, a neighbour table and ids of namespaces, and the lines that `ip` 6.1 prints for them, that
 # of the table by hand. examples/captured/ip has many more.
@@ -269,10 +269,25 @@ LINES += [
 ]
 LINES += [(frame(40, bytes(LONGEST - 16)), b"type 40, 1048576 bytes\n")]
 
+# Routes of MPLS, and the lines that `ip` 6.1 prints for them.
+LABEL = b"\x1c\x14\0\0\xfe\3\0\1" + bytes(4) + attribute(1, b"\0\6\x41\0")
+VIA = attribute(18, b"\2\0\n\1\0\3")
+LINES += [
+    (frame(24, LABEL), b"100\n"),
+    (frame(25, LABEL + VIA + attribute(4, b"\3\0\0\0")), b"Deleted 100 via inet 10.1.0.3 dev if3\n"),
+    (frame(24, LABEL + attribute(19, b"\0\x0c\x80\0\0\x12\xc1\0") + VIA), b"100 as to 200/300 via inet 10.1.0.3\n"),
+    (
+        frame(24, LABEL + attribute(9, b"\x10\0\0\1\3\0\0\0" + attribute(19, b"\0\x0c\x81\0"))),
+        b"100 nexthop as to 200 dev if3\n",
+    ),
+    (frame(24, LABEL + attribute(26, b"\1")), b"100 ttl-propogate enabled\n"),
+]
+
 # Requests for routes, rules, neighbour tables and ids, one that sets a table, and messages about a namespace without an id, and
 # the lines that docs/FORMAT.md defines.
 LINES += [
     (frame(26, ROUTE), b"Get default via 10.1.0.2 dev if3\n"),
+    (frame(26, LABEL, flags=1), b"Get 100\n"),
     (frame(26, bytes(12), flags=0x301), b"Get none default proto unspec\n"),
     (frame(26, bytes(4), flags=0x301), b"Get none default proto unspec\n"),
     (frame(26, b"\x0a\x80" + bytes(10) + attribute(1, bytes(15) + b"\1"), flags=1), b"Get none ::1 proto unspec\n"),

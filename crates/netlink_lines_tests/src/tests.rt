@@ -2,6 +2,7 @@
 
 mod lines;
 mod link_lines;
+mod mpls_lines;
 mod names;
 mod neighbour_lines;
 mod other_lines;

@@ -13,13 +13,13 @@ use Rattle.netlink_route_lines.specs.RouteHops.{hop_parts, with_hop}
 use Rattle.netlink_names.specs.declared.device.Known.{Known}
 
 -- after a next hop, the rest leads to the same text
-pub hop_step : (known : List Known) (text new bytes rest whole : List ℕ) (a : Attribute) (word : ℕ) (value : Value)
+pub hop_step : (known : List Known) (family : ℕ) (text new bytes rest whole : List ℕ) (a : Attribute) (word : ℕ) (value : Value)
     → Starts bytes a rest → word ≡ a.kind → IsValueOf value a.value → value_shape value ≡ shape.HeaderNested 4 0
-    → new ≡ with_parts text (hop_parts known word (take 4 (value_bytes value)) (drop 4 (value_bytes value)))
-    → fold (with_hop known) text (listed bytes) ≡ whole → fold (with_hop known) new (listed rest) ≡ whole
-hop_step known text new bytes rest whole a word value starts kind is nest pushed before =
-    let hop : new ≡ with_hop known text a =
-    pushed ∙ ap (λ (k : ℕ). with_parts text (hop_parts known k (take 4 (value_bytes value)) (drop 4 (value_bytes value)))) kind
-    ∙ ap (λ (v : List ℕ). with_parts text (hop_parts known a.kind (take 4 v) (drop 4 v))) (kept_bytes value a.value (ap is_kept nest) is) in
-    ap (λ (t : List ℕ). fold (with_hop known) t (listed rest)) hop
-    ∙ sym (ap (fold (with_hop known) text) (before_step bytes a rest starts)) ∙ before
+    → new ≡ with_parts text (hop_parts known family word (take 4 (value_bytes value)) (drop 4 (value_bytes value)))
+    → fold (with_hop known family) text (listed bytes) ≡ whole → fold (with_hop known family) new (listed rest) ≡ whole
+hop_step known family text new bytes rest whole a word value starts kind is nest pushed before =
+    let hop : new ≡ with_hop known family text a =
+    pushed ∙ ap (λ (k : ℕ). with_parts text (hop_parts known family k (take 4 (value_bytes value)) (drop 4 (value_bytes value)))) kind
+    ∙ ap (λ (v : List ℕ). with_parts text (hop_parts known family a.kind (take 4 v) (drop 4 v))) (kept_bytes value a.value (ap is_kept nest) is) in
+    ap (λ (t : List ℕ). fold (with_hop known family) t (listed rest)) hop
+    ∙ sym (ap (fold (with_hop known family) text) (before_step bytes a rest starts)) ∙ before

@@ -1,4 +1,5 @@
 pub mod IpProtocols
+pub mod Mpls
 pub mod Namespace
 pub mod Route
 pub mod RouteCache

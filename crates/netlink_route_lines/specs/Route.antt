@@ -6,15 +6,16 @@ use Rattle.std.specs.Option.{option_map}
 use Rattle.netlink_family.specs.Finding.{first_at}
 use Rattle.netlink_packet_core.specs.Fields.{number_at}
 use Rattle.netlink_packet_core.specs.Numbers.{number_le}
-use Rattle.netlink_route.specs.declared.routes.TheConstants.{RTA_CACHEINFO, RTA_DST, RTA_FLOW, RTA_GATEWAY, RTA_IIF, RTA_MARK, RTA_METRICS, RTA_MULTIPATH, RTA_NH_ID, RTA_OIF, RTA_PREF, RTA_PREFSRC, RTA_PRIORITY, RTA_SRC, RTA_TABLE, RTA_UID, RTA_VIA}
+use Rattle.netlink_route.specs.declared.routes.TheConstants.{RTA_CACHEINFO, RTA_DST, RTA_FLOW, RTA_GATEWAY, RTA_IIF, RTA_MARK, RTA_METRICS, RTA_MULTIPATH, RTA_NEWDST, RTA_NH_ID, RTA_OIF, RTA_PREF, RTA_PREFSRC, RTA_PRIORITY, RTA_SRC, RTA_TABLE, RTA_TTL_PROPAGATE, RTA_UID, RTA_VIA}
 use Rattle.netlink_words.specs.Parts.{or_empty}
 use Rattle.netlink_names.specs.Device.{device_part}
 use Rattle.netlink_words.specs.NumberNames.{protocol_text, route_type_text, scope_text, table_text}
 use Rattle.netlink_words.specs.Parts.{host_length, keyed, number_part, prefix_text, realms_part, tos_part, when, with_parts}
+use Rattle.netlink_route_lines.specs.Mpls.{label_target, labels_text, propagation_part}
 use Rattle.netlink_route_lines.specs.RouteCache.{cache_part, lifetime_parts}
 use Rattle.netlink_route_lines.specs.RouteHops.{hops_text, via_part}
 use Rattle.netlink_route_lines.specs.RouteMetrics.{metrics_text}
-use Rattle.netlink_route_lines.specs.RouteFlags.{hop_flags_text, preference_text}
+use Rattle.netlink_route_lines.specs.RouteFlags.{hop_flags_text, preference_part}
 use Rattle.netlink_words.specs.Text.{ip_words}
 use Rattle.netlink_names.specs.declared.device.Known.{Known}
 
@@ -42,13 +43,14 @@ word_or_default (b ∷ word) = b ∷ word
 -- the destination, and the source if there is one
 abbrev pub target_text : List ℕ → List ℕ
 target_text payload =
-    word_or_default (prefix_text (route_bytes payload RTA_DST) (route_byte payload 1) (host_length (route_byte payload 0)))
+    if route_byte payload 0 == 28 then label_target (route_bytes payload RTA_DST) (route_byte payload 1)
+    else word_or_default (prefix_text (route_bytes payload RTA_DST) (route_byte payload 1) (host_length (route_byte payload 0)))
 
 abbrev pub source_text : List ℕ → List ℕ
 source_text payload =
     prefix_text (route_bytes payload RTA_SRC) (route_byte payload 2) (host_length (route_byte payload 0))
 
--- the verb, type, destination, source, id of the next hop, type of service
+-- the verb, type, destination, source, id of the next hop, new labels, type of service
 unfoldable pub route_front : ℕ → List ℕ → List (List ℕ)
 route_front t payload =
     when (t == 25) (codes "Deleted")
@@ -57,6 +59,7 @@ route_front t payload =
     ∷ target_text payload
     ∷ keyed (codes "from") (source_text payload)
     ∷ number_part (codes "nhid") (route_number payload RTA_NH_ID)
+    ∷ keyed (codes "as to") (labels_text (route_bytes payload RTA_NEWDST))
     ∷ tos_part (route_byte payload 3) ∷ []
 
 -- the gateway and the link
@@ -112,16 +115,13 @@ kept_parts payload =
     ∷ number_part (codes "uid") (route_number payload RTA_UID)
     ∷ cache_part (route_byte payload 0) (route_flags payload) ∷ []
 
-abbrev pub preference_part : Option ℕ → List ℕ
-preference_part None = []
-preference_part (Some preference) = preference_text preference
-
--- the metrics, incoming link and preference
+-- the metrics, incoming link, preference, and whether the time to live goes on
 unfoldable pub last_parts : List Known → List ℕ → List (List ℕ)
 last_parts known payload =
     metrics_text (first_at 12 payload RTA_METRICS)
     ∷ device_part known (codes "iif") (route_number payload RTA_IIF)
-    ∷ preference_part (option_map (λ value. slice_index value 0) (first_at 12 payload RTA_PREF)) ∷ []
+    ∷ preference_part (option_map (λ value. slice_index value 0) (first_at 12 payload RTA_PREF))
+    ∷ propagation_part (option_map (λ value. slice_index value 0) (first_at 12 payload RTA_TTL_PROPAGATE)) ∷ []
 
 -- what follows the flags
 unfoldable pub with_rest : List Known → List ℕ → List ℕ → List ℕ
@@ -135,13 +135,14 @@ route_words known t payload =
     with_rest known (with_parts (with_parts (with_parts [] (route_front t payload)) (route_next known payload))
     (origin_parts payload)) payload
 
--- a message about a route of IPv4 or IPv6, or a request for routes of any family
+-- a message about a route of IPv4, IPv6 or MPLS, or a request for routes of any family
 abbrev pub is_shown : ℕ → ℕ → Bool
-is_shown t family = not (host_length family == 0) || (t == 26 && family == 0)
+is_shown t family = not (host_length family == 0) || family == 28 || (t == 26 && family == 0)
 
 -- the line of a route of these families
 unfoldable pub route_entry_line : List Known → ℕ → List ℕ → Option (List ℕ)
 route_entry_line known t payload =
     if is_shown t (route_byte payload 0)
-    then Some (hops_text known (route_words known t payload) (first_at 12 payload RTA_MULTIPATH) ++ codes "\n")
+    then Some (hops_text known (route_byte payload 0) (route_words known t payload) (first_at 12 payload RTA_MULTIPATH)
+    ++ codes "\n")
     else None

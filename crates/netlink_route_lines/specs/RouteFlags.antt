@@ -1,5 +1,5 @@
 -- The flags of routes and next hops, and the preference of a router.
-use Rattle.std.specs.Prelude.{ℕ, ◌==◌, List, [], ◌∷◌, codes, decimal, if◌then◌else◌}
+use Rattle.std.specs.Prelude.{ℕ, ◌==◌, List, [], ◌∷◌, Option, Some, None, codes, decimal, if◌then◌else◌}
 use Rattle.std.specs.Int.Bits.{bit_and}
 use Rattle.std.specs.List.{fold}
 use Rattle.netlink_words.specs.Parts.{with_part}
@@ -11,6 +11,10 @@ preference_text n =
     else if n == 1 then codes "pref high"
     else if n == 3 then codes "pref low"
     else decimal n
+
+abbrev pub preference_part : Option ℕ → List ℕ
+preference_part None = []
+preference_part (Some preference) = preference_text preference
 
 -- the flags of a route and a next hop, in the order of `ip`
 abbrev pub hop_flag_order : List ℕ

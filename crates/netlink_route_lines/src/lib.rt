@@ -13,7 +13,9 @@
 //! | `local`, `blackhole` and the other types | `route::push_type` | `Route::type_part` |
 //! | `10.3.0.0/16`, `default` | `route::push_target` | `Route::target_text` |
 //! | `from 10.0.0.0/8` | `route::push_source` | `Route::route_front` |
+//! | `100/200`, labels of MPLS | `mpls::labels_text` | `Mpls::labels_text` |
 //! | `nhid 10` | `route::push_front` | `Route::route_front` |
+//! | `as to 200` | `mpls::push_new_labels` | `Route::route_front` |
 //! | `tos 0x10` | `netlink_words::parts::push_tos` | `netlink_words::Parts::tos_part` |
 //! | `via 10.1.0.3` | `route_hops::push_next` | `Route::route_next` |
 //! | `via inet6 fe80::1` | `route_hops::push_via` | `RouteHops::via_part` |
@@ -38,12 +40,14 @@
 //! | `congctl cubic` | `route_metrics::control_text` | `RouteMetrics::control_part` |
 //! | `iif if2` | `route::push_last` | `Route::last_parts` |
 //! | `pref medium` | `route_flags::push_preference` | `RouteFlags::preference_text` |
+//! | `ttl-propogate enabled` | `mpls::push_propagation` | `Mpls::propagation_part` |
 //! | `nexthop` | `route_hops::push_hop_parts` | `RouteHops::hop_parts` |
+//! | `as to 200` | `mpls::push_new_labels` | `RouteHops::hop_parts` |
 //! | `via 10.1.0.3` | `route_hops::push_next` | `RouteHops::hop_parts` |
 //! | `via inet6 fe80::1` | `route_hops::push_via` | `RouteHops::via_part` |
 //! | `realm 5`, `realms 3/5` | `route_hops::push_hop_parts` | `RouteHops::hop_parts` |
 //! | `dev if3` | `route_hops::push_hop_parts` | `RouteHops::hop_parts` |
-//! | `weight 3` | `route_hops::push_hop_parts` | `RouteHops::hop_parts` |
+//! | `weight 3` | `route_hops::push_weight` | `RouteHops::weight_part` |
 //! | `dead`, `onlink` and the other flags | `route_flags::hop_flag_name` | `RouteFlags::hop_flag_name` |
 //!
 //! `rule::rule_text` makes the line of a rule, and `Rule::rule_line` defines it:
@@ -92,6 +96,7 @@
 #![tactic(auto)]
 
 mod ip_protocols;
+mod mpls;
 pub mod namespace;
 pub mod route;
 pub mod route_cache;

@@ -2,12 +2,13 @@
 
 ghost use Rattle.std.specs.Prelude.{◌≡◌, IfOk, OnOk, codes, string_bytes};
 ghost use Rattle.std.specs.Option.{option_map};
-ghost use Rattle.netlink_route.specs.declared.routes.TheConstants.{RTA_DST, RTA_GATEWAY, RTA_PREFSRC, RTA_SRC, RTA_VIA};
+ghost use Rattle.netlink_route.specs.declared.routes.TheConstants.{RTA_DST, RTA_GATEWAY, RTA_NEWDST, RTA_PREFSRC, RTA_SRC, RTA_VIA};
 ghost use Rattle.netlink_words.specs.Parts.{AddsPart, AddsParts, keyed, prefix_text};
-ghost use Rattle.netlink_route_lines.specs.Route.{installer_part, is_own, is_shown, kept_parts, last_parts, mark_part, origin_parts, preference_part, route_bytes, route_entry_line, route_front, route_next, route_table, route_words, scope_part, table_part, type_part, with_rest, word_or_default};
+ghost use Rattle.netlink_route_lines.specs.Route.{installer_part, is_own, is_shown, kept_parts, last_parts, mark_part, origin_parts, route_bytes, route_entry_line, route_front, route_next, route_table, route_words, scope_part, table_part, target_text, type_part, with_rest, word_or_default};
 
+use crate::mpls::{AF_MPLS, push_label_target, push_new_labels, push_propagation};
 use crate::route_cache::{push_cache, push_lifetime};
-use crate::route_flags::{push_hop_flags, push_preference};
+use crate::route_flags::{push_hop_flags, push_preference_part};
 use crate::route_hops::{push_hops, push_next};
 use crate::route_metrics::push_metrics;
 use netlink_family::{MessageIndex, MessageView};
@@ -15,10 +16,10 @@ use netlink_names::device::{Known, push_device};
 use netlink_names::name_table::Names;
 use netlink_route::Routes;
 use netlink_route::routes::{
-    RTA_CACHEINFO, RTA_DST, RTA_FLOW, RTA_GATEWAY, RTA_IIF, RTA_MARK, RTA_NH_ID, RTA_OIF, RTA_PREF,
-    RTA_PREFSRC, RTA_PRIORITY, RTA_SRC, RTA_TABLE, RTA_UID, RTA_VIA, RTM_DELROUTE, RTM_DST_LEN,
-    RTM_FAMILY, RTM_FLAGS, RTM_GETROUTE, RTM_PROTOCOL, RTM_SCOPE, RTM_SRC_LEN, RTM_TABLE, RTM_TOS,
-    RTM_TYPE,
+    RTA_CACHEINFO, RTA_DST, RTA_FLOW, RTA_GATEWAY, RTA_IIF, RTA_MARK, RTA_NEWDST, RTA_NH_ID,
+    RTA_OIF, RTA_PREF, RTA_PREFSRC, RTA_PRIORITY, RTA_SRC, RTA_TABLE, RTA_TTL_PROPAGATE, RTA_UID,
+    RTA_VIA, RTM_DELROUTE, RTM_DST_LEN, RTM_FAMILY, RTM_FLAGS, RTM_GETROUTE, RTM_PROTOCOL,
+    RTM_SCOPE, RTM_SRC_LEN, RTM_TABLE, RTM_TOS, RTM_TYPE,
 };
 use netlink_words::number_names::{push_protocol, push_scope, push_table, route_type_text};
 use netlink_words::parts::{
@@ -39,7 +40,7 @@ const RTPROT_BOOT: u8 = 3;
 /// More bytes than the lines of most routes have, so that a line does not grow step by step.
 const USUAL: usize = 128;
 
-/// Returns the line of a message about an IPv4 or IPv6 route, as `ip route show table all`,
+/// Returns the line of a message about a route of IPv4, IPv6 or MPLS, as `ip route show table all`,
 /// `ip route get` and `ip monitor route` print it, with one space between its parts. A known link is
 /// named, and any other is `if` and its index. `Get` stands before the words of a request. Returns
 /// `None` for a route of another family.
@@ -74,12 +75,12 @@ pub fn route_entry_line(
     Ok(Some(text))
 }
 
-/// Returns whether a message of this type about a route of this family has a line: one of IPv4 or
-/// IPv6, and a request for routes of any family.
+/// Returns whether a message of this type about a route of this family has a line: one of IPv4, IPv6
+/// or MPLS, and a request for routes of any family.
 fn is_shown(message_type: u16, family: u8) -> bool
     ensures { result ≡ is_shown message_type family }
 {
-    host_length(family) != 0 || (message_type == RTM_GETROUTE && family == 0)
+    host_length(family) != 0 || family == AF_MPLS || (message_type == RTM_GETROUTE && family == 0)
 }
 
 /// Returns what precedes the next hops.
@@ -100,8 +101,8 @@ fn route_words(
     Ok(text)
 }
 
-/// Appends the verb, the type of the route, the destination, the source, the id of the next hop and
-/// the type of service.
+/// Appends the verb, the type of the route, the destination, the source, the id of the next hop, the
+/// new labels and the type of service.
 #[tactic(auto, unfolding(crate::specs::Route::route_front))]
 fn push_front(
     alloc: Global,
@@ -114,12 +115,12 @@ fn push_front(
     push_when(text, route.message.message_type == RTM_DELROUTE, "Deleted")?;
     push_when(text, route.message.message_type == RTM_GETROUTE, "Get")?;
     push_type(alloc, text, route.header().u8(RTM_TYPE))?;
+    push_destination(alloc, text, route)?;
     let whole = host_length(route.header().u8(RTM_FAMILY));
-    let to = target_of(route);
-    push_target(alloc, text, to, route.header().u8(RTM_DST_LEN), whole)?;
     let from = source_of(route);
     push_source(alloc, text, from, route.header().u8(RTM_SRC_LEN), whole)?;
     push_number(text, "nhid", route.index().u32(RTA_NH_ID))?;
+    push_new_labels(alloc, text, new_labels_of(route))?;
     push_tos(alloc, text, route.header().u8(RTM_TOS))
 }
 
@@ -132,6 +133,22 @@ fn push_type(alloc: Global, text: &mut String, route_type: u8) -> Result<(), All
         return Ok(());
     }
     push_part(text, route_type_text(alloc, route_type)?.as_str())
+}
+
+/// Appends the destination: labels of MPLS, or an address, and its length.
+fn push_destination(
+    alloc: Global,
+    text: &mut String,
+    route: &MessageIndex<'_, Routes>,
+) -> Result<(), AllocError>
+    ensures { OnOk result (AddsPart text.old text.new (target_text route.now.message.payload.now)) }
+{
+    let family = route.header().u8(RTM_FAMILY);
+    let length = route.header().u8(RTM_DST_LEN);
+    if family == AF_MPLS {
+        return push_label_target(alloc, text, target_of(route), length);
+    }
+    push_target(alloc, text, target_of(route), length, host_length(family))
 }
 
 /// Appends the destination by its address and the length of its prefix; `default` for every address.
@@ -191,6 +208,13 @@ fn source_of<'a>(route: &MessageIndex<'a, Routes>) -> &'a [u8]
     ensures { result.now ≡ route_bytes route.now.message.payload.now RTA_SRC }
 {
     or_empty(route.index().ip(RTA_SRC))
+}
+
+/// Returns the new labels of a route of MPLS; empty if there are none.
+fn new_labels_of<'a>(route: &MessageIndex<'a, Routes>) -> &'a [u8]
+    ensures { result.now ≡ route_bytes route.now.message.payload.now RTA_NEWDST }
+{
+    or_empty(route.index().bytes(RTA_NEWDST))
 }
 
 /// Appends the gateway and the link.
@@ -356,7 +380,7 @@ fn push_mark(alloc: Global, text: &mut String, mark: Option<u32>) -> Result<(), 
     }
 }
 
-/// Appends the metrics, the incoming link and the preference.
+/// Appends the metrics, the incoming link, the preference, and whether the time to live goes on.
 #[tactic(auto, unfolding(crate::specs::Route::last_parts))]
 fn push_last(
     alloc: Global,
@@ -368,20 +392,6 @@ fn push_last(
 {
     push_metrics(alloc, text, route)?;
     push_device(text, known, "iif", route.index().u32(RTA_IIF))?;
-    push_preference_part(alloc, text, route.index().u8(RTA_PREF))
-}
-
-/// Appends the preference of a router, if there is one.
-#[tactic(auto, unfolding(netlink_words::specs::Parts::with_part))]
-fn push_preference_part(
-    alloc: Global,
-    text: &mut String,
-    preference: Option<u8>,
-) -> Result<(), AllocError>
-    ensures { OnOk result (AddsPart text.old text.new (preference_part preference)) }
-{
-    match preference {
-        Some(preference) => push_preference(alloc, text, preference),
-        None => Ok(()),
-    }
+    push_preference_part(alloc, text, route.index().u8(RTA_PREF))?;
+    push_propagation(text, route.index().u8(RTA_TTL_PROPAGATE))
 }

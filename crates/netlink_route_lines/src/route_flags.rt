@@ -2,7 +2,7 @@
 
 ghost use Rattle.std.specs.Prelude.{◌≡◌, IfOk, OnOk, string_bytes};
 ghost use Rattle.netlink_words.specs.Parts.{AddsPart};
-ghost use Rattle.netlink_route_lines.specs.RouteFlags.{hop_flag_name, hop_flags_text, preference_text, with_hop_flag};
+ghost use Rattle.netlink_route_lines.specs.RouteFlags.{hop_flag_name, hop_flags_text, preference_part, preference_text, with_hop_flag};
 
 use netlink_words::parts::push_part;
 use std::alloc::{AllocError, Global};
@@ -25,11 +25,7 @@ const ORDER: [u32; 11] = [
 
 /// Appends the name of a router's preference, an `ICMPV6_ROUTER_PREF_*` of linux/icmpv6.h, after
 /// `pref`; for any other number, only the number.
-pub(crate) fn push_preference(
-    alloc: Global,
-    text: &mut String,
-    preference: u8,
-) -> Result<(), AllocError>
+fn push_preference(alloc: Global, text: &mut String, preference: u8) -> Result<(), AllocError>
     ensures { OnOk result (AddsPart text.old text.new (preference_text preference)) }
 {
     let name = match preference {
@@ -39,6 +35,21 @@ pub(crate) fn push_preference(
         _ => return push_part(text, format!(in alloc; "{preference}")?.as_str()),
     };
     push_part(text, name)
+}
+
+/// Appends the preference of a router, if there is one.
+#[tactic(auto, unfolding(netlink_words::specs::Parts::with_part))]
+pub(crate) fn push_preference_part(
+    alloc: Global,
+    text: &mut String,
+    preference: Option<u8>,
+) -> Result<(), AllocError>
+    ensures { OnOk result (AddsPart text.old text.new (preference_part preference)) }
+{
+    match preference {
+        Some(preference) => push_preference(alloc, text, preference),
+        None => Ok(()),
+    }
 }
 
 /// Returns the names of the flags that are set, with spaces between them.

@@ -13,7 +13,7 @@ pub loop-word-preserved : goal.loop-word-preserved
 loop-word-preserved c =
     let ((a, starts, kind, is, shape, rows), same_rows, same_policy, block) = c.in-Some.ensures.steps in
     let nest : value_shape c.in-Some.value ≡ HeaderNested 4 0 = grind (arith, common_steps) in (
-      hop_step c.args.known.now (string_bytes c.loop-word.text) (string_bytes c.push_hop.new.text)
+      hop_step c.args.known.now c.args.family (string_bytes c.loop-word.text) (string_bytes c.push_hop.new.text)
           (unread c.loop-word.word-iterator.walk) (unread c.next.new.self.walk) _ a c.in-Some.word c.in-Some.value starts kind is nest
           c.in_ok-push_hop.ensures c.loop-word.invariant.0,
       rw same_rows c.loop-word.invariant.1,
@@ -22,6 +22,6 @@ loop-word-preserved c =
 
 pub returns : goal.returns
 returns c =
-    sym (ap (fold (with_hop c.args.known.now) (string_bytes c.loop-word.text))
+    sym (ap (fold (with_hop c.args.known.now c.args.family) (string_bytes c.loop-word.text))
     (before_nothing (unread c.loop-word.word-iterator.walk) c.in-None.ensures.steps.0.0))
     ∙ c.loop-word.invariant.0

@@ -8,6 +8,6 @@ use Rattle.netlink_route_lines.proofs.route_hops.push_list.Given as goal
 -- the rest of the next hops leads to the whole text
 abbrev pub invariant-loop-word : goal.invariant-loop-word
 invariant-loop-word l =
-    (fold (with_hop l.known) (string_bytes l.text) (listed (unread l.word-iterator.walk))
-    ≡ fold (with_hop l.known) (string_bytes l.fn.text) (listed l.hops.block.now))
+    (fold (with_hop l.known l.family) (string_bytes l.text) (listed (unread l.word-iterator.walk))
+    ≡ fold (with_hop l.known l.family) (string_bytes l.fn.text) (listed l.hops.block.now))
     × (l.word-iterator.rows.list.now ≡ l.hops.rows.list.now) × (l.word-iterator.policy ≡ l.hops.policy)
