@@ -19,8 +19,8 @@ IFLA_TXQLEN, IFLA_LINKMODE, IFLA_IFALIAS = 13, 17, 20
 MODES = {b"\0": "DEFAULT", b"\1": "DORMANT"}
 
 # The types of messages that have no line of their own: prefixes that a router advertises, settings of links, and next
-# hops. Routes of two families, those of multicast routing, have none either.
-UNKNOWN_TYPES, ROUTES, UNKNOWN_FAMILIES = (52, 80, 81, 104, 105), (24, 25), (128, 129)
+# hops.
+UNKNOWN_TYPES = (52, 80, 81, 104, 105)
 
 # The types of the messages of which each prefix is read: the first of each that names no link but `lo`.
 SHORT = (16, 20, 24, 29, 32, 33, 88, 89)
@@ -37,8 +37,6 @@ def padded(frame):
 
 def has_line(frame):
     """Returns whether the program has a line of its own for a message, and not `type N, SIZE bytes`."""
-    if kind_of(frame) in ROUTES:
-        return frame[16] not in UNKNOWN_FAMILIES
     return kind_of(frame) not in UNKNOWN_TYPES
 
 

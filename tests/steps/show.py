@@ -239,13 +239,12 @@ LINES = [
     (link(attribute(0x8012, attribute(1, b"veth\0"))), b"7: if7: <> link/netrom kind veth\n"),
 ]
 
-# Messages of unknown types, and routes of no family and of multicast routing (128, 129).
+# Messages of unknown types, and routes of no family.
 LINES += [(frame(kind, b"abc"), f"type {kind}, 19 bytes\n".encode()) for kind in (0, 5, 36, 40, 65535)]
 LINES += [
     (frame(kind, bytes(size)), f"type {kind}, {16 + size} bytes\n".encode())
     for kind, size in ((24, 12), (25, 12))
 ]
-LINES += [(frame(25, bytes([family, *bytes(11)])), b"type 25, 28 bytes\n") for family in (128, 129)]
 
 # A route, neighbours, a rule, a neighbour table and ids of namespaces, and the lines that `ip` 6.1 prints for them, that
 # of the table by hand. examples/captured/ip has many more.
@@ -281,6 +280,18 @@ LINES += [
         b"100 nexthop as to 200 dev if3\n",
     ),
     (frame(24, LABEL + attribute(26, b"\1")), b"100 ttl-propogate enabled\n"),
+]
+
+# Routes of multicast routing, and the lines that `ip` 6.1 prints for them; and a request by hand.
+GROUP = bytes([128, 32, 32, 0, 253, 17, 0, 5, 0, 0, 0, 0]) + attribute(2, b"\n\1\0\x09") + attribute(1, b"\xef\1\1\1")
+OUT = attribute(9, b"\x08\0\0\1\4\0\0\0\x08\0\0\3\5\0\0\0")
+LINES += [
+    (
+        frame(24, GROUP + attribute(3, b"\3\0\0\0") + OUT),
+        b"(10.1.0.9,239.1.1.1) Iif: if3 Oifs: if4 if5(ttl 3) State: resolved Table: default\n",
+    ),
+    (frame(25, GROUP), b"Deleted (10.1.0.9,239.1.1.1) Iif: unresolved State: resolved Table: default\n"),
+    (frame(26, b"\x81" + bytes(11), flags=0x301), b"Get (unknown,unknown) Iif: unresolved State: resolved\n"),
 ]
 
 # Requests for routes, rules, neighbour tables and ids, one that sets a table, and messages about a namespace without an id, and

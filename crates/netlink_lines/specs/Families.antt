@@ -6,6 +6,11 @@ use Rattle.std.specs.List.{list_any}
 abbrev pub described : List ℕ
 described = 0 ∷ 2 ∷ 7 ∷ 10 ∷ 28 ∷ 128 ∷ 129 ∷ []
 
+-- the address family in a payload, its first byte; 0 without one
+abbrev pub family_of : List ℕ → ℕ
+family_of [] = 0
+family_of (family ∷ rest) = family
+
 -- a message of this type is about an address, a route or a neighbour, and the first byte of its payload is another
 -- family
 abbrev pub is_foreign : ℕ → List ℕ → Bool

@@ -39,10 +39,10 @@ abbrev pub type_line : ℕ → ℕ → List ℕ
 type_line t size =
     codes "type " ++ (decimal t ++ (codes ", " ++ (decimal size ++ codes " bytes\n")))
 
--- a message by its flags, type and size, and by the line of such a message that is no request, if it has one
-abbrev pub line_or_type : Options → ℕ → ℕ → ℕ → Option (List ℕ) → List ℕ
-line_or_type options flags t size (Some line) = labelled options t (asked_line flags t line)
-line_or_type options flags t size None = type_line t size
+-- a message by its flags, type, size and payload, and by the line of such a message that is no request, if it has one
+abbrev pub line_or_type : Options → ℕ → ℕ → ℕ → List ℕ → Option (List ℕ) → List ℕ
+line_or_type options flags t size payload (Some line) = labelled options t payload (asked_line flags t line)
+line_or_type options flags t size payload None = type_line t size
 
 -- a message whose payload has this error, by the offset, type and size of the message
 abbrev pub error_lines : ℕ → ℕ → ℕ → FamilyError → Lines
@@ -60,7 +60,7 @@ rejected_lines at frame error =
 -- a message of a family, by the known names of links, its offset and its frame, and by its payload's error
 abbrev pub family_lines : Options → List Known → ℕ → List ℕ → Option FamilyError → Lines
 family_lines options known at frame None =
-    good (line_or_type options (header_of frame).flags (header_of frame).message_type (length frame)
+    good (line_or_type options (header_of frame).flags (header_of frame).message_type (length frame) (payload_of frame)
     (route_line known ((header_of frame).message_type, payload_of frame)))
 family_lines options known at frame (Some error) = rejected_lines at frame error
 

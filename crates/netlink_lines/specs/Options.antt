@@ -1,6 +1,8 @@
 -- What is printed besides the lines.
-use Rattle.std.specs.Prelude.{ℕ, ◌==◌, ◌/◌, false, List, [], ◌++◌, codes, if◌then◌else◌}
+use Rattle.std.specs.Prelude.{ℕ, ◌==◌, ◌&&◌, ◌/◌, false, List, [], ◌++◌, codes, if◌then◌else◌}
+use Rattle.netlink_lines.specs.Families.{family_of}
 use Rattle.netlink_lines.specs.declared.options.Options.{Options}
+use Rattle.netlink_route_lines.specs.Multicast.{is_multicast}
 
 -- the lines alone
 abbrev pub plain : Options
@@ -17,9 +19,11 @@ label_in group =
     else if group == 22 then codes "[NSID]"
     else []
 
-abbrev pub label_of : ℕ → List ℕ
-label_of t = label_in (t / 4)
+-- routes of multicast routing have a label of their own
+abbrev pub label_of : ℕ → List ℕ → List ℕ
+label_of t payload =
+    if t / 4 == 6 && is_multicast (family_of payload) then codes "[MROUTE]" else label_in (t / 4)
 
--- the line of a message of this type, after its label if that is asked for
-abbrev pub labelled : Options → ℕ → List ℕ → List ℕ
-labelled options t line = (if options.labels then label_of t else []) ++ line
+-- the line of a message of this type and payload, after its label if that is asked for
+abbrev pub labelled : Options → ℕ → List ℕ → List ℕ → List ℕ
+labelled options t payload line = (if options.labels then label_of t payload else []) ++ line

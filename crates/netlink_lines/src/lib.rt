@@ -10,7 +10,8 @@
 //! | word of a line | function | definition |
 //! |---|---|---|
 //! | `[1700000000.000042] ` | `time::time_text` | `Time::time_text` |
-//! | `[LINK]` | `options::labelled` | `Options::labelled` |
+//! | `[LINK]` | `options::label_in` | `Options::label_in` |
+//! | `[MROUTE]` | `options::label_of` | `Options::label_of` |
 //! | `interrupted`, a line before | `messages::marked` | `Ack::marked_if` |
 //! | `request `, or `request delete` for `Deleted` | `requests::request_line` | `Requests::request_line` |
 //! | the line of one of the three crates | `line::line_of` | `Lines::route_line` |

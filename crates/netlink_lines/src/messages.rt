@@ -251,14 +251,14 @@ fn message_shown<F: Line>(
     message: &MessageView<'_, F>,
 ) -> Result<Shown, AllocError>
     ensures { IfOk result (λ s. (string_bytes s.text, s.is_malformed)
-        ≡ good (line_or_type options flags message.now.message_type size
+        ≡ good (line_or_type options flags message.now.message_type size message.now.payload.now
         (route_line known.now (message.now.message_type, message.now.payload.now)))) }
 {
     match F::line_by(alloc, known, message)? {
         Some(line) => {
             let line = asked_line(alloc, flags, message.message_type, line)?;
             if options.labels {
-                let line = labelled(alloc, message.message_type, line.as_str())?;
+                let line = labelled(alloc, message.message_type, message.payload, line.as_str())?;
                 return Ok(well_formed(line));
             }
             Ok(well_formed(line))

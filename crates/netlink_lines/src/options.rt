@@ -1,8 +1,10 @@
 //! What is printed besides the lines.
 
 ghost use Rattle.std.specs.Prelude.{◌≡◌, ◌++◌, IfOk, string_bytes};
-ghost use Rattle.netlink_lines.specs.Options.{label_of};
+ghost use Rattle.netlink_lines.specs.Options.{label_in, label_of};
 
+use crate::families::family_of;
+use netlink_route_lines::multicast::is_multicast;
 use std::alloc::{AllocError, Global};
 
 /// What a run prints besides the lines of the messages.
@@ -12,20 +14,40 @@ pub struct Options {
     pub labels: bool,
 }
 
-/// Returns the line of a message of this type after its label.
-pub(crate) fn labelled(alloc: Global, message_type: u16, line: &str) -> Result<String, AllocError>
-    ensures { IfOk result (λ text. string_bytes text ≡ label_of message_type ++ line.now) }
+/// The group of the types of routes.
+const ROUTES: u16 = 6;
+
+/// Returns the line of a message with this type and this payload after its label.
+pub(crate) fn labelled(
+    alloc: Global,
+    message_type: u16,
+    payload: &[u8],
+    line: &str,
+) -> Result<String, AllocError>
+    ensures { IfOk result (λ text. string_bytes text ≡ label_of message_type payload.now ++ line.now) }
 {
-    let label = label_of(message_type);
+    let label = label_of(message_type, payload);
     format!(in alloc; "{label}{line}")
 }
 
-/// Returns the label of messages of this type, which is that of its group of four types (`RTM_BASE` of
-/// linux/rtnetlink.h). `ip` has none for neighbour tables.
-fn label_of(message_type: u16) -> &'static str
-    ensures { result.now ≡ label_of message_type }
+/// Returns the label of a message with this type and this payload: that of its group of types, except
+/// that routes of multicast routing have their own.
+fn label_of(message_type: u16, payload: &[u8]) -> &'static str
+    ensures { result.now ≡ label_of message_type payload.now }
 {
-    match message_type / 4 {
+    let group = message_type / 4;
+    if (group == ROUTES) & is_multicast(family_of(payload)) {
+        return "[MROUTE]";
+    }
+    label_in(group)
+}
+
+/// Returns the label of a group of four types (`RTM_BASE` of linux/rtnetlink.h). `ip` has none for
+/// neighbour tables.
+fn label_in(group: u16) -> &'static str
+    ensures { result.now ≡ label_in group }
+{
+    match group {
         4 => "[LINK]",
         5 => "[ADDR]",
         6 => "[ROUTE]",

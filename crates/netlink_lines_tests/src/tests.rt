@@ -3,6 +3,7 @@
 mod lines;
 mod link_lines;
 mod mpls_lines;
+mod multicast_lines;
 mod names;
 mod neighbour_lines;
 mod other_lines;

@@ -1,5 +1,6 @@
 pub mod IpProtocols
 pub mod Mpls
+pub mod Multicast
 pub mod Namespace
 pub mod Route
 pub mod RouteCache

@@ -12,6 +12,7 @@ use Rattle.netlink_names.specs.Device.{device_part}
 use Rattle.netlink_words.specs.NumberNames.{protocol_text, route_type_text, scope_text, table_text}
 use Rattle.netlink_words.specs.Parts.{host_length, keyed, number_part, prefix_text, realms_part, tos_part, when, with_parts}
 use Rattle.netlink_route_lines.specs.Mpls.{label_target, labels_text, propagation_part}
+use Rattle.netlink_route_lines.specs.Multicast.{is_multicast, multicast_line}
 use Rattle.netlink_route_lines.specs.RouteCache.{cache_part, lifetime_parts}
 use Rattle.netlink_route_lines.specs.RouteHops.{hops_text, via_part}
 use Rattle.netlink_route_lines.specs.RouteMetrics.{metrics_text}
@@ -142,7 +143,8 @@ is_shown t family = not (host_length family == 0) || family == 28 || (t == 26 &&
 -- the line of a route of these families
 unfoldable pub route_entry_line : List Known → ℕ → List ℕ → Option (List ℕ)
 route_entry_line known t payload =
-    if is_shown t (route_byte payload 0)
+    if is_multicast (route_byte payload 0) then Some (multicast_line known t (route_table payload) payload)
+    else if is_shown t (route_byte payload 0)
     then Some (hops_text known (route_byte payload 0) (route_words known t payload) (first_at 12 payload RTA_MULTIPATH)
     ++ codes "\n")
     else None

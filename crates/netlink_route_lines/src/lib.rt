@@ -26,7 +26,7 @@
 //! | `src 10.1.0.1` | `route::push_origin` | `Route::origin_parts` |
 //! | `metric 7` | `route::push_origin` | `Route::origin_parts` |
 //! | `dead`, `onlink` and the other flags | `route_flags::hop_flag_name` | `RouteFlags::hop_flag_name` |
-//! | `mark 0x10` | `route::push_mark` | `Route::mark_part` |
+//! | `mark 0x10` | `route_cache::push_mark` | `Route::mark_part` |
 //! | `realm 5`, `realms 3/5` | `route::push_kept` | `Route::kept_parts` |
 //! | `uid 0` | `route::push_kept` | `Route::kept_parts` |
 //! | `cache`, and `<` and `>` around its flags | `route_cache::cache_text` | `RouteCache::cache_of` |
@@ -49,6 +49,20 @@
 //! | `dev if3` | `route_hops::push_hop_parts` | `RouteHops::hop_parts` |
 //! | `weight 3` | `route_hops::push_weight` | `RouteHops::weight_part` |
 //! | `dead`, `onlink` and the other flags | `route_flags::hop_flag_name` | `RouteFlags::hop_flag_name` |
+//!
+//! `multicast::multicast_line` makes the line of a route of multicast routing, and `Multicast::multicast_line` defines it:
+//!
+//! | word of a line | function | definition |
+//! |---|---|---|
+//! | `Deleted`, `Get` | `multicast::push_route` | `Multicast::route_parts` |
+//! | `(10.1.0.9,239.1.1.1)` | `multicast::pair_text` | `Multicast::pair_text` |
+//! | `unknown` in place of an address | `multicast::word_or_unknown` | `Multicast::word_or_unknown` |
+//! | `Iif: if3`, `Iif: unresolved` | `multicast::push_incoming` | `Multicast::incoming_part` |
+//! | `Oifs:` | `multicast::push_route` | `Multicast::route_parts` |
+//! | `if4`, `if5(ttl 3)` | `multicast::outgoing_text` | `Multicast::outgoing_text` |
+//! | `State: resolved`, `State: unresolved` | `multicast::push_states` | `Multicast::state_parts` |
+//! | `offload` | `multicast::push_states` | `Multicast::state_parts` |
+//! | `Table: default` | `multicast::push_table_name` | `Multicast::multicast_table` |
 //!
 //! `rule::rule_text` makes the line of a rule, and `Rule::rule_line` defines it:
 //!
@@ -97,6 +111,7 @@
 
 mod ip_protocols;
 mod mpls;
+pub mod multicast;
 pub mod namespace;
 pub mod route;
 pub mod route_cache;

@@ -4,10 +4,12 @@ ghost use Rattle.std.specs.Prelude.{◌≡◌, IfOk, OnOk, codes, string_bytes};
 ghost use Rattle.std.specs.Option.{option_map};
 ghost use Rattle.netlink_route.specs.declared.routes.TheConstants.{RTA_DST, RTA_GATEWAY, RTA_NEWDST, RTA_PREFSRC, RTA_SRC, RTA_VIA};
 ghost use Rattle.netlink_words.specs.Parts.{AddsPart, AddsParts, keyed, prefix_text};
-ghost use Rattle.netlink_route_lines.specs.Route.{installer_part, is_own, is_shown, kept_parts, last_parts, mark_part, origin_parts, route_bytes, route_entry_line, route_front, route_next, route_table, route_words, scope_part, table_part, target_text, type_part, with_rest, word_or_default};
+ghost use Rattle.netlink_route_lines.specs.Multicast.{multicast_line};
+ghost use Rattle.netlink_route_lines.specs.Route.{installer_part, is_own, is_shown, kept_parts, last_parts, origin_parts, route_bytes, route_entry_line, route_front, route_next, route_table, route_words, scope_part, table_part, target_text, type_part, with_rest, word_or_default};
 
 use crate::mpls::{AF_MPLS, push_label_target, push_new_labels, push_propagation};
-use crate::route_cache::{push_cache, push_lifetime};
+use crate::multicast::{RT_TABLE_MAIN, is_multicast, multicast_line};
+use crate::route_cache::{push_cache, push_lifetime, push_mark};
 use crate::route_flags::{push_hop_flags, push_preference_part};
 use crate::route_hops::{push_hops, push_next};
 use crate::route_metrics::push_metrics;
@@ -32,18 +34,16 @@ use std::alloc::{AllocError, Global};
 /// The flag `RTM_F_CLONED` of a route that the kernel looked up for a request.
 const RTM_F_CLONED: u32 = 0x200;
 
-/// The main routing table, and who installed a route if nobody said so.
-const RT_TABLE_MAIN: u32 = 254;
-
+/// Who installed a route if nobody said so.
 const RTPROT_BOOT: u8 = 3;
 
 /// More bytes than the lines of most routes have, so that a line does not grow step by step.
 const USUAL: usize = 128;
 
-/// Returns the line of a message about a route of IPv4, IPv6 or MPLS, as `ip route show table all`,
-/// `ip route get` and `ip monitor route` print it, with one space between its parts. A known link is
-/// named, and any other is `if` and its index. `Get` stands before the words of a request. Returns
-/// `None` for a route of another family.
+/// Returns the line of a message about a route of IPv4, IPv6, MPLS or multicast routing, as `ip route
+/// show table all`, `ip route get`, `ip mroute show` and `ip monitor` print it, with one space between
+/// its parts. A known link is named, and any other is `if` and its index. `Get` precedes the
+/// words of a request. Returns `None` for a route of another family.
 pub fn route_text(
     alloc: Global,
     known: &[Known],
@@ -65,7 +65,11 @@ pub fn route_entry_line(
     ensures { IfOk result (λ text. option_map string_bytes text
         ≡ route_entry_line known.now route.now.message_type route.now.payload.now) }
 {
-    if !is_shown(route.message_type, route.header().u8(RTM_FAMILY)) {
+    let family = route.header().u8(RTM_FAMILY);
+    if is_multicast(family) {
+        return Ok(Some(multicast_text(alloc, known, &route.indexed())?));
+    }
+    if !is_shown(route.message_type, family) {
         return Ok(None);
     }
     let route = route.indexed();
@@ -73,6 +77,18 @@ pub fn route_entry_line(
     push_hops(alloc, &mut text, known, &route)?;
     text.push_str("\n")?;
     Ok(Some(text))
+}
+
+/// Returns the line of a message about a route of multicast routing.
+fn multicast_text(
+    alloc: Global,
+    known: &Names<'_>,
+    route: &MessageIndex<'_, Routes>,
+) -> Result<String, AllocError>
+    ensures { IfOk result (λ text. string_bytes text ≡ multicast_line known.now route.now.message.message_type
+        (route_table route.now.message.payload.now) route.now.message.payload.now) }
+{
+    multicast_line(alloc, known, route, table_of(route))
 }
 
 /// Returns whether a message of this type about a route of this family has a line: one of IPv4, IPv6
@@ -359,25 +375,6 @@ fn push_kept(
         route.header().u8(RTM_FAMILY),
         route.header().u32(RTM_FLAGS),
     )
-}
-
-/// Appends a mark other than 0, in hexadecimal if it is 16 or greater.
-#[tactic(auto, unfolding(netlink_words::specs::Parts::with_part))]
-fn push_mark(alloc: Global, text: &mut String, mark: Option<u32>) -> Result<(), AllocError>
-    ensures { OnOk result (AddsPart text.old text.new (mark_part mark)) }
-{
-    match mark {
-        None => Ok(()),
-        Some(mark) => {
-            if mark == 0 {
-                return Ok(());
-            }
-            if mark < 16 {
-                return push_part(text, format!(in alloc; "mark {mark}")?.as_str());
-            }
-            push_part(text, format!(in alloc; "mark 0x{mark:x}")?.as_str())
-        }
-    }
 }
 
 /// Appends the metrics, the incoming link, the preference, and whether the time to live goes on.

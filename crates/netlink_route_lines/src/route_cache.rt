@@ -3,6 +3,7 @@
 ghost use Rattle.std.specs.Prelude.{◌≡◌, IfOk, OnOk, string_bytes};
 ghost use Rattle.std.specs.Option.{option_copied};
 ghost use Rattle.netlink_words.specs.Parts.{AddsPart, AddsParts};
+ghost use Rattle.netlink_route_lines.specs.Route.{mark_part};
 ghost use Rattle.netlink_route_lines.specs.RouteCache.{cache_flag_name, cache_flags, cache_of, cache_part, error_part, expires_part, lifetime_parts, named_cache_flags, with_cache_flag, with_rest};
 
 use netlink_packet_core::{i32_at, u32_at};
@@ -169,4 +170,27 @@ fn error_text(alloc: Global, error: u32) -> Result<String, AllocError>
         return Ok(String::new(alloc));
     }
     format!(in alloc; "error {error}")
+}
+
+/// Appends a mark other than 0, in hexadecimal if it is 16 or greater.
+#[tactic(auto, unfolding(netlink_words::specs::Parts::with_part))]
+pub(crate) fn push_mark(
+    alloc: Global,
+    text: &mut String,
+    mark: Option<u32>,
+) -> Result<(), AllocError>
+    ensures { OnOk result (AddsPart text.old text.new (mark_part mark)) }
+{
+    match mark {
+        None => Ok(()),
+        Some(mark) => {
+            if mark == 0 {
+                return Ok(());
+            }
+            if mark < 16 {
+                return push_part(text, format!(in alloc; "mark {mark}")?.as_str());
+            }
+            push_part(text, format!(in alloc; "mark 0x{mark:x}")?.as_str())
+        }
+    }
 }

@@ -27,6 +27,9 @@ RTM_F_CLONED = 0x200
 # What `ip monitor label` prints before the line of a message, by the type without its last two bits.
 LABELS = {16: "[LINK]", 20: "[ADDR]", 24: "[ROUTE]", 28: "[NEIGH]", 32: "[RULE]", 88: "[NSID]"}
 
+# And before the line of a route of multicast routing, by its families.
+MULTICAST_FAMILIES, MULTICAST_LABEL = (128, 129), "[MROUTE]"
+
 
 def frames_in(data):
     at = 0
@@ -42,6 +45,8 @@ def kind_of(frame):
 
 def label_of(frame):
     """Returns what `ip monitor label` prints before the line of a frame."""
+    if kind_of(frame) in ROUTES and frame[16] in MULTICAST_FAMILIES:
+        return MULTICAST_LABEL
     return LABELS.get(kind_of(frame) & ~3, "")
 
 

@@ -69,7 +69,7 @@ const NEIGHBOURS: [u8; 28] = [
     2, 0, 0, 0, 0, 0, 0, 0, 0, 0, 0, 0, // AF_INET
 ];
 
-/// A request for all routes of IPv4 (linux/rtnetlink.h), of which there is no line.
+/// A request for all routes of IPv4 (linux/rtnetlink.h).
 const REQUEST: [u8; 28] = [
     28, 0, 0, 0, 26, 0, 1, 3, 1, 0, 0, 0, 0, 0, 0, 0, // length 28, RTM_GETROUTE
     2, 0, 0, 0, 0, 0, 0, 0, 0, 0, 0, 0, // AF_INET

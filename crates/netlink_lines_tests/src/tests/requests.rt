@@ -37,6 +37,13 @@ const ROUTE: [u8; 20] = [
     8, 0, 1, 0, 10, 0, 0, 0, // RTA_DST
 ];
 
+/// A route of multicast routing from 10.1.0.9 to 239.1.1.1.
+const GROUP: [u8; 28] = [
+    128, 32, 32, 0, 0, 17, 0, 5, 0, 0, 0, 0, // RTNL_FAMILY_IPMR, RTPROT_MROUTED, RTN_MULTICAST
+    8, 0, 2, 0, 10, 1, 0, 9, // RTA_SRC
+    8, 0, 1, 0, 239, 1, 1, 1, // RTA_DST
+];
+
 /// A rule for the table `main`, the neighbour table "arp", and the id 5 of a namespace.
 const RULE: [u8; 12] = [2, 0, 0, 0, 254, 0, 0, 1, 0, 0, 0, 0];
 
@@ -47,7 +54,7 @@ const ID: [u8; 12] = [0, 0, 0, 0, 8, 0, 1, 0, 5, 0, 0, 0];
 /// The id of the namespace of the process 100.
 const OF_PROCESS: [u8; 12] = [0, 0, 0, 0, 8, 0, 2, 0, 100, 0, 0, 0];
 
-/// The id 1 for the namespace of the file 4, as a request with all that may stand in one.
+/// The id 1 for the namespace of the file 4, as a request with all that one may have.
 const OF_FILE: [u8; 36] = [
     0, 0, 0, 0, // AF_UNSPEC
     8, 0, 5, 0, 7, 0, 0, 0, // NETNSA_CURRENT_NSID
@@ -62,7 +69,7 @@ const TIME: [u8; 8] = [1, 0, 0, 0, 2, 0, 0, 0];
 /// Messages as type, flags and payload, and the label and the line of each. The flag 1 is
 /// NLM_F_REQUEST. The time also has what precedes the label of the next message, which is of an
 /// interrupted dump.
-const MESSAGES: [(u8, u8, &[u8], &str, &str); 38] = [
+const MESSAGES: [(u8, u8, &[u8], &str, &str); 40] = [
     (
         16,
         5,
@@ -108,6 +115,20 @@ const MESSAGES: [(u8, u8, &[u8], &str, &str); 38] = [
     (26, 1, &ROUTE, "[ROUTE]", "Get 10.0.0.0/8\n"),
     (26, 1, &NOBODY, "[ROUTE]", "Get none default proto unspec\n"),
     (24, 4, &NOBODY, "", "type 24, 28 bytes\n"),
+    (
+        25,
+        5,
+        &GROUP,
+        "[MROUTE]",
+        "request delete (10.1.0.9,239.1.1.1) Iif: unresolved State: resolved\n",
+    ),
+    (
+        26,
+        1,
+        &GROUP,
+        "[MROUTE]",
+        "Get (10.1.0.9,239.1.1.1) Iif: unresolved State: resolved\n",
+    ),
     (32, 5, &RULE, "[RULE]", "request 0: from all lookup main\n"),
     (
         33,
