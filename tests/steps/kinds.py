@@ -15,53 +15,19 @@ import sys
 
 sys.path.insert(0, os.path.join(sys.path[0], "..", "lib"))
 
-from built import TOP, built, in_parallel, run, tally  # noqa: E402 (it is in that folder)
+from built import built, in_parallel, run, tally  # noqa: E402 (it is in that folder)
 from expected import Expected, differs  # noqa: E402
+from kind_table import INTEGERS, families, text_of  # noqa: E402
 
 NORMALIZES = "tests::captured::standard_input_is_normalized"
 SHOWS = "tests::captured::standard_input_is_shown"
 RESULT = b"\ntest result: ok\n"
-TABLE = os.path.join(TOP, "tests", "kinds.txt")
-
-INTEGERS = {"u8": 1, "u16": 2, "u32": 4, "u64": 8, "s32": 4, "be16": 2, "be32": 4, "be64": 8}
 NESTED, QUERY = 0x8000, 0x4000  # NLA_F_NESTED and the other flag bit, NLA_F_NET_BYTEORDER
 INFO_KIND, INFO_DATA, GATEWAY = 1, 2, 5  # IFLA_INFO_KIND, IFLA_INFO_DATA, RTA_GATEWAY
 
 
-def families():
-    """Yields the message type, the size of the header, the fields and the kinds of each family. A kind is a list: its
-    number, its name, its form, the number after that, and the kinds in it."""
-    found = []
-    with open(TABLE, encoding="utf-8") as file:
-        for line in file:
-            words = line.partition("#")[0].split()
-            if words[:1] == ["family"]:
-                fields = [(name, int(at), form) for name, at, form in (it.split(":") for it in words[3:])]
-                found.append((int(words[1]), int(words[2]), fields, []))
-            elif words:
-                kinds = found[-1][3]
-                for _level in range((len(line) - len(line.lstrip(" "))) // 2):
-                    kinds = kinds[-1][4]
-                if words[0] == "=":
-                    words = [*words[:2], "link", words[2]]
-                kinds.append([words[0], words[1], words[2], int((words + ["0"])[3]), []])
-    return found
-
-
 def attribute(kind, value):
     return struct.pack("<HH", 4 + len(value), kind) + value + bytes(-len(value) % 4)
-
-
-def text_of(form, value):
-    """Returns a value as text."""
-    if form in INTEGERS:
-        order = "big" if form.startswith("be") else "little"
-        return str(int.from_bytes(value, order, signed=form.startswith("s")))
-    if form == "string":
-        return value.removesuffix(b"\0").decode()
-    if form == "flag":
-        return "set"
-    return value.hex() or "-"
 
 
 def values(kind, form, size):
@@ -217,4 +183,5 @@ def main():
     tally("kinds", failures, passed)
 
 
-main()
+if __name__ == "__main__":
+    main()

@@ -20,7 +20,9 @@ import tempfile
 sys.path.insert(0, os.path.join(sys.path[0], "..", "lib"))
 
 from built import TOP, FailingDevices, built, error_of, in_parallel, row, run, silent, tally  # noqa: E402 (it is in that folder)
+from byte_lines import byte_errors, frames_of, request_error  # noqa: E402
 from ip_lines import ip_errors  # noqa: E402
+from kinds import rows as kind_rows  # noqa: E402
 from live import closed_error, live_error, memory_error  # noqa: E402
 from monitor_lines import monitor_errors, monitor_rows  # noqa: E402
 from pcap_rows import header as pcap_header  # noqa: E402
@@ -61,8 +63,23 @@ ADDRESS_FLAGS = [(0x2, "nodad"), (0x40, "tentative")]
 ERRNO = [*range(1, 41), *range(42, 58), *range(59, 134)]
 
 BAD = "a message is malformed"
-USAGE = (2, b"", "usage: netlink_show [--label] < FILE")
+USAGE = (2, b"", "usage: netlink_show [--label] [--bytes] < FILE")
 LINE = b"7: a: <> link/netrom\n"
+# The lines of the bytes of that message.
+BYTES = b"""\
+  0  28 00 00 00  nlmsg_len: 40
+  4  10 00  nlmsg_type: 16
+  6  00 00  nlmsg_flags: 0
+  8  00 00 00 00  nlmsg_seq: 0
+  12  00 00 00 00  nlmsg_pid: 0
+  16  00  ifi_family: 0
+  17  00
+  18  00 00  ifi_type: 0
+  20  07 00 00 00  ifi_index: 7
+  24  00 00 00 00  ifi_flags: 0
+  28  00 00 00 00  ifi_change: 0
+  32  06 00 03 00 61 00 00 00  IFLA_IFNAME: a
+"""
 
 
 def blocks(data, size):
@@ -472,6 +489,9 @@ def rows():
     yield row(data.hex(), [], (1, f"[1.000002] byte 24: {MALFORMED[0][1]}\n".encode(), BAD), data)
     data = in_packets(time(1, 2)) + pcap_packet(link(NAMED) + frame(1, b""))
     yield row(f"{data.hex()} with a label", ["--label"], (0, b"[1.000002] [LINK]" + LINE + b"noop\n", ""), data)
+    yield row("a time and its bytes", ["--bytes"], (0, b"[1.000002] " + LINE + BYTES, ""), time(1, 2) + link(NAMED))
+    yield row("labels and bytes", ["--label", "--bytes"], (0, b"[LINK]" + LINE + BYTES, ""), link(NAMED))
+    yield row("bytes and labels", ["--bytes", "--label"], (0, b"[LINK]" + LINE + BYTES, ""), in_packets(link(NAMED)))
     for words in (["links"], [""], ["-h"], ["a", "b"], [b"\xff"], ["label"], ["--labels"], ["--label", "--label"]):
         yield row(f"arguments {words}", words, USAGE, link(NAMED))
 
@@ -597,20 +617,29 @@ def names_error(program):
     return None if good else f"65,537 links: status {status}, {peak} kB of memory, {wrote[:4]}"
 
 
+def all_frames():
+    """Returns the frames whose bytes are compared with their lines: those of the files in examples/captured and of
+    tests/kinds.txt, well-formed and malformed, and those of this script."""
+    frames = [*frames_of("ip/frames.bin"), *frames_of("monitor/stream.bin")]
+    frames += [frame for _name, _test, frame, _text in kind_rows()]
+    return frames + [data for data, _line in [*LINES, *MALFORMED]]
+
+
 def main():
     program = built("netlink_show", "netlink_show")
     files = pcap_rows(frame, shown, captured_lines().values())
     all_rows = [*rows(), *stream_rows(), *files, *failing_rows(FailingDevices()), *monitor_rows(stop_of)]
     errors = [it for it in in_parallel(lambda it: error_of(program, it), all_rows) if it]
-    checks = [*live_checks(program)]
+    checks = [*live_checks(program), request_error(program)]
     errors += [it for it in checks if it]
     from_ip, frames = ip_errors(program)
     from_monitor, messages = monitor_errors(program)
     from_tshark, read = tshark_errors(frame)
     if read is None:
         print("skipped: tshark (it is not installed)")
-    errors += from_ip + from_monitor + from_tshark
-    tally("show", errors, len(all_rows) + len(checks) + frames + messages + (read or 0) - len(errors))
+    bytes_of = all_frames()
+    errors += from_ip + from_monitor + from_tshark + [*byte_errors(program, bytes_of)]
+    tally("show", errors, len(all_rows) + len(checks) + frames + messages + len(bytes_of) + (read or 0) - len(errors))
 
 
 main()

@@ -1,4 +1,5 @@
 pub mod Appending
+pub mod ByteLines
 pub mod CanonicalPayloads
 pub mod Frames
 pub mod Lines

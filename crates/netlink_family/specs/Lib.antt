@@ -1,4 +1,6 @@
 pub mod BlocksLaws
+pub mod ByteLines
+pub mod ByteLinesLaws
 pub mod CanonicalPayloadLaws
 pub mod ErrorOffsets
 pub mod Message

@@ -4,6 +4,7 @@
 #![tactic(auto)]
 
 mod both;
+pub mod byte_lines;
 mod checked;
 mod family;
 mod late;

@@ -3,7 +3,7 @@
 ghost use Rattle.std.specs.Prelude.{◌≡◌, ◌+◌, ◌<◌, ◌++◌, [], IfOk, OnOk, decimal, drop, string_bytes, take};
 ghost use Rattle.std.specs.Fmt.{signed_decimal};
 ghost use Rattle.netlink_shapes.specs.Shapes.{fields_in, rows_in, shape_among, within};
-ghost use Rattle.netlink_blocks.specs.Show.{value_line, block_lines, each_of, field_lines, fixed_size, label_text, nest_line, indent, escaped, message_text, name_in, value_lines, value_text};
+ghost use Rattle.netlink_blocks.specs.Show.{value_line, block_lines, each_of, field_lines, fixed_size, label_text, nest_line, indent, escaped, label_of, message_text, name_in, value_lines, value_text};
 
 use crate::family::{Table, rows_of};
 use crate::view::MessageView;
@@ -59,7 +59,7 @@ fn push_fields(text: &mut String, fields: &[Field], header: &[u8]) -> Result<(),
 }
 
 /// Returns this number of bytes of a header at an offset, or those that the header has there.
-fn field_bytes(header: &[u8], offset: usize, size: usize) -> &[u8]
+pub(crate) fn field_bytes(header: &[u8], offset: usize, size: usize) -> &[u8]
     ensures { result.now ≡ take size (drop offset header.now) }
 {
     if header.len() <= offset {
@@ -74,7 +74,7 @@ fn field_bytes(header: &[u8], offset: usize, size: usize) -> &[u8]
 }
 
 /// Returns the size of values of a shape; 0 if it is not fixed.
-fn fixed_size(shape: Shape) -> usize
+pub(crate) fn fixed_size(shape: Shape) -> usize
     ensures { result ≡ fixed_size shape }
 {
     match shape {
@@ -162,7 +162,11 @@ fn push_attribute(
 }
 
 /// Appends the rest of the line of a nest: its header, if it has one.
-fn push_nest_line(text: &mut String, start: usize, value: &[u8]) -> Result<(), AllocError>
+pub(crate) fn push_nest_line(
+    text: &mut String,
+    start: usize,
+    value: &[u8],
+) -> Result<(), AllocError>
     ensures { OnOk result (string_bytes text.new ≡ string_bytes text.old ++ nest_line start value.now) }
 {
     if start == 0 {
@@ -186,6 +190,19 @@ fn push_label(
         ≡ string_bytes text.old ++ label_text (rows_in rows.list.now) policy depth kind) }
 {
     push_indent(text, depth)?;
+    push_name(text, rows, policy, kind)
+}
+
+/// Appends the name of a kind; its number if it has no name.
+pub(crate) fn push_name(
+    text: &mut String,
+    rows: Rows,
+    policy: u16,
+    kind: u16,
+) -> Result<(), AllocError>
+    ensures { OnOk result (string_bytes text.new
+        ≡ string_bytes text.old ++ label_of (name_in (rows_in rows.list.now) policy kind) kind) }
+{
     let name = row_name(rows, policy, kind);
     if name.is_empty() {
         push_number(text, u64::from(kind))?;
@@ -196,7 +213,11 @@ fn push_label(
 }
 
 /// Appends the value of an attribute that is not a nest, and ends the line.
-fn push_value_line(text: &mut String, shape: Shape, value: &[u8]) -> Result<(), AllocError>
+pub(crate) fn push_value_line(
+    text: &mut String,
+    shape: Shape,
+    value: &[u8],
+) -> Result<(), AllocError>
     ensures { OnOk result (string_bytes text.new ≡ string_bytes text.old ++ value_line shape value.now) }
 {
     text.push_str(": ")?;
@@ -216,7 +237,7 @@ fn row_name(rows: Rows, policy: u16, kind: u16) -> &'static str
 }
 
 /// Appends two spaces for each level.
-fn push_indent(text: &mut String, depth: u8) -> Result<(), AllocError>
+pub(crate) fn push_indent(text: &mut String, depth: u8) -> Result<(), AllocError>
     ensures { OnOk result (string_bytes text.new ≡ string_bytes text.old ++ indent depth) }
 {
     for _level in 0..depth {
@@ -255,7 +276,7 @@ fn push_value(text: &mut String, shape: Shape, value: &[u8]) -> Result<(), Alloc
 }
 
 /// Appends an integer in decimal.
-fn push_number(text: &mut String, number: u64) -> Result<(), AllocError>
+pub(crate) fn push_number(text: &mut String, number: u64) -> Result<(), AllocError>
     ensures { OnOk result (string_bytes text.new ≡ string_bytes text.old ++ decimal number) }
 {
     match write!(text, "{number}") {

@@ -1,5 +1,6 @@
 //! Tests.
 
+mod byte_lines;
 mod choices;
 mod errors;
 mod getters;

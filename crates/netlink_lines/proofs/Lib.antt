@@ -1,3 +1,4 @@
+pub mod Bytes
 pub mod Datagrams
 pub mod Frames
 pub mod Once

@@ -12,7 +12,7 @@ use Rattle.netlink_replies.specs.Meaning.{Item, done_item, error_item, meaning}
 use Rattle.netlink_replies.specs.declared.reply.Reply.TheVariants.{Message, Overrun}
 use Rattle.netlink_lines.specs.Ack.{IsWords, marked_if}
 use Rattle.netlink_lines.proofs.Words.{no_words}
-use Rattle.netlink_lines.specs.Messages.{Check, HasLines, Lines, Memory, Tells, bad, error_lines, family_lines, frame_lines, good, item_lines, is_named, known_after, timed, unless_time}
+use Rattle.netlink_lines.specs.Messages.{Check, HasLines, Lines, Memory, TellsMessage, bad, error_lines, family_lines, frame_lines, good, item_lines, is_named, known_after, timed, unless_time}
 use Rattle.netlink_lines.specs.Lines.{known_by}
 use Rattle.netlink_lines.specs.Time.{time_in, time_of}
 use Rattle.netlink_names.specs.declared.device.Known.{Known}
@@ -73,7 +73,7 @@ leaves_these check frame memory time known same names = cc
 pub tells_time : (check : Check) (at : ℕ) (frame : List ℕ) (memory : Memory) (lines : Lines) (result : Option Time)
     (known : List Known) (time : Time) → result ≡ time_in frame → known ≡ known_after check frame memory.known
     → Some time ≡ time_in frame → lines ≡ good []
-    → Tells check at frame memory lines (record { time = result; known = known; options = memory.options })
+    → TellsMessage check at frame memory lines (record { time = result; known = known; options = memory.options })
 tells_time check at frame memory lines result known time same names is none =
     let after : List Known = known_after check frame memory.known in (
       [],
@@ -88,7 +88,7 @@ pub tells_lines : {E : Type 0} (check : Check) (at : ℕ) (frame : List ℕ) (me
     → result ≡ time_in frame → known ≡ known_after check frame memory.known → None ≡ time_in frame → view ≡ known
     → HasLines check memory.options view at frame shown
     → IfOk r (λ s. ◌≡◌ {A = Lines} (string_bytes s.text, s.is_malformed) (timed memory.time shown))
-    → IfOk r (λ s. Tells check at frame memory (string_bytes s.text, s.is_malformed) (record { time = result; known = known; options = memory.options }))
+    → IfOk r (λ s. TellsMessage check at frame memory (string_bytes s.text, s.is_malformed) (record { time = result; known = known; options = memory.options }))
 tells_lines check at frame memory shown result known view (Ok s) same names is seen (words, has, lines) timely =
     let after : List Known = known_after check frame memory.known in (
       words,
@@ -119,7 +119,7 @@ own_time frame least = rw (ne_eqb (header_of frame).message_type 15 (λ e. omega
 
 -- its line, where the kernel says nothing
 own_item : (check : Check) (options : Options) (known : List Known) (at : ℕ) (frame : List ℕ) → 16 ≤ (header_of frame).message_type
-    → family_lines options known at frame (check (header_of frame).message_type (payload_of frame))
+    → family_lines options known at frame (check.error (header_of frame).message_type (payload_of frame))
     ≡ item_lines check options known at frame [] (meaning frame)
 own_item check options known at frame least =
     rw (own_meaning frame least, ne_eqb (header_of frame).message_type 15 (λ e. omega (arith, e, least))) refl
@@ -128,10 +128,10 @@ own_item check options known at frame least =
 pub tells_own : {E : Type 0} (check : Check) (at : ℕ) (frame : List ℕ) (memory : Memory) (known : List Known) (flags : ℕ)
     (shown marked : Lines) (r : Result Shown E)
     → 16 ≤ (header_of frame).message_type → known ≡ known_after check frame memory.known → flags ≡ (header_of frame).flags
-    → shown ≡ family_lines memory.options known at frame (check (header_of frame).message_type (payload_of frame))
+    → shown ≡ family_lines memory.options known at frame (check.error (header_of frame).message_type (payload_of frame))
     → marked ≡ marked_if flags shown
     → IfOk r (λ s. ◌≡◌ {A = Lines} (string_bytes s.text, s.is_malformed) (timed memory.time marked))
-    → IfOk r (λ s. Tells check at frame memory (string_bytes s.text, s.is_malformed) (record { time = None; known = known; options = memory.options }))
+    → IfOk r (λ s. TellsMessage check at frame memory (string_bytes s.text, s.is_malformed) (record { time = None; known = known; options = memory.options }))
 tells_own check at frame memory known flags shown marked (Ok s) least names flag lines mark timely =
     let after : List Known = known_after check frame memory.known in
     let item : shown ≡ item_lines check memory.options after at frame [] (meaning frame) =
@@ -149,7 +149,7 @@ tells_own check at frame memory known flags shown marked (Err e) least names fla
 -- the names of links after a message without errors, if they were updated by it
 pub knows_message : (check : Check) (frame : List ℕ) (known after : List Known) (flags t : ℕ) (payload : List ℕ)
     → flags ≡ (header_of frame).flags → t ≡ (header_of frame).message_type → payload ≡ payload_of frame
-    → check (header_of frame).message_type (payload_of frame) ≡ None
+    → check.error (header_of frame).message_type (payload_of frame) ≡ None
     → after ≡ (if is_named flags t then known_by (t, payload) known else known) → after ≡ known_after check frame known
 unfolding known_after
 knows_message check frame known after flags t payload flag type is checked learned = rw checked (rw (flag, type, is) at learned)
@@ -160,7 +160,7 @@ same_names false known = refl
 
 -- an error leaves them
 pub knows_error : (check : Check) (frame : List ℕ) (known : List Known) (e : FamilyError)
-    → check (header_of frame).message_type (payload_of frame) ≡ Some e → known ≡ known_after check frame known
+    → check.error (header_of frame).message_type (payload_of frame) ≡ Some e → known ≡ known_after check frame known
 unfolding known_after
 knows_error check frame known e checked = rw checked (same_names (is_named (header_of frame).flags (header_of frame).message_type) known)
 

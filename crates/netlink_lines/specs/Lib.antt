@@ -1,4 +1,6 @@
 pub mod Ack
+pub mod Bytes
+pub mod Check
 pub mod Concern
 pub mod Families
 pub mod Format

@@ -9,6 +9,9 @@ use Rattle.netlink_packet_core.specs.Refusal.{refusal_text}
 use Rattle.netlink_replies.specs.Meaning.{Item, meaning}
 use Rattle.netlink_replies.specs.declared.reply.Reply.TheVariants.{Message, Done, Acknowledged, Rejected, Overrun, Other}
 use Rattle.netlink_lines.specs.Ack.{IsWords, marked_if}
+use Rattle.netlink_lines.specs.Bytes.{frame_bytes, with_bytes}
+pub use Rattle.netlink_lines.specs.Check.{Check}
+pub use Rattle.netlink_lines.specs.Options.{Lines}
 use Rattle.netlink_lines.specs.Families.{is_foreign}
 use Rattle.netlink_lines.specs.Lines.{done_line, error_line, known_by, route_line}
 use Rattle.netlink_lines.specs.Options.{labelled}
@@ -18,14 +21,6 @@ use Rattle.netlink_names.specs.declared.device.Known.{Known}
 use Rattle.netlink_lines.specs.declared.options.Options.{Options}
 use Rattle.netlink_lines.specs.declared.state.State.{State}
 use Rattle.netlink_lines.specs.declared.time.Time.{Time}
-
--- the error of a payload, if it has one, by its message type
-abbrev pub Check : Type 0
-Check = ℕ → List ℕ → Option FamilyError
-
--- the lines of a message, and whether it is malformed
-abbrev pub Lines : Type 0
-Lines = List ℕ × Bool
 
 abbrev pub good : List ℕ → Lines
 good text = (text, false)
@@ -73,7 +68,7 @@ wrong_time at payload =
 abbrev pub own_lines : Check → Options → List Known → ℕ → List ℕ → Lines
 own_lines check options known at frame =
     if (header_of frame).message_type == 15 then wrong_time at (payload_of frame)
-    else family_lines options known at frame (check (header_of frame).message_type (payload_of frame))
+    else family_lines options known at frame (check.error (header_of frame).message_type (payload_of frame))
 
 -- a frame by what it means, and by what the kernel says in it
 abbrev pub item_lines : Check → Options → List Known → ℕ → List ℕ → List ℕ → Option Item → Lines
@@ -126,7 +121,7 @@ known_if (Some error) t payload known = known
 unfoldable pub known_after : Check → List ℕ → List Known → List Known
 known_after check frame known =
     if is_named (header_of frame).flags (header_of frame).message_type
-    then known_if (check (header_of frame).message_type (payload_of frame))
+    then known_if (check.error (header_of frame).message_type (payload_of frame))
     (header_of frame).message_type (payload_of frame) known
     else known
 
@@ -148,12 +143,17 @@ pub record Seen : Type 0 where
   pub frame : List ℕ
   pub words : List ℕ
 
--- its lines, by what the messages before it leave; the names of links are those after it
-abbrev pub seen_lines : Check → Memory → Seen → Lines
-seen_lines check memory seen =
+-- its lines without those of its bytes, by what the messages before it leave; the names of links are those after it
+abbrev pub message_lines : Check → Memory → Seen → Lines
+message_lines check memory seen =
     unless_time (time_in seen.frame)
     (timed memory.time
     (frame_lines check memory.options (known_after check seen.frame memory.known) seen.at seen.frame seen.words))
+
+-- and with them, if they are asked for
+abbrev pub seen_lines : Check → Memory → Seen → Lines
+seen_lines check memory seen =
+    with_bytes memory.options (time_in seen.frame) (frame_bytes check seen.frame) (message_lines check memory seen)
 
 -- what it leaves: a time is for the next message alone
 abbrev pub memory_after : Check → Memory → Seen → Memory
@@ -168,4 +168,11 @@ abbrev pub Tells : Check → ℕ → List ℕ → Memory → Lines → Memory �
 Tells check at frame memory lines after =
     (words : List ℕ) × IsWords (meaning frame) words
     × (lines ≡ seen_lines check memory (record { at = at; frame = frame; words = words }))
+    × (after ≡ memory_after check memory (record { at = at; frame = frame; words = words }))
+
+-- the same without the lines of its bytes
+abbrev pub TellsMessage : Check → ℕ → List ℕ → Memory → Lines → Memory → Type 0
+TellsMessage check at frame memory lines after =
+    (words : List ℕ) × IsWords (meaning frame) words
+    × (lines ≡ message_lines check memory (record { at = at; frame = frame; words = words }))
     × (after ≡ memory_after check memory (record { at = at; frame = frame; words = words }))

@@ -1,12 +1,16 @@
 -- What is printed besides the lines.
-use Rattle.std.specs.Prelude.{ℕ, ◌==◌, ◌&&◌, ◌/◌, false, List, [], ◌++◌, codes, if◌then◌else◌}
+use Rattle.std.specs.Prelude.{ℕ, ◌==◌, ◌&&◌, ◌/◌, Bool, false, List, [], ◌++◌, codes, if◌then◌else◌}
 use Rattle.netlink_lines.specs.Families.{family_of}
 use Rattle.netlink_lines.specs.declared.options.Options.{Options}
 use Rattle.netlink_route_lines.specs.Multicast.{is_multicast}
 
+-- the lines of a message, and whether it is malformed
+abbrev pub Lines : Type 0
+Lines = List ℕ × Bool
+
 -- the lines alone
 abbrev pub plain : Options
-plain = record { labels = false }
+plain = record { labels = false; bytes = false }
 
 -- the label of a message type, as `ip monitor label` prints it, by its group of four types
 abbrev pub label_in : ℕ → List ℕ

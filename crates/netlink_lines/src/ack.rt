@@ -50,7 +50,7 @@ fn said(alloc: Global, attributes: &[u8], request: &[u8]) -> Result<String, Allo
 }
 
 /// Returns the attributes of an extended acknowledgement; nothing if the frame is another message.
-fn ack_attributes<'a>(item: &Option<Result<Reply<&'a [u8]>, DecodeError>>) -> &'a [u8]
+pub(crate) fn ack_attributes<'a>(item: &Option<Result<Reply<&'a [u8]>, DecodeError>>) -> &'a [u8]
     ensures { result.now ≡ ack_attributes (shown_item item.now) }
 {
     match item {

@@ -1,7 +1,7 @@
 //! A run over the packets of a pcap file.
 
 ghost use Rattle.std.specs.Prelude.{◌+◌, ◌<◌, ◌^◌, IfSome, length};
-ghost use Rattle.netlink_family.specs.Tables.{table_error};
+ghost use Rattle.netlink_lines.specs.Check.{check_of};
 ghost use Rattle.netlink_lines.specs.Messages.{memory_of};
 ghost use Rattle.netlink_lines.specs.Packet.{packets_of};
 ghost use Rattle.netlink_input.specs.Packet.{torn_of};
@@ -36,7 +36,7 @@ pub(crate) fn packets<F: Line, R: Read, W: Write>(
     writer: &mut W,
 ) -> Result<(), Fault>
     ensures runs { IfSome (R.remaining reader.old) (λ bytes.
-        RunsOver (packets_of (table_error F.Table) order) (memory_of state.old)
+        RunsOver (packets_of (check_of F.Table) order) (memory_of state.old)
         (24 + length bytes) bytes (R.remaining reader.new) (W.contents writer.old) (W.contents writer.new)
         (memory_of state.new) result) }
 {
@@ -76,7 +76,7 @@ fn write_stopped<F: Line, W: Write>(
     writer: &mut W,
 ) -> Result<(), Fault>
     requires room { at + 32 < 2 ^ 64 }
-    ensures writes { WritesTorn (table_error F.Table) at (torn_of why.now packet.now)
+    ensures writes { WritesTorn (check_of F.Table) at (torn_of why.now packet.now)
         (memory_of state.old) (memory_of state.new) (W.contents writer.old) (W.contents writer.new) result }
 {
     let mut lines = Vec::new(alloc);

@@ -24,6 +24,7 @@
 //! | `; attribute 4 is missing` | `concern::missing_words` | `Concern::missing_words` |
 //! | `noop`, `overrun` | `messages::item_shown` | `Messages::item_lines` |
 //! | `type 36, 28 bytes` | `messages::type_line` | `Messages::type_line` |
+//! | `  44  08 00 04 00 78 05 00 00  IFLA_MTU: 1400`, the lines after it | `bytes::with_bytes` | `Bytes::frame_bytes` |
 //! | `byte 20: ` before an error | `messages::malformed` | `Messages::bad` |
 //! | `Failed to parse message with type 16: ..` | `messages::error_shown` | `Messages::error_lines` |
 //! | `.. the payload has 4 bytes instead of 8` | `messages::wrong_time` | `Messages::wrong_time` |
@@ -41,6 +42,8 @@
 #![tactic(auto)]
 
 mod ack;
+mod ack_table;
+mod bytes;
 mod capture;
 mod concern;
 mod families;

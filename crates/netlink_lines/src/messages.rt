@@ -1,15 +1,16 @@
 //! What a message is shown as.
 
 ghost use Rattle.std.specs.Prelude.{◌≡◌, false, IfOk, OnOk, if◌then◌else◌, string_bytes};
-ghost use Rattle.netlink_family.specs.Tables.{table_error};
+ghost use Rattle.netlink_lines.specs.Check.{check_of};
 ghost use Rattle.netlink_packet_core.specs.FrameWalk.{IsWholeFrame};
 ghost use Rattle.netlink_packet_core.specs.Header.{header_of, payload_of};
 ghost use Rattle.netlink_replies.specs.Meaning.{shown_item};
 ghost use Rattle.netlink_lines.specs.Ack.{marked_if};
 ghost use Rattle.netlink_lines.specs.Lines.{known_by, route_line};
-ghost use Rattle.netlink_lines.specs.Messages.{HasLines, Tells, bad, error_lines, family_lines, good, is_named, item_lines, known_after, line_or_type, memory_of, own_lines, rejected_lines, timed, type_line, wrong_time};
+ghost use Rattle.netlink_lines.specs.Messages.{HasLines, Tells, TellsMessage, bad, error_lines, family_lines, good, is_named, item_lines, known_after, line_or_type, memory_of, own_lines, rejected_lines, timed, type_line, wrong_time};
 
 use crate::ack::{ack_words, is_interrupted, meaning_of};
+use crate::bytes::with_bytes;
 use crate::families::is_foreign;
 use crate::line::{Line, done_line, error_line};
 use crate::options::{Options, labelled};
@@ -40,8 +41,9 @@ const MIN_TYPE: u16 = 16;
 /// left this state, and updates the state. Requires that the bytes are one frame.
 ///
 /// Links are printed by their names from the messages so far, this one included. A time has no
-/// line. It precedes the first line of the next message, unless that is a time too. Returns
-/// `AllocError` if an allocation fails.
+/// line. It precedes the first line of the next message, unless that is a time too. If the options say
+/// so, the lines of the bytes of a message follow, unless it is a time. Returns `AllocError` if an
+/// allocation fails.
 pub(crate) fn next_lines<F: Line>(
     alloc: Global,
     state: &mut State,
@@ -49,7 +51,27 @@ pub(crate) fn next_lines<F: Line>(
     frame: &[u8],
 ) -> Result<Shown, AllocError>
     requires whole { IsWholeFrame frame.now }
-    ensures tells { IfOk result (λ s. Tells (table_error F.Table) at frame.now
+    ensures tells { IfOk result (λ s. Tells (check_of F.Table) at frame.now
+        (memory_of state.old) (string_bytes s.text, s.is_malformed) (memory_of state.new)) }
+{
+    let shown = message_lines::<F>(alloc, state, at, frame)?;
+    if !state.options.bytes | state.time.is_some() {
+        return Ok(shown);
+    }
+    with_bytes::<F>(shown, frame)
+}
+
+/// Returns the lines of a message as `next_lines` does, without those of its bytes. Inline, since most
+/// messages have no others.
+#[inline(always)]
+fn message_lines<F: Line>(
+    alloc: Global,
+    state: &mut State,
+    at: u64,
+    frame: &[u8],
+) -> Result<Shown, AllocError>
+    requires whole { IsWholeFrame frame.now }
+    ensures tells { IfOk result (λ s. TellsMessage (check_of F.Table) at frame.now
         (memory_of state.old) (string_bytes s.text, s.is_malformed) (memory_of state.new)) }
 {
     let before = state.time;
@@ -82,10 +104,10 @@ fn family_shown<F: Line>(
     frame: &[u8],
 ) -> Result<Shown, AllocError>
     requires whole { IsWholeFrame frame.now }
-    ensures names { OnOk result (known.new ≡ known_after (table_error F.Table)
+    ensures names { OnOk result (known.new ≡ known_after (check_of F.Table)
         frame.now known.old) }
     ensures lines { IfOk result (λ s. (string_bytes s.text, s.is_malformed) ≡ family_lines options known.new at frame.now
-        (table_error F.Table (header_of frame.now).message_type (payload_of frame.now))) }
+        ((check_of F.Table).error (header_of frame.now).message_type (payload_of frame.now))) }
 {
     let view = NetlinkBuffer::new(frame);
     let flags = view.flags();
@@ -158,7 +180,7 @@ fn lines_of<F: Line>(
     frame: &[u8],
 ) -> Result<Shown, AllocError>
     requires whole { IsWholeFrame frame.now }
-    ensures lines { IfOk result (λ s. HasLines (table_error F.Table) options known.now at
+    ensures lines { IfOk result (λ s. HasLines (check_of F.Table) options known.now at
         frame.now (string_bytes s.text, s.is_malformed)) }
 {
     let item = meaning_of(frame);
@@ -194,7 +216,7 @@ fn item_shown<F: Line>(
 ) -> Result<Shown, AllocError>
     requires whole { IsWholeFrame frame.now }
     ensures { IfOk result (λ s. (string_bytes s.text, s.is_malformed)
-        ≡ item_lines (table_error F.Table) options known.now at frame.now
+        ≡ item_lines (check_of F.Table) options known.now at frame.now
         words.now (shown_item item.entry)) }
 {
     let line = match item {
@@ -221,7 +243,7 @@ fn own_shown<F: Line>(
 ) -> Result<Shown, AllocError>
     requires whole { IsWholeFrame frame.now }
     ensures { IfOk result (λ s. (string_bytes s.text, s.is_malformed)
-        ≡ own_lines (table_error F.Table) options known.now at frame.now) }
+        ≡ own_lines (check_of F.Table) options known.now at frame.now) }
 {
     let view = NetlinkBuffer::new(frame);
     let message_type = view.message_type();

@@ -1,7 +1,7 @@
 //! The packets of a pcap file, and what each is shown as.
 
 ghost use Rattle.std.specs.Prelude.{◌≡◌, ◌<◌, ◌+◌, ◌-◌, ◌++◌, ◌^◌, ◌⊎◌, [], IfErr, IfOk, string_bytes};
-ghost use Rattle.netlink_family.specs.Tables.{table_error};
+ghost use Rattle.netlink_lines.specs.Check.{check_of};
 ghost use Rattle.netlink_lines.specs.Messages.{memory_of};
 ghost use Rattle.netlink_lines.specs.Packet.{TellsDatagram, TellsPacket, TellsTorn, are_zeros, content_lines, content_of, content_text, from_stop, is_partial, is_route, is_silent, stop_lines};
 ghost use Rattle.netlink_input.specs.Packet.{IsWholePacket, torn_of};
@@ -95,7 +95,7 @@ pub(crate) fn packet_lines<F: Line>(
 ) -> Result<bool, Fault>
     requires whole { IsWholePacket order packet.now }
     requires room { at + 32 < 2 ^ 64 }
-    ensures tells { IfOk result (λ malformed. TellsPacket (table_error F.Table) order at
+    ensures tells { IfOk result (λ malformed. TellsPacket (check_of F.Table) order at
         packet.now (memory_of state.old) (lines.new.items, malformed) (memory_of state.new)) }
     ensures fault { IfErr result (λ fault. fault ≡ Fault.OutOfMemory) }
 {
@@ -133,7 +133,7 @@ pub(crate) fn torn_lines<F: Line>(
 ) -> Result<bool, Fault>
     requires empty { lines.old.items ≡ [] }
     requires room { at + 32 < 2 ^ 64 }
-    ensures tells { IfOk result (λ malformed. TellsTorn (table_error F.Table) at
+    ensures tells { IfOk result (λ malformed. TellsTorn (check_of F.Table) at
         packet.now (memory_of state.old) (lines.new.items, malformed) (memory_of state.new)) }
     ensures fault { IfErr result (λ fault. fault ≡ Fault.OutOfMemory) }
 {
@@ -167,7 +167,7 @@ fn datagram_lines<F: Line>(
     lines: &mut Vec<u8>,
 ) -> Result<bool, Fault>
     requires empty { lines.old.items ≡ [] }
-    ensures tells { IfOk result (λ malformed. TellsDatagram (table_error F.Table) is_cut at
+    ensures tells { IfOk result (λ malformed. TellsDatagram (check_of F.Table) is_cut at
         datagram.now (memory_of state.old) (lines.new.items, malformed) (memory_of state.new)) }
     ensures fault { IfErr result (λ fault. fault ≡ Fault.OutOfMemory) }
 {

@@ -2,7 +2,7 @@
 
 ghost use Rattle.std.specs.Prelude.{◌≡◌, ◌<◌, ◌+◌, Some, IfSome, length};
 ghost use Rattle.std.specs.Io.KnownBytes.{prepend_known};
-ghost use Rattle.netlink_family.specs.Tables.{table_error};
+ghost use Rattle.netlink_lines.specs.Check.{check_of};
 ghost use Rattle.netlink_lines.specs.Messages.{memory_of};
 ghost use Rattle.netlink_lines.specs.Run.{EndsOver, RunsAs, RunsOver, RunsWith, end_of, end_with};
 ghost use Rattle.netlink_lines.specs.Stream.{messages_of};
@@ -47,10 +47,13 @@ pub fn run<F: Line, R: Read, W: Write>(
     writer: &mut W,
 ) -> Result<(), Fault>
     ensures runs { IfSome (R.remaining reader.old) (λ input.
-        RunsAs (table_error F.Table) input (R.remaining reader.new)
+        RunsAs (check_of F.Table) input (R.remaining reader.new)
         (W.contents writer.old) (W.contents writer.new) result) }
 {
-    let plain = Options { labels: false };
+    let plain = Options {
+        labels: false,
+        bytes: false,
+    };
     run_with::<F, R, W>(alloc, plain, reader, writer)
 }
 
@@ -62,7 +65,7 @@ pub fn run_with<F: Line, R: Read, W: Write>(
     writer: &mut W,
 ) -> Result<(), Fault>
     ensures runs { IfSome (R.remaining reader.old) (λ input.
-        RunsWith (table_error F.Table) options input (R.remaining reader.new)
+        RunsWith (check_of F.Table) options input (R.remaining reader.new)
         (W.contents writer.old) (W.contents writer.new) result) }
 {
     let mut first = Vec::with_capacity(alloc, FILE_HEADER_LEN)?;
@@ -86,7 +89,7 @@ fn messages<F: Line, R: Read, W: Write>(
 ) -> Result<(), Fault>
     requires few { length first.items < 16 }
     ensures runs { IfSome (prepend_known first.items (R.remaining reader.old)) (λ bytes.
-        RunsOver (messages_of (table_error F.Table)) (memory_of state.old)
+        RunsOver (messages_of (check_of F.Table)) (memory_of state.old)
         (base + length bytes) bytes (R.remaining reader.new) (W.contents writer.old) (W.contents writer.new)
         (memory_of state.new) result) }
 {
@@ -109,7 +112,7 @@ pub(crate) fn all_messages<F: Line, R: Read, W: Write>(
 ) -> Result<Outcome, Fault>
     requires few { length first.items < 16 }
     ensures runs { IfSome (prepend_known first.items (R.remaining reader.old)) (λ bytes.
-        EndsOver (messages_of (table_error F.Table)) (memory_of state.old)
+        EndsOver (messages_of (check_of F.Table)) (memory_of state.old)
         (base + length bytes) bytes (R.remaining reader.new) (W.contents writer.old) (W.contents writer.new)
         (memory_of state.new) result) }
 {

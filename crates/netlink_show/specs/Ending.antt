@@ -1,5 +1,5 @@
 -- What the arguments ask for, and how the program ends.
-use Rattle.std.specs.Prelude.{ℕ, ⊤, true, List, [], ◌∷◌, Option, None, Some, Ok, Err, String, bytes_eq, codes, if◌then◌else◌, string_bytes}
+use Rattle.std.specs.Prelude.{ℕ, ⊤, ◌&&◌, not, true, List, [], ◌∷◌, Option, None, Some, Ok, Err, String, bytes_eq, codes, if◌then◌else◌, string_bytes}
 use Rattle.std.specs.declared.alloc.Global.{Global}
 use Rattle.netlink_program.specs.declared.ending.Ending.{Ending}
 use Rattle.netlink_program.specs.declared.ending.Ending.TheVariants as end
@@ -10,20 +10,29 @@ use Rattle.netlink_lines.specs.declared.options.Options.{Options}
 use Rattle.netlink_show.specs.declared.ending.Usage.{Usage}
 use Rattle.netlink_input.specs.declared.fault.Fault.{Fault}
 
--- what a word asks for
-abbrev pub option_named : List ℕ → Option Options
-option_named word = if bytes_eq word (codes "--label") then Some (record { labels = true }) else None
+-- options and what a word adds to them
+abbrev pub with_option : Options → List ℕ → Option Options
+with_option options word =
+    if bytes_eq word (codes "--label") && not options.labels then Some (record { labels = true; bytes = options.bytes })
+    else if bytes_eq word (codes "--bytes") && not options.bytes then Some (record { labels = options.labels; bytes = true })
+    else None
+
+-- options and what words add to them
+abbrev pub with_options : Option Options → List (String Global) → Option Options
+with_options None words = None
+with_options (Some options) [] = Some options
+with_options (Some options) (word ∷ more) = with_options (with_option options (string_bytes word)) more
 
 -- what the arguments ask for, of which the first is the program's name; arguments that could not be read ask for
 -- nothing
 abbrev pub options_of : Option (List (String Global)) → Option Options
-options_of (Some (name ∷ [])) = Some plain
-options_of (Some (name ∷ (word ∷ []))) = option_named (string_bytes word)
-options_of other = None
+options_of None = None
+options_of (Some []) = None
+options_of (Some (name ∷ words)) = with_options (Some plain) words
 
 -- printed otherwise
 abbrev pub usage_text : List ℕ
-usage_text = codes "usage: netlink_show [--label] < FILE"
+usage_text = codes "usage: netlink_show [--label] [--bytes] < FILE"
 
 -- what a run did that ended so
 abbrev pub Ends : Check → Options → List ℕ → Option (List ℕ) → Option (List ℕ) → Option (List ℕ)

@@ -2,9 +2,9 @@
 
 ghost use Rattle.std.specs.Prelude.{◌≡◌, ◌↔◌, None, Some, IfSome, option_map};
 ghost use Rattle.std.specs.Vec.Iter.{into_iter_items};
-ghost use Rattle.netlink_family.specs.Tables.{table_error};
+ghost use Rattle.netlink_lines.specs.Check.{check_of};
 ghost use Rattle.netlink_program.specs.Ending.{IsUsage};
-ghost use Rattle.netlink_show.specs.Ending.{Ends, option_named, options_of, usage_text};
+ghost use Rattle.netlink_show.specs.Ending.{Ends, options_of, usage_text, with_option};
 
 use netlink_lines::{Fault, Line, Options, run_with};
 use netlink_program::Ending;
@@ -12,6 +12,12 @@ use std::alloc::Global;
 use std::env::Args;
 use std::fmt;
 use std::io::{Read, Write};
+
+/// The lines alone.
+const PLAIN: Options = Options {
+    labels: false,
+    bytes: false,
+};
 
 /// The error for wrong arguments.
 #[derive(Debug, Drop)]
@@ -21,33 +27,39 @@ impl fmt::Display for Usage {
     ghost output = { λ _. Some usage_text };
 
     fn fmt<W: fmt::Write>(&self, f: &mut fmt::Formatter<W>) -> fmt::Result {
-        f.write_str("usage: netlink_show [--label] < FILE")
+        f.write_str("usage: netlink_show [--label] [--bytes] < FILE")
     }
 }
 
-/// Returns what the arguments after the program's name ask for: nothing more than the lines, or
-/// labels by the word `--label`. Returns `None` for any others, and if the arguments could not be read
-/// because one is not UTF-8 or an allocation failed.
+/// Returns what the arguments after the program's name ask for: nothing more than the lines, or what
+/// the words `--label` and `--bytes` add, each at most once, in any order. Returns `None` for any
+/// others, and if the arguments could not be read because one is not UTF-8 or an allocation failed.
 pub fn asked(args: Option<Args>) -> Option<Options>
     ensures asks { result ≡ options_of (option_map into_iter_items args) }
 {
     let mut args = args?;
     let _name = args.next()?;
-    let Some(word) = args.next() else {
-        return Some(Options { labels: false });
-    };
-    match args.next() {
-        None => option_named(word.as_str()),
-        Some(_) => None,
+    let mut options = PLAIN;
+    for word in args {
+        options = with_option(options, word.as_str())?;
     }
+    Some(options)
 }
 
-/// Returns what a word asks for, or `None` if it is no option.
-fn option_named(word: &str) -> Option<Options>
-    ensures names { result ≡ option_named word.now }
+/// Returns these options and what a word asks for, or `None` if it is no option or was there before.
+fn with_option(options: Options, word: &str) -> Option<Options>
+    ensures adds { result ≡ with_option options word.now }
 {
+    let Options { labels, bytes } = options;
     match word {
-        "--label" => Some(Options { labels: true }),
+        "--label" if !labels => Some(Options {
+            labels: true,
+            bytes,
+        }),
+        "--bytes" if !bytes => Some(Options {
+            labels,
+            bytes: true,
+        }),
         _ => None,
     }
 }
@@ -63,7 +75,7 @@ pub fn ended<F: Line, R: Read, W: Write>(
     ensures usage { IsUsage result ↔ (options ≡ None) }
     ensures untouched { options ≡ None → (reader.new ≡ reader.old) × (writer.new ≡ writer.old) }
     ensures ends { IfSome options (λ asked. IfSome (R.remaining reader.old) (λ input.
-        Ends (table_error F.Table) asked input (R.remaining reader.new)
+        Ends (check_of F.Table) asked input (R.remaining reader.new)
         (W.contents writer.old) (W.contents writer.new) result)) }
 {
     let Some(options) = options else {

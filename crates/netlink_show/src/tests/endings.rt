@@ -23,17 +23,20 @@ fn args_of(alloc: Global, words: &[&str]) -> Result<Args, AllocError> {
 
 #[test]
 fn arguments_ask_for_options(rt: HostRuntime) -> Result<(), Fail> {
-    let rows: [(&[&str], Option<bool>); 7] = [
-        (&["netlink_show"], Some(false)),
-        (&["netlink_show", "--label"], Some(true)),
+    let rows: [(&[&str], Option<(bool, bool)>); 10] = [
+        (&["netlink_show"], Some((false, false))),
+        (&["netlink_show", "--label"], Some((true, false))),
+        (&["netlink_show", "--bytes"], Some((false, true))),
+        (&["netlink_show", "--bytes", "--label"], Some((true, true))),
         (&[], None),
         (&["netlink_show", ""], None),
         (&["netlink_show", "--labels"], None),
         (&["netlink_show", "label"], None),
         (&["netlink_show", "--label", "more"], None),
+        (&["netlink_show", "--bytes", "--bytes"], None),
     ];
     for (words, wanted) in rows.iter() {
-        let wanted = wanted.map(|labels| Options { labels });
+        let wanted = wanted.map(|(labels, bytes)| Options { labels, bytes });
         assert!(rt; asked(Some(args_of(rt.alloc(), words)?)) == wanted);
     }
     assert!(rt; asked(None) == None);
@@ -64,7 +67,7 @@ fn each_ending_has_its_status_and_its_text(rt: HostRuntime) -> Result<(), Fail> 
         (
             Ending::Usage(Usage),
             2,
-            "usage: netlink_show [--label] < FILE\n",
+            "usage: netlink_show [--label] [--bytes] < FILE\n",
         ),
     ];
     for (ending, status, text) in rows {
@@ -77,7 +80,10 @@ fn each_ending_has_its_status_and_its_text(rt: HostRuntime) -> Result<(), Fail> 
 /// With options the input is read to its end. Without, it is not read.
 #[test]
 fn runs_end_with_their_status(rt: HostRuntime) {
-    let plain = Options { labels: false };
+    let plain = Options {
+        labels: false,
+        bytes: false,
+    };
     for (options, status, size) in [(Some(plain), 0, 5), (None, 2, 0)] {
         let mut reader: &[u8] = &NOOP;
         let mut output: Vec<u8> = Vec::new(rt.alloc());

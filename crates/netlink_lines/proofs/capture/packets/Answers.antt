@@ -3,7 +3,7 @@ use Rattle.std.proofs.KnownBytes.{Consumes-nil}
 use Rattle.std.proofs.lemmas.Result.{err_from_is_err_and}
 use Rattle.std.specs.Io.KnownBytes.{Appends}
 use Rattle.std.specs.Prelude.{◌||◌}
-use Rattle.netlink_family.specs.Tables.{table_error}
+use Rattle.netlink_lines.specs.Check.{check_of}
 use Rattle.netlink_lines.specs.Messages.{Check, memory_of}
 use Rattle.netlink_lines.specs.Packet.{packets_of}
 use Rattle.netlink_lines.proofs.Running.{at_the_end, at_torn_stop, failed_read, keeps_one, left_here, no_one, no_write, packet_shown, torn_fails, without_memory}
@@ -12,7 +12,7 @@ use Rattle.netlink_lines.proofs.capture.packets.Goals.{then-is_malformed, else-i
 
 pub returns-then-at-gt-LAST : goal.returns-then-at-gt-LAST
 returns-then-at-gt-LAST g c =
-    let check : Check = table_error g.F.Table in
+    let check : Check = check_of g.F.Table in
     record {
       runs =
           failed_read (packets_of check c.args.order) _ _ _ _ _ _ _ _ _ _ c.loop.invariant
@@ -21,7 +21,7 @@ returns-then-at-gt-LAST g c =
 
 pub returns-in_err-read_packet : goal.returns-in_err-read_packet
 returns-in_err-read_packet g c =
-    let check : Check = table_error g.F.Table in
+    let check : Check = check_of g.F.Table in
     let p = err_from_is_err_and c.from_residual.result c.from_residual.ensures.1 in
     record {
       runs = rw (p.1, p.2) (no_one (packets_of check c.args.order) _ _ _ _ _ _ _ _ _ _ _ c.loop.invariant c.in_err-read_packet.ensures.fault);
@@ -29,7 +29,7 @@ returns-in_err-read_packet g c =
 
 pub returns-in-End : goal.returns-in-End
 returns-in-End g c =
-    let check : Check = table_error g.F.Table in
+    let check : Check = check_of g.F.Table in
     record {
       runs =
           rw c.end_of.ensures.is (at_the_end (packets_of check c.args.order) _ _ _ _ _ _ _ _ _ _ c.loop.invariant
@@ -38,7 +38,7 @@ returns-in-End g c =
 
 pub returns-in-Stop : goal.returns-in-Stop
 returns-in-Stop g c =
-    let check : Check = table_error g.F.Table in
+    let check : Check = check_of g.F.Table in
     let kept = c.read_packet.new.packet.items in
     let left = left_here c.args.order c.in-Stop.why kept _ (rw c.in-Stop.is at c.in_ok-read_packet.ensures.next)
     (rw c.in-Stop.is at c.in_ok-read_packet.ensures.torn) in
@@ -51,7 +51,7 @@ returns-in-Stop g c =
 
 pub returns-in_err-write_stopped-in-Stop : goal.returns-in_err-write_stopped-in-Stop
 returns-in_err-write_stopped-in-Stop g c =
-    let check : Check = table_error g.F.Table in
+    let check : Check = check_of g.F.Table in
     let kept = c.read_packet.new.packet.items in
     let left = left_here c.args.order c.in-Stop.why kept _ (rw c.in-Stop.is at c.in_ok-read_packet.ensures.next)
     (rw c.in-Stop.is at c.in_ok-read_packet.ensures.torn) in
@@ -65,7 +65,7 @@ returns-in_err-write_stopped-in-Stop g c =
 
 pub returns-in_err-is_bad : goal.returns-in_err-is_bad
 returns-in_err-is_bad g c =
-    let check : Check = table_error g.F.Table in
+    let check : Check = check_of g.F.Table in
     let p = err_from_is_err_and c.from_residual-in_err-is_bad.result c.from_residual-in_err-is_bad.ensures.1 in
     record {
       runs =
@@ -75,7 +75,7 @@ returns-in_err-is_bad g c =
 
 pub returns-in_err-write_through : goal.returns-in_err-write_through
 returns-in_err-write_through g c =
-    let check : Check = table_error g.F.Table in
+    let check : Check = check_of g.F.Table in
     let shown =
     packet_shown check c.args.order (g.R.Read.remaining c.loop.reader) (g.R.Read.remaining c.read_packet.new.reader) c.loop.at
     c.read_packet.new.packet.items c.deref-in-loop.result.now c.in_ok-read_packet.field-0 (memory_of c.loop.state)
@@ -91,7 +91,7 @@ returns-in_err-write_through g c =
 
 pub loop-preserved : goal.loop-preserved
 loop-preserved g c =
-    let check : Check = table_error g.F.Table in
+    let check : Check = check_of g.F.Table in
     let shown =
     packet_shown check c.args.order (g.R.Read.remaining c.loop.reader) (g.R.Read.remaining c.read_packet.new.reader) c.loop.at
     c.read_packet.new.packet.items c.deref-in-loop.result.now c.in_ok-read_packet.field-0 (memory_of c.loop.state)
@@ -115,7 +115,7 @@ loop-preserved g c =
 
 pub returns : goal.returns
 returns g c =
-    let check : Check = table_error g.F.Table in
+    let check : Check = check_of g.F.Table in
     record {
       runs =
           failed_read (packets_of check c.args.order) _ _ _ _ (g.R.Read.remaining c.loop.reader) _ _ _ _ _ c.loop.invariant

@@ -1,13 +1,13 @@
 use Rattle.std.proofs.Common.{rules, ◌≡◌, ◌-◌, arith, drop, length, length-drop, string_bytes}
 use Rattle.std.proofs.lemmas.List.{take_all}
-use Rattle.netlink_family.specs.Tables.{table_error}
+use Rattle.netlink_lines.specs.Check.{check_of}
 use Rattle.netlink_lines.specs.Messages.{Check, memory_of}
 use Rattle.netlink_lines.proofs.Datagrams.{cut_tells, other_tells, packet_tells}
 use Rattle.netlink_lines.proofs.packet.packet_lines.Goals as goal
 
 pub returns-in-Messages-clause-tells : goal.returns-in-Messages-clause-tells
 returns-in-Messages-clause-tells g c =
-    let check : Check = table_error g.F.Table in
+    let check : Check = check_of g.F.Table in
     packet_tells check c.args.order c.args.at c.args.packet.now _ (memory_of c.args.state.now) (memory_of c.datagram_lines.new.state)
     c.datagram_lines.new.lines.items c.content_of.result c.datagram_lines.result c.content_of.ensures c.in-Messages.is
     (take_all (length c.args.packet.now - 32) (drop 32 c.args.packet.now) (omega (arith, length-drop 32 c.args.packet.now)))
@@ -15,7 +15,7 @@ returns-in-Messages-clause-tells g c =
 
 pub returns-in_ok-extend_from_slice-in-CutMessages-clause-tells : goal.returns-in_ok-extend_from_slice-in-CutMessages-clause-tells
 returns-in_ok-extend_from_slice-in-CutMessages-clause-tells g c =
-    let check : Check = table_error g.F.Table in
+    let check : Check = check_of g.F.Table in
     let shown = c.in_ok-shown-in-CutMessages.shown in
     cut_tells check c.args.order c.args.at c.args.packet.now _ (memory_of c.args.state.now) (memory_of c.datagram_lines-in-CutMessages.new.state)
     c.datagram_lines-in-CutMessages.new.lines.items c.extend_from_slice.new.self.items (string_bytes shown.text) _ shown.is_malformed
@@ -25,7 +25,7 @@ returns-in_ok-extend_from_slice-in-CutMessages-clause-tells g c =
 
 pub returns-in_ok-extend_from_slice-in_default : goal.returns-in_ok-extend_from_slice-in_default
 returns-in_ok-extend_from_slice-in_default g c =
-    let check : Check = table_error g.F.Table in
+    let check : Check = check_of g.F.Table in
     let shown = c.in_ok-shown-in_default.shown in
     let text : c.extend_from_slice-in_default.new.self.items ≡ string_bytes shown.text = search rules in
     record {

@@ -3,7 +3,7 @@ use Rattle.std.proofs.KnownBytes.{Consumes-nil, prepend_known-nil}
 use Rattle.std.proofs.lemmas.Result.{err_from_is_err_and}
 use Rattle.std.specs.Io.KnownBytes.{prepend_known}
 use Rattle.std.specs.Prelude.{◌||◌}
-use Rattle.netlink_family.specs.Tables.{table_error}
+use Rattle.netlink_lines.specs.Check.{check_of}
 use Rattle.netlink_lines.specs.Messages.{Check, memory_of}
 use Rattle.netlink_lines.specs.Stream.{messages_of}
 use Rattle.netlink_input.specs.ReadingLaws.{no_header, takes_first}
@@ -14,7 +14,7 @@ use Rattle.netlink_lines.proofs.runs.all_messages.Goals.{then-is_malformed, else
 
 pub loop-init : goal.loop-init
 loop-init g c =
-    let check : Check = table_error g.F.Table in
+    let check : Check = check_of g.F.Table in
     (c.requires.few, starts_kept (messages_of check) _ _ _ _)
 
 pub read_frame-requires : goal.read_frame-requires
@@ -22,13 +22,13 @@ read_frame-requires g c = record { few = c.loop.invariant.0 }
 
 pub returns-in_err-read_frame : goal.returns-in_err-read_frame
 returns-in_err-read_frame g c =
-    let check : Check = table_error g.F.Table in
+    let check : Check = check_of g.F.Table in
     let p = err_from_is_err_and c.from_residual.result c.from_residual.ensures.1 in
     record { runs = rw (p.1, p.2) (no_one (messages_of check) _ _ _ _ _ _ _ _ _ _ _ c.loop.invariant.1 c.in_err-read_frame.ensures.fault) }
 
 pub returns-in-End : goal.returns-in-End
 returns-in-End g c =
-    let check : Check = table_error g.F.Table in
+    let check : Check = check_of g.F.Table in
     record {
       runs =
           ends_whole (messages_of check) _ _ _ _ (g.R.Read.remaining c.read_frame.new.reader) _ _ _ _ _ c.loop.invariant.1
@@ -37,7 +37,7 @@ returns-in-End g c =
 
 pub returns-in-Stop : goal.returns-in-Stop
 returns-in-Stop g c =
-    let check : Check = table_error g.F.Table in
+    let check : Check = check_of g.F.Table in
     record {
       runs =
           ends_at_stop (messages_of check) _ _ _ _ (g.R.Read.remaining c.read_frame.new.reader) _ _ _ _ _ _ c.loop.invariant.1
@@ -46,7 +46,7 @@ returns-in-Stop g c =
 
 pub returns-in_err-message : goal.returns-in_err-message
 returns-in_err-message g c =
-    let check : Check = table_error g.F.Table in
+    let check : Check = check_of g.F.Table in
     let p = err_from_is_err_and c.from_residual-in_err-message.result c.from_residual-in_err-message.ensures.1 in
     record {
       runs =
@@ -56,7 +56,7 @@ returns-in_err-message g c =
 
 pub returns-in_err-write_through : goal.returns-in_err-write_through
 returns-in_err-write_through g c =
-    let check : Check = table_error g.F.Table in
+    let check : Check = check_of g.F.Table in
     let message = c.in_ok-message.message in
     let p = err_from_is_err_and c.from_residual-in_err-write_through.result c.from_residual-in_err-write_through.ensures.1 in
     let shown =
@@ -73,7 +73,7 @@ returns-in_err-write_through g c =
 
 pub returns-in_err-padding : goal.returns-in_err-padding
 returns-in_err-padding g c =
-    let check : Check = table_error g.F.Table in
+    let check : Check = check_of g.F.Table in
     let message = c.in_ok-message.message in
     let size : c.len.result ≡ length c.read_frame.new.frame.items = search rules in
     let after : c.if-is_malformed.is_malformed ≡ (c.loop.is_malformed || message.is_malformed) =
@@ -98,7 +98,7 @@ returns-in_err-padding g c =
 
 pub returns-in-None : goal.returns-in-None
 returns-in-None g c =
-    let check : Check = table_error g.F.Table in
+    let check : Check = check_of g.F.Table in
     let message = c.in_ok-message.message in
     let size : c.len.result ≡ length c.read_frame.new.frame.items = search rules in
     let after : c.if-is_malformed.is_malformed ≡ (c.loop.is_malformed || message.is_malformed) =
@@ -121,7 +121,7 @@ returns-in-None g c =
 
 pub loop-preserved : goal.loop-preserved
 loop-preserved g c =
-    let check : Check = table_error g.F.Table in
+    let check : Check = check_of g.F.Table in
     let message = c.in_ok-message.message in
     let size : c.len.result ≡ length c.read_frame.new.frame.items = search rules in
     let after : c.if-is_malformed.is_malformed ≡ (c.loop.is_malformed || message.is_malformed) =
@@ -146,7 +146,7 @@ loop-preserved g c =
 
 pub returns : goal.returns
 returns g c =
-    let check : Check = table_error g.F.Table in
+    let check : Check = check_of g.F.Table in
     record {
       runs =
           failed_read (messages_of check) _ _ _ _ (g.R.Read.remaining c.loop.reader) _ _ _ _ _ c.loop.invariant.1

@@ -1,4 +1,4 @@
-use Rattle.netlink_family.specs.Tables.{table_error}
+use Rattle.netlink_lines.specs.Check.{check_of}
 use Rattle.netlink_lines.specs.Messages.{Check}
 use Rattle.netlink_lines.proofs.Running.{ended_with}
 use Rattle.netlink_lines.proofs.runs.messages.Goals as goal
@@ -11,5 +11,5 @@ returns-in_err-outcome g c =
 
 pub returns : goal.returns
 returns g c =
-    let check : Check = table_error g.F.Table in
+    let check : Check = check_of g.F.Table in
     record { runs = rw c.end_with.ensures.is (ended_with check _ _ _ _ _ _ _ _ c.in_ok-outcome.ensures.runs) }

@@ -1,6 +1,6 @@
 use Rattle.std.proofs.Common.{◌≡◌, ◌∙◌, sym}
 use Rattle.std.proofs.lemmas.Result.{err_from_is_err_and}
-use Rattle.netlink_family.specs.Tables.{table_error}
+use Rattle.netlink_lines.specs.Check.{check_of}
 use Rattle.netlink_lines.specs.Messages.{Check, memory_of}
 use Rattle.netlink_input.specs.Pcap.{layout_of}
 use Rattle.netlink_input.specs.declared.pcap.Layout.TheVariants.{Messages, Packets, Unread}
@@ -9,7 +9,7 @@ use Rattle.netlink_lines.proofs.runs.run_with.Goals as goal
 
 pub returns-in_err-first : goal.returns-in_err-first
 returns-in_err-first g c =
-    let check : Check = table_error g.F.Table in
+    let check : Check = check_of g.F.Table in
     let p = err_from_is_err_and c.from_residual.result c.from_residual.ensures.1 in
     record {
       runs = rw (p.1, p.2) (starts_without_memory check c.args.options (g.R.Read.remaining c.args.reader.now)
@@ -18,13 +18,13 @@ returns-in_err-first g c =
 
 pub returns-in_err-read_start : goal.returns-in_err-read_start
 returns-in_err-read_start g c =
-    let check : Check = table_error g.F.Table in
+    let check : Check = check_of g.F.Table in
     let p = err_from_is_err_and c.from_residual-in_err-read_start.result c.from_residual-in_err-read_start.ensures.1 in
     record { runs = rw (p.1, p.2) (no_start check c.args.options _ _ _ _ c.in_err-read_start.ensures.fault) }
 
 pub returns-in-Messages : goal.returns-in-Messages
 returns-in-Messages g c =
-    let check : Check = table_error g.F.Table in
+    let check : Check = check_of g.F.Table in
     let is : layout_of c.read_start.new.first.items ≡ Messages =
     rw c.deref.ensures.value at (sym c.layout_of.ensures.layout ∙ c.in-Messages.is) in
     record {
@@ -35,7 +35,7 @@ returns-in-Messages g c =
 
 pub returns-in-Packets : goal.returns-in-Packets
 returns-in-Packets g c =
-    let check : Check = table_error g.F.Table in
+    let check : Check = check_of g.F.Table in
     let is : layout_of c.read_start.new.first.items ≡ Packets c.in-Packets.order =
     rw c.deref.ensures.value at (sym c.layout_of.ensures.layout ∙ c.in-Packets.is) in
     record {
@@ -46,7 +46,7 @@ returns-in-Packets g c =
 
 pub returns-in-Unread : goal.returns-in-Unread
 returns-in-Unread g c =
-    let check : Check = table_error g.F.Table in
+    let check : Check = check_of g.F.Table in
     let is : layout_of c.read_start.new.first.items ≡ Unread c.in-Unread.stop =
     rw c.deref.ensures.value at (sym c.layout_of.ensures.layout ∙ c.in-Unread.is) in
     record { runs = runs_unread check c.args.options c.in-Unread.stop _ _ _ _ c.read_start.new.first.items c.in_ok-read_start.ensures.start is }

@@ -1,13 +1,13 @@
 use Rattle.std.proofs.Common.{rules, ◌≡◌, ◌≤◌, ◌<◌, ◌∙◌, ap, Bor, List, ℕ, [], string_bytes}
-use Rattle.netlink_family.specs.Tables.{table_error}
+use Rattle.netlink_lines.specs.Check.{check_of}
 use Rattle.netlink_packet_core.specs.Header.{header_of}
 use Rattle.netlink_lines.specs.Messages.{Check, Lines, good, memory_of}
 use Rattle.netlink_lines.proofs.Shown.{knows_other, tells_lines, tells_own, tells_time}
-use Rattle.netlink_lines.proofs.messages.next_lines.Goals as goal
+use Rattle.netlink_lines.proofs.messages.message_lines.Goals as goal
 
 pub returns-then-message_type-ge-MIN_TYPE : goal.returns-then-message_type-ge-MIN_TYPE
 returns-then-message_type-ge-MIN_TYPE g c =
-    let check : Check = table_error g.F.Table in
+    let check : Check = check_of g.F.Table in
     let shown = c.in_ok-shown.shown in
     let after = c.in_ok-shown-2.shown in
     let least : 16 ≤ (header_of c.args.frame.now).message_type = search rules in
@@ -22,7 +22,7 @@ returns-then-message_type-ge-MIN_TYPE g c =
 
 pub returns-in-Some : goal.returns-in-Some
 returns-in-Some g c =
-    let check : Check = table_error g.F.Table in
+    let check : Check = check_of g.F.Table in
     let none : ◌≡◌ {A = Lines} (string_bytes c.well_formed-in-Some.result.text, c.well_formed-in-Some.result.is_malformed) (good []) =
     c.well_formed-in-Some.ensures ∙ ap good c.new-in-Some.ensures.bytes in
     let less : (header_of c.args.frame.now).message_type < 16 = search rules in
@@ -34,7 +34,7 @@ returns-in-Some g c =
 
 pub returns-in_ok-shown-in-None : goal.returns-in_ok-shown-in-None
 returns-in_ok-shown-in-None g c =
-    let check : Check = table_error g.F.Table in
+    let check : Check = check_of g.F.Table in
     let shown = c.in_ok-shown-in-None.shown in
     let less : (header_of c.args.frame.now).message_type < 16 = search rules in
     record {

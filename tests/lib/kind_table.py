@@ -1,0 +1,41 @@
+"""The kinds of attributes of netlink_route, by tests/kinds.txt, and values as text."""
+
+import os
+
+from built import TOP
+
+TABLE = os.path.join(TOP, "tests", "kinds.txt")
+
+INTEGERS = {"u8": 1, "u16": 2, "u32": 4, "u64": 8, "s32": 4, "s64": 8, "be16": 2, "be32": 4, "be64": 8}
+
+
+def families():
+    """Yields the message type, the size of the header, the fields and the kinds of each family. A kind is a list: its
+    number, its name, its form, the number after that, and the kinds in it."""
+    found = []
+    with open(TABLE, encoding="utf-8") as file:
+        for line in file:
+            words = line.partition("#")[0].split()
+            if words[:1] == ["family"]:
+                fields = [(name, int(at), form) for name, at, form in (it.split(":") for it in words[3:])]
+                found.append((int(words[1]), int(words[2]), fields, []))
+            elif words:
+                kinds = found[-1][3]
+                for _level in range((len(line) - len(line.lstrip(" "))) // 2):
+                    kinds = kinds[-1][4]
+                if words[0] == "=":
+                    words = [*words[:2], "link", words[2]]
+                kinds.append([words[0], words[1], words[2], int((words + ["0"])[3]), []])
+    return found
+
+
+def text_of(form, value):
+    """Returns a value as text."""
+    if form in INTEGERS:
+        order = "big" if form.startswith("be") else "little"
+        return str(int.from_bytes(value, order, signed=form.startswith("s")))
+    if form == "string":
+        return value.removesuffix(b"\0").decode()
+    if form == "flag":
+        return "set"
+    return value.hex() or "-"
