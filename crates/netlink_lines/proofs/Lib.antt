@@ -1,7 +1,10 @@
+pub mod BlockRuns
 pub mod Datagrams
 pub mod Frames
 pub mod Once
+pub mod OnceBlocks
 pub mod OncePackets
+pub mod Reaching
 pub mod Running
 pub mod Shown
 pub mod Starting

@@ -1,4 +1,5 @@
 pub mod Ack
+pub mod Blocks
 pub mod Concern
 pub mod Families
 pub mod Format
