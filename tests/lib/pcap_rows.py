@@ -168,8 +168,6 @@ def pcap_rows(message, shown, streams):
     for size in (LONGEST - 16, LONGEST - 15):
         data = header() + packet(message(40, bytes(size - 16)))
         yield row(f"a datagram of {size} bytes", [], file_shown(data, shown), data)
-    pcapng = 1, b"", "byte 0: this is a pcapng file, which is not read"
-    yield row("a pcapng file", [], pcapng, b"\n\r\r\n" + bytes(100))
     whole = made_file(message, BIG, "nanoseconds")
     for cut in range(4, len(whole)):
         yield row(f"the first {cut} bytes of a file", [], file_shown(whole[:cut], shown), whole[:cut])

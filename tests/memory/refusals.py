@@ -2,10 +2,10 @@
 """Makes each allocation of a run fail in turn, by its number, and checks the result.
 
 It preloads the library of refuse.c into the two programs and into the built tests of the crates, each in a process of
-its own. netlink_frame runs each command on a dozen inputs, and netlink_show runs on captured datagrams and a pcap
-file. Code that allocates is run once per allocation, with that allocation failing: it must give its usual result or
-report out of memory. Code that must not allocate is run with every allocation failing, starting at its marker: it must
-give its usual result and allocate nothing after the marker.
+its own. netlink_frame runs each command on a dozen inputs, and netlink_show runs on captured datagrams, a pcap
+file and a pcapng file. Code that allocates is run once per allocation, with that allocation failing: it must give its
+usual result or report out of memory. Code that must not allocate is run with every allocation failing, starting at its
+marker: it must give its usual result and allocate nothing after the marker.
 """
 
 import os
@@ -18,6 +18,7 @@ sys.path.insert(0, os.path.join(sys.path[0], "..", "lib"))
 
 from built import TOP, built, in_parallel, run, tally
 from pcap_rows import header, packet
+from pcapng_rows import enhanced, interface, packed, section, simple
 from toolchain import compiler
 
 # Other functions that allocate. The programs must not use them, because refuse.c does not count them.
@@ -166,7 +167,7 @@ def of_frame(library):
 
 def of_show(library):
     """Returns the sweeps of netlink_show: each of its datagrams, an empty input, for which it allocates to read its
-    arguments, then its buffer, and then the room for the first bytes, and a pcap file.
+    arguments, then its buffer, and then the room for the first bytes, a pcap file and a pcapng file.
 
     The program writes the line of a message before it reads on, so the lines before a failed allocation are there."""
     program = built("netlink_show", "netlink_show")
@@ -178,6 +179,8 @@ def of_show(library):
         inputs[name] = messages_of(source, end) if isinstance(source, int) else captured(source)[:end]
     packets = [packet(inputs["links"]), packet(inputs["links, the last one truncated"]), packet(b"", family=16)]
     inputs["a pcap file"] = header() + b"".join(packets)
+    blocks = [enhanced(packed(inputs["links"])), simple(packed(inputs["an error with its request"]))]
+    inputs["a pcapng file"] = section() + interface() + b"".join(blocks)
 
     def sweep_of(name):
         data = inputs[name]

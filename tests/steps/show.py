@@ -1,7 +1,7 @@
 #!/usr/bin/env python3
 """Runs the built program `netlink_show` on captured datagrams, on frames for which `ip` printed lines, on what a
-monitor saw, on inputs with each error, on every prefix of a stream, on random bytes, on pcap files, on pipes that stay
-open, with wrong arguments, and with inputs and outputs that fail.
+monitor saw, on inputs with each error, on every prefix of a stream, on random bytes, on pcap and pcapng files, on pipes that
+stay open, with wrong arguments, and with inputs and outputs that fail.
 
 This script computes the expected lines for the captured datagrams itself, with Python's struct and ipaddress and the
 numbers of linux/if.h, if_link.h and if_addr.h. The expected lines for acknowledgements, errors and messages made here
@@ -28,6 +28,8 @@ from monitor_lines import monitor_errors, monitor_rows  # noqa: E402
 from pcap_rows import header as pcap_header  # noqa: E402
 from pcap_rows import packet as pcap_packet  # noqa: E402
 from pcap_rows import pcap_rows, tshark_errors, without_padding  # noqa: E402
+from pcapng_rows import block, enhanced, interface, others, packed, pcapng_errors, pcapng_rows, section, simple  # noqa: E402
+from pcapng_rows import tshark_errors as tshark_block_errors  # noqa: E402
 
 CAPTURED = ["links-0", "links-1", "links-2", "addresses-0", "addresses-1", "link-by-name-0"]
 CAPTURED += ["event-0", "event-1", "event-2"]
@@ -575,10 +577,16 @@ def live_checks(program):
     two = link(NAMED) + link(NAMED)
     packets = [(pcap_header(), pcap_packet(two), LINE + LINE), (b"", pcap_packet(link(NAMED)), LINE)]
     yield live_error(program, packets, (0, b""))
+    start = b"".join([section(), *others("<"), interface()])
+    blocks = [(start, enhanced(packed(two)), LINE + LINE), (b"".join(others("<")), simple(packed(link(NAMED))), LINE)]
+    yield live_error(program, [*blocks, (section(">") + interface(">"), enhanced(packed(two), ">"), LINE + LINE)], (0, b""))
     yield closed_error(program, link(NAMED), LINE)
     many = 1024 * link(NAMED, attribute(200, bytes(1000)))
     yield memory_error(program, b"", many, 64)
     yield memory_error(program, pcap_header(), 32 * pcap_packet(many[: len(many) // 32]), 64)
+    datagram = packed(many[: len(many) // 32])
+    yield memory_error(program, start, 32 * enhanced(datagram), 64)
+    yield memory_error(program, section(), block(5, bytes(1 << 24)), 4)
     yield padding_error(program)
     yield names_error(program)
 
@@ -627,7 +635,8 @@ def all_frames():
 
 def main():
     program = built("netlink_show", "netlink_show")
-    files = pcap_rows(frame, shown, captured_lines().values())
+    streams = [*captured_lines().values()]
+    files = [*pcap_rows(frame, shown, streams), *pcapng_rows(frame, shown, streams)]
     all_rows = [*rows(), *stream_rows(), *files, *failing_rows(FailingDevices()), *monitor_rows(stop_of)]
     errors = [it for it in in_parallel(lambda it: error_of(program, it), all_rows) if it]
     checks = [*live_checks(program), request_error(program)]
@@ -635,11 +644,14 @@ def main():
     from_ip, frames = ip_errors(program)
     from_monitor, messages = monitor_errors(program)
     from_tshark, read = tshark_errors(frame)
+    from_blocks, more = tshark_block_errors(frame)
+    from_file, lines = pcapng_errors(program)
     if read is None:
         print("skipped: tshark (it is not installed)")
     bytes_of = all_frames()
-    errors += from_ip + from_monitor + from_tshark + [*byte_errors(program, bytes_of)]
-    tally("show", errors, len(all_rows) + len(checks) + frames + messages + len(bytes_of) + (read or 0) - len(errors))
+    errors += from_ip + from_monitor + from_tshark + from_blocks + from_file + [*byte_errors(program, bytes_of)]
+    counted = len(all_rows) + len(checks) + frames + messages + len(bytes_of) + (read or 0) + more + lines
+    tally("show", errors, counted - len(errors))
 
 
 main()

@@ -1,5 +1,6 @@
 -- What the first bytes of an input tell of it.
-use Rattle.std.proofs.Common.{◌≡◌, ◌≤◌, ◌+◌, ◌-◌, ◌++◌, ◌∙◌, refl, ap, arith, sym, ℕ, List, Option, Some, None, drop, take, length, length-append, length-drop}
+use Rattle.std.proofs.Common.{◌≡◌, ◌≤◌, ◌+◌, ◌-◌, ◌++◌, ◌∙◌, refl, ap, arith, sym, ℕ, List, Option, Some, None, drop, take, length, length-append, length-drop, inl, inr}
+use Rattle.std.proofs.lemmas.Bool.Decides.{eqb_tells}
 use Rattle.std.proofs.lemmas.Bool.{le-leb, le-ltb, leb-true, ltb-false}
 use Rattle.std.proofs.lemmas.List.{drop-append-le, take-append-le}
 use Rattle.std.specs.Prelude.{Bool, true, false, ◌&&◌, ◌==◌, is_some, if◌then◌else◌, nat_lt, slice_range}
@@ -7,11 +8,10 @@ use Rattle.netlink_packet_core.specs.Header.{field}
 use Rattle.netlink_packet_core.specs.Numbers.{number_be, number_le}
 use Rattle.netlink_input.specs.Pcap.{is_pcap, layout_of, number_in, order_of, ordered_layout, pcap_layout, unread}
 use Rattle.netlink_input.specs.declared.pcap.Layout.{Layout}
-use Rattle.netlink_input.specs.declared.pcap.Layout.TheVariants.{Messages, Packets}
+use Rattle.netlink_input.specs.declared.pcap.Layout.TheVariants.{Blocks, Messages, Packets}
 use Rattle.netlink_input.specs.declared.pcap.Order.{Order}
 use Rattle.netlink_input.specs.declared.pcap.Order.TheVariants.{Little, Big}
 use Rattle.netlink_input.specs.declared.pcap.PcapFault.{PcapFault}
-use Rattle.netlink_input.specs.declared.pcap.PcapFault.TheVariants.{Pcapng}
 use Rattle.netlink_input.specs.ReadingLaws.{field_in}
 
 -- ---- numbers at the start of more bytes
@@ -49,7 +49,7 @@ pcap_in first more long =
 -- ---- the layout
 
 abbrev magic_layout : ℕ → List ℕ → Layout
-magic_layout magic bytes = if magic == 168627466 then unread 0 Pcapng else ordered_layout (order_of magic) bytes
+magic_layout magic bytes = if magic == 168627466 then Blocks else ordered_layout (order_of magic) bytes
 
 layout_by_magic : (bytes : List ℕ) → 4 ≤ length bytes → layout_of bytes ≡ magic_layout (field 0 4 bytes) bytes
 layout_by_magic bytes long =
@@ -73,7 +73,7 @@ ordered_in (Some order) first more long = header_in order first more (long refl)
 magic_in : (magic : ℕ) (first more : List ℕ) → (is_some (order_of magic) ≡ true → 24 ≤ length first)
     → magic_layout magic (first ++ more) ≡ magic_layout magic first
 magic_in magic first more long =
-    ap (λ (l : Layout). if magic == 168627466 then unread 0 Pcapng else l) (ordered_in (order_of magic) first more long)
+    ap (λ (l : Layout). if magic == 168627466 then Blocks else l) (ordered_in (order_of magic) first more long)
 
 -- no byte after these is looked at
 pub layout_in : (first more : List ℕ) → 4 ≤ length first → (is_pcap first ≡ true → 24 ≤ length first)
@@ -115,9 +115,22 @@ no_order (Some order) bytes is =
     absurd (no_messages (nat_lt (length bytes) 24) (number_in order 4 2 bytes == 2 && number_in order 6 2 bytes == 4)
     (number_in order 20 4 bytes == 253) order _ _ _ is)
 
+no_blocks : (a b c : Bool) (order : Order) (x y z : PcapFault)
+    → (if a then unread 0 x else if b then (if c then Packets order else unread 20 y) else unread 4 z) ≡ Blocks → ⊥
+no_blocks true b c order x y z is = absurd cc
+no_blocks false true true order x y z is = absurd cc
+no_blocks false true false order x y z is = absurd cc
+no_blocks false false c order x y z is = absurd cc
+
+no_order_of : (order : Option Order) (bytes : List ℕ) → ordered_layout order bytes ≡ Blocks → is_some order ≡ false
+no_order_of None bytes is = refl
+no_order_of (Some order) bytes is =
+    absurd (no_blocks (nat_lt (length bytes) 24) (number_in order 4 2 bytes == 2 && number_in order 6 2 bytes == 4)
+    (number_in order 20 4 bytes == 253) order _ _ _ is)
+
 -- neither has the magic number of pcapng
-other_magic : (b : Bool) (found wanted : Layout) → (if b then unread 0 Pcapng else found) ≡ wanted
-    → (wanted ≡ unread 0 Pcapng → ⊥) → found ≡ wanted
+other_magic : (b : Bool) (found wanted : Layout) → (if b then Blocks else found) ≡ wanted
+    → (wanted ≡ Blocks → ⊥) → found ≡ wanted
 other_magic true found wanted is not = absurd (not (sym is))
 other_magic false found wanted is not = is
 
@@ -141,3 +154,16 @@ messages_magic bytes is long =
     let whole : magic_layout magic bytes ≡ Messages = sym (layout_by_magic bytes long) ∙ is in
     pcap_by_order bytes long ∙ no_order (order_of magic) bytes
     (other_magic (magic == 168627466) (ordered_layout (order_of magic) bytes) Messages whole (λ e. absurd cc))
+
+-- the magic number of pcapng is not that of pcap
+blocks_number : (magic : ℕ) (bytes : List ℕ) → magic_layout magic bytes ≡ Blocks → is_some (order_of magic) ≡ false
+blocks_number magic bytes is =
+    elim (eqb_tells magic 168627466) [
+      | inl (same, number) ↦ ap (λ (n : ℕ). is_some (order_of n)) number
+      | inr (other, not) ↦ no_order_of (order_of magic) bytes
+          (sym (ap (λ (b : Bool). if b then Blocks else ordered_layout (order_of magic) bytes) other) ∙ is)
+    ]
+
+pub blocks_magic : (bytes : List ℕ) → layout_of bytes ≡ Blocks → 4 ≤ length bytes → is_pcap bytes ≡ false
+blocks_magic bytes is long =
+    pcap_by_order bytes long ∙ blocks_number (field 0 4 bytes) bytes (sym (layout_by_magic bytes long) ∙ is)

@@ -1,3 +1,6 @@
+pub mod Block
+pub mod BlockLaws
+pub mod Blocks
 pub mod Faults
 pub mod LayoutLaws
 pub mod Packet

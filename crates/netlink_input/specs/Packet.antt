@@ -3,6 +3,7 @@
 use Rattle.std.specs.Prelude.{◌≡◌, ◌<◌, ◌≤◌, ◌+◌, ℕ, List, [], length}
 use Rattle.netlink_input.specs.Pcap.{number_in}
 use Rattle.netlink_input.specs.Stream.{longest}
+use Rattle.netlink_input.specs.declared.packet.Extent.{Extent}
 use Rattle.netlink_input.specs.declared.pcap.Order.{Order}
 use Rattle.netlink_input.specs.declared.pcap.PcapFault.{PcapFault}
 use Rattle.netlink_input.specs.declared.pcap.PcapFault.TheVariants.{PacketShort, PacketLong, PacketCut}
@@ -16,6 +17,15 @@ captured_of order bytes = number_in order 8 4 bytes
 
 abbrev pub original_of : Order → List ℕ → ℕ
 original_of order bytes = number_in order 12 4 bytes
+
+-- which bytes of the packet there are, by its header
+abbrev pub extent_of : Order → List ℕ → Extent
+extent_of order bytes =
+    record { from = 16; captured = captured_of order bytes; original = original_of order bytes }
+
+-- the bytes are those before the captured ones, at most 28, and these
+abbrev pub IsExtent : Extent → List ℕ → Type 0
+IsExtent extent bytes = (extent.from ≤ 28) × (length bytes ≡ extent.from + extent.captured)
 
 -- the bytes are one packet with its header, and nothing else
 abbrev pub IsWholePacket : Order → List ℕ → Type 0

@@ -1,6 +1,7 @@
 //! The packets of a pcap file, one at a time.
 
-ghost use Rattle.std.specs.Prelude.{◌≡◌, ◌⊎◌, IfErr, IfOk};
+ghost use Rattle.std.specs.Prelude.{◌≡◌, ◌≤◌, ◌⊎◌, IfErr, IfOk, length};
+ghost use Rattle.netlink_input.specs.Packet.{extent_of};
 ghost use Rattle.netlink_input.specs.Reading.{GivesPacket, KeepsTorn, TriesPacket};
 
 use crate::fault::Fault;
@@ -10,6 +11,17 @@ use std::io::Read;
 
 /// The size in bytes of the header of a packet, and of that of its datagram.
 pub const HEADER_LEN: usize = 16;
+
+/// Which bytes of a packet there are.
+#[derive(Clone, Copy, Debug, PartialEq, Eq)]
+pub struct Extent {
+    /// The number of bytes before the captured ones.
+    pub from: usize,
+    /// The number of bytes that were captured.
+    pub captured: u32,
+    /// The number of bytes that the packet had.
+    pub original: u32,
+}
 
 /// What follows in a pcap file.
 #[derive(Debug)]
@@ -58,4 +70,16 @@ pub fn read_packet<R: Read>(
         return Ok(NextPacket::Stop(PcapFault::PacketCut(captured, size)));
     }
     Ok(NextPacket::Packet)
+}
+
+/// Returns which bytes of a packet of a pcap file there are. Requires that its header is there.
+pub fn extent_of(order: Order, packet: &[u8]) -> Extent
+    requires header { 16 ≤ length packet.now }
+    ensures { result ≡ extent_of order packet.now }
+{
+    Extent {
+        from: HEADER_LEN,
+        captured: u32_in(order, packet, 8),
+        original: u32_in(order, packet, 12),
+    }
 }

@@ -1,4 +1,5 @@
-//! Pcap files: their numbers, the header by which one is recognized, and why one is not read.
+//! Pcap files: their numbers, the header by which one is recognized, and why one, or a pcapng file, is
+//! not read.
 //!
 //! The format is that of libpcap (pcap-savefile) with the link type `LINKTYPE_NETLINK`.
 
@@ -25,10 +26,10 @@ const MICROSECONDS_SWAPPED: u32 = 0xd4c3_b2a1;
 
 const NANOSECONDS_SWAPPED: u32 = 0x4d3c_b2a1;
 
-const PCAPNG: u32 = 0x0a0d_0d0a;
+pub(crate) const PCAPNG: u32 = 0x0a0d_0d0a;
 
 /// The link type of netlink.
-const NETLINK: u32 = 253;
+pub(crate) const NETLINK: u32 = 253;
 
 /// The byte order of the numbers in the headers of a file.
 #[derive(Clone, Copy, Debug, PartialEq, Eq)]
@@ -39,11 +40,9 @@ pub enum Order {
     Big,
 }
 
-/// Why a pcap file is not read, or not read on.
+/// Why a pcap or pcapng file is not read, or not read on.
 #[derive(Clone, Copy, Debug, PartialEq, Eq)]
 pub enum PcapFault {
-    /// It is a pcapng file.
-    Pcapng,
     /// Its header has this number of bytes instead of 24.
     HeaderCut(usize),
     /// Its version, which is this, is not 2.4.
@@ -56,6 +55,26 @@ pub enum PcapFault {
     PacketLong(u32),
     /// A packet has a captured length, which is first, and ends after fewer bytes.
     PacketCut(u32, usize),
+    /// The header of a block has fewer bytes, the first number, than its type wants.
+    BlockShort(usize, usize),
+    /// The magic number in the header of a section is that of neither byte order.
+    SectionOrder,
+    /// The major version of a section, which is this, is not 1.
+    SectionVersion(u16),
+    /// The length of a block, which is this, is no multiple of 4.
+    BlockUneven(u32),
+    /// The length of a block, which is first, is less than its type wants.
+    BlockSmall(u32, u32),
+    /// The link type of an interface, which is this, is not 253.
+    InterfaceType(u32),
+    /// A packet is of this interface, and its section has this number of them.
+    Interface(u32, u32),
+    /// A packet has this number of captured bytes, and its block has room for fewer.
+    PacketOver(u32, u32),
+    /// A block has a length, which is first, and ends after fewer bytes.
+    BlockCut(u32, usize),
+    /// A block has a length, which is first, and another one at its end.
+    BlockEnds(u32, u32),
 }
 
 /// What an input is.
@@ -65,6 +84,8 @@ pub enum Layout {
     Messages,
     /// The header of a pcap file, and then packets.
     Packets(Order),
+    /// The blocks of a pcapng file.
+    Blocks,
     /// A file that is not read, and why.
     Unread(Stop),
 }
@@ -74,7 +95,6 @@ impl fmt::Display for PcapFault {
 
     fn fmt<W: fmt::Write>(&self, f: &mut fmt::Formatter<W>) -> fmt::Result {
         match *self {
-            PcapFault::Pcapng => f.write_str("this is a pcapng file, which is not read"),
             PcapFault::HeaderCut(size) => {
                 write!(f, "the header of a pcap file is cut to {size} of 24 bytes")
             }
@@ -98,6 +118,42 @@ impl fmt::Display for PcapFault {
             PcapFault::PacketCut(captured, size) => {
                 write!(f, "a packet is cut to {size} of {captured} bytes")
             }
+            PcapFault::BlockShort(size, least) => {
+                write!(f, "the header of a block is cut to {size} of {least} bytes")
+            }
+            PcapFault::SectionOrder => f.write_str("a section has neither byte order"),
+            PcapFault::SectionVersion(major) => {
+                write!(f, "the major version of a section is {major} instead of 1")
+            }
+            PcapFault::BlockUneven(size) => {
+                write!(f, "the length of a block is {size}, no multiple of 4")
+            }
+            PcapFault::BlockSmall(size, least) => {
+                write!(f, "the length of a block is {size}, less than {least}")
+            }
+            PcapFault::InterfaceType(link_type) => {
+                let name = link_type_name(link_type);
+                write!(
+                    f,
+                    "the link type of an interface is {link_type}{name} instead of 253 (NETLINK)"
+                )
+            }
+            PcapFault::Interface(id, count) => {
+                write!(f, "a packet of interface {id} in a section with {count}")
+            }
+            PcapFault::PacketOver(captured, room) => {
+                write!(
+                    f,
+                    "a block has room for {room} of the {captured} bytes of a packet"
+                )
+            }
+            PcapFault::BlockCut(length, size) => {
+                write!(f, "a block is cut to {size} of {length} bytes")
+            }
+            PcapFault::BlockEnds(length, end) => write!(
+                f,
+                "the length of a block is {length} at its start and {end} at its end"
+            ),
         }
     }
 }
@@ -173,7 +229,7 @@ pub fn layout_of(first: &[u8]) -> Layout
     }
     let magic = u32_at(first, 0);
     if magic == PCAPNG {
-        return unread(0, PcapFault::Pcapng);
+        return Layout::Blocks;
     }
     match order_of(magic) {
         Some(order) => pcap_layout(order, first),

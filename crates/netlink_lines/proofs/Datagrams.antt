@@ -5,12 +5,12 @@ use Rattle.std.specs.Io.KnownBytes.{prepend_known}
 use Rattle.std.specs.Prelude.{Bool, true, false, ◌||◌}
 use Rattle.netlink_lines.specs.Format.{told_from}
 use Rattle.netlink_lines.specs.Messages.{Check, Lines, Memory, Seen, good}
-use Rattle.netlink_lines.specs.Packet.{HasContent, IsCut, IsDatagram, IsTornBy, TellsDatagram, TellsPacket, TellsShown, TellsTorn, content_lines, content_of, is_route, stop_lines, with_line}
+use Rattle.netlink_lines.specs.Packet.{HasContent, IsCut, IsDatagram, IsTornBy, TellsDatagram, TellsExtent, TellsShown, TellsTorn, content_lines, content_of, is_route, stop_lines, with_line}
 use Rattle.netlink_lines.specs.Run.{EndsOver}
 use Rattle.netlink_lines.specs.Stream.{ShowsMessages, messages_of}
 use Rattle.netlink_lines.specs.declared.packet.Content.{Content}
 use Rattle.netlink_lines.specs.declared.packet.Content.TheVariants as content
-use Rattle.netlink_input.specs.declared.pcap.Order.{Order}
+use Rattle.netlink_input.specs.declared.packet.Extent.{Extent}
 use Rattle.netlink_input.specs.declared.fault.Fault.{Fault}
 use Rattle.netlink_lines.specs.declared.runs.Outcome.{Outcome}
 use Rattle.netlink_input.specs.declared.stream.Stop.{Stop}
@@ -60,15 +60,15 @@ datagram_ends check cut memory after at first bytes left old new text malformed 
 
 -- ---- a packet
 
-pub packet_tells : (check : Check) (order : Order) (at : ℕ) (packet bytes : List ℕ) (memory after : Memory) (lines : List ℕ)
-    (what : Content) (r : Result Bool Fault) → what ≡ content_of order packet → what ≡ content.Messages
-    → bytes ≡ drop 32 packet → IfOk r (λ malformed. TellsDatagram check false (at + 32) bytes memory (lines, malformed) after)
-    → IfOk r (λ malformed. TellsPacket check order at packet memory (lines, malformed) after)
-packet_tells check order at packet bytes memory after lines what (Err e) has is same tells = tt
-packet_tells check order at packet bytes memory after lines what (Ok malformed) has is same (shown, shows, said, leaves) =
-    let datagram : IsDatagram false (at + 32) (drop 32 packet) shown =
-    subst (λ (l : List ℕ). IsDatagram false (at + 32) l shown) same shows in
-    (shown, subst (λ (w : Content). HasContent at packet w shown) (sym is ∙ has) datagram, said, leaves)
+pub packet_tells : (check : Check) (extent : Extent) (at : ℕ) (packet bytes : List ℕ) (memory after : Memory) (lines : List ℕ)
+    (what : Content) (r : Result Bool Fault) → what ≡ content_of extent packet → what ≡ content.Messages
+    → bytes ≡ drop (extent.from + 16) packet → IfOk r (λ malformed. TellsDatagram check false (at + (extent.from + 16)) bytes memory (lines, malformed) after)
+    → IfOk r (λ malformed. TellsExtent check extent at packet memory (lines, malformed) after)
+packet_tells check extent at packet bytes memory after lines what (Err e) has is same tells = tt
+packet_tells check extent at packet bytes memory after lines what (Ok malformed) has is same (shown, shows, said, leaves) =
+    let datagram : IsDatagram false (at + (extent.from + 16)) (drop (extent.from + 16) packet) shown =
+    subst (λ (l : List ℕ). IsDatagram false (at + (extent.from + 16)) l shown) same shows in
+    (shown, subst (λ (w : Content). HasContent at (extent.from + 16) packet w shown) (sym is ∙ has) datagram, said, leaves)
 
 -- the line about the cut follows
 with_cut : (check : Check) (memory after : Memory) (at : ℕ) (bytes lines text : List ℕ) (malformed : Bool) (line : Lines)
@@ -87,23 +87,23 @@ with_cut check memory after at bytes lines text malformed line (part, is, said, 
       leaves,
     )
 
-pub cut_tells : (check : Check) (order : Order) (at : ℕ) (packet bytes : List ℕ) (memory after : Memory) (lines text more : List ℕ)
-    (malformed other : Bool) (n m : ℕ) (what : Content) → what ≡ content_of order packet → what ≡ content.CutMessages n m
-    → bytes ≡ drop 32 packet → TellsDatagram check true (at + 32) bytes memory (lines, malformed) after
-    → ◌≡◌ {A = Lines} (more, other) (content_lines at (length packet - 32) (content.Cut n m)) → text ≡ lines ++ more
-    → TellsPacket check order at packet memory (text, true) after
-cut_tells check order at packet bytes memory after lines text more malformed other n m what has is same tells line all =
-    let cut : Lines = content_lines at (length packet - 32) (content.Cut n m) in
-    let datagram : TellsDatagram check true (at + 32) (drop 32 packet) memory (lines, malformed) after =
-    subst (λ (l : List ℕ). TellsDatagram check true (at + 32) l memory (lines, malformed) after) same tells in
-    subst (λ (w : Content). TellsShown check (HasContent at packet w) memory (text, true) after) (sym is ∙ has)
-    (with_cut check memory after (at + 32) (drop 32 packet) lines text malformed cut datagram
+pub cut_tells : (check : Check) (extent : Extent) (at : ℕ) (packet bytes : List ℕ) (memory after : Memory) (lines text more : List ℕ)
+    (malformed other : Bool) (n m : ℕ) (what : Content) → what ≡ content_of extent packet → what ≡ content.CutMessages n m
+    → bytes ≡ drop (extent.from + 16) packet → TellsDatagram check true (at + (extent.from + 16)) bytes memory (lines, malformed) after
+    → ◌≡◌ {A = Lines} (more, other) (content_lines at (length packet - (extent.from + 16)) (content.Cut n m)) → text ≡ lines ++ more
+    → TellsExtent check extent at packet memory (text, true) after
+cut_tells check extent at packet bytes memory after lines text more malformed other n m what has is same tells line all =
+    let cut : Lines = content_lines at (length packet - (extent.from + 16)) (content.Cut n m) in
+    let datagram : TellsDatagram check true (at + (extent.from + 16)) (drop (extent.from + 16) packet) memory (lines, malformed) after =
+    subst (λ (l : List ℕ). TellsDatagram check true (at + (extent.from + 16)) l memory (lines, malformed) after) same tells in
+    subst (λ (w : Content). TellsShown check (HasContent at (extent.from + 16) packet w) memory (text, true) after) (sym is ∙ has)
+    (with_cut check memory after (at + (extent.from + 16)) (drop (extent.from + 16) packet) lines text malformed cut datagram
     (all ∙ ap (λ (l : Lines). lines ++ l.0) line) refl)
 
 -- ---- a packet that the end of the file cuts
 
 pub torn_tells : (check : Check) (at : ℕ) (packet bytes : List ℕ) (memory after : Memory) (lines : List ℕ) (r : Result Bool Fault)
-    → is_route packet ≡ true → bytes ≡ drop 32 packet
+    → is_route 16 packet ≡ true → bytes ≡ drop 32 packet
     → IfOk r (λ malformed. TellsDatagram check true (at + 32) bytes memory (lines, malformed) after)
     → IfOk r (λ malformed. TellsTorn check at packet memory (lines, malformed) after)
 torn_tells check at packet bytes memory after lines (Err e) is same tells = tt
@@ -112,7 +112,7 @@ torn_tells check at packet bytes memory after lines (Ok malformed) is same (show
     subst (λ (l : List ℕ). IsDatagram true (at + 32) l shown) same shows in
     (shown, subst (λ (b : Bool). IsTornBy b at packet shown) (sym is) datagram, said, leaves)
 
-pub nothing_torn : (check : Check) (at : ℕ) (packet : List ℕ) (memory : Memory) (lines : List ℕ) → is_route packet ≡ false
+pub nothing_torn : (check : Check) (at : ℕ) (packet : List ℕ) (memory : Memory) (lines : List ℕ) → is_route 16 packet ≡ false
     → lines ≡ [] → TellsTorn check at packet memory (lines, false) memory
 nothing_torn check at packet memory lines is none = (
   record { seen = []; own = good [] },
@@ -123,25 +123,25 @@ nothing_torn check at packet memory lines is none = (
 
 -- ---- any other packet
 
-own_line : (at : ℕ) (packet : List ℕ) (what : Content) → (what ≡ content.Messages → ⊥)
+own_line : (at before : ℕ) (packet : List ℕ) (what : Content) → (what ≡ content.Messages → ⊥)
     → ((n m : ℕ) → what ≡ content.CutMessages n m → ⊥)
-    → HasContent at packet what (record { seen = []; own = content_lines at (length packet - 32) what })
-own_line at packet content.Messages not none = absurd (not refl)
-own_line at packet (content.CutMessages n m) not none = absurd (none n m refl)
-own_line at packet (content.Family n) not none = (refl, refl)
-own_line at packet (content.Cut n m) not none = (refl, refl)
-own_line at packet (content.Short n) not none = (refl, refl)
-own_line at packet (content.Device n) not none = (refl, refl)
+    → HasContent at before packet what (record { seen = []; own = content_lines at (length packet - before) what })
+own_line at before packet content.Messages not none = absurd (not refl)
+own_line at before packet (content.CutMessages n m) not none = absurd (none n m refl)
+own_line at before packet (content.Family n) not none = (refl, refl)
+own_line at before packet (content.Cut n m) not none = (refl, refl)
+own_line at before packet (content.Short n) not none = (refl, refl)
+own_line at before packet (content.Device n) not none = (refl, refl)
 
-pub other_tells : (check : Check) (order : Order) (at : ℕ) (packet : List ℕ) (memory : Memory) (lines text : List ℕ) (malformed : Bool)
-    (what : Content) → what ≡ content_of order packet → (what ≡ content.Messages → ⊥)
+pub other_tells : (check : Check) (extent : Extent) (at : ℕ) (packet : List ℕ) (memory : Memory) (lines text : List ℕ) (malformed : Bool)
+    (what : Content) → what ≡ content_of extent packet → (what ≡ content.Messages → ⊥)
     → ((n m : ℕ) → what ≡ content.CutMessages n m → ⊥) → lines ≡ text
-    → ◌≡◌ {A = Lines} (text, malformed) (content_lines at (length packet - 32) what)
-    → TellsPacket check order at packet memory (lines, malformed) memory
-other_tells check order at packet memory lines text malformed what has not none same is = (
-  record { seen = []; own = content_lines at (length packet - 32) what },
-  subst (λ (w : Content). HasContent at packet w (record { seen = []; own = content_lines at (length packet - 32) what })) has
-      (own_line at packet what not none),
-  subst (λ (l : List ℕ). ◌≡◌ {A = Lines} (l, malformed) (content_lines at (length packet - 32) what)) (sym same) is,
+    → ◌≡◌ {A = Lines} (text, malformed) (content_lines at (length packet - (extent.from + 16)) what)
+    → TellsExtent check extent at packet memory (lines, malformed) memory
+other_tells check extent at packet memory lines text malformed what has not none same is = (
+  record { seen = []; own = content_lines at (length packet - (extent.from + 16)) what },
+  subst (λ (w : Content). HasContent at (extent.from + 16) packet w (record { seen = []; own = content_lines at (length packet - (extent.from + 16)) what })) has
+      (own_line at (extent.from + 16) packet what not none),
+  subst (λ (l : List ℕ). ◌≡◌ {A = Lines} (l, malformed) (content_lines at (length packet - (extent.from + 16)) what)) (sym same) is,
   refl,
 )

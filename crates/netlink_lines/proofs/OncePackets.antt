@@ -4,8 +4,8 @@ use Rattle.std.proofs.lemmas.List.{append_cancel_left, take_at}
 use Rattle.std.specs.Prelude.{Bool, true, false}
 use Rattle.netlink_packet_core.specs.Walks.{StepLaws, walks_once}
 use Rattle.netlink_lines.specs.Messages.{Lines, Seen}
-use Rattle.netlink_lines.specs.Packet.{HasContent, HasTorn, IsDatagram, IsTornBy, Packet, ShowsPackets, StartsPacket, content_lines, content_of, from_stop, is_route, stop_lines, torn_by, with_line}
-use Rattle.netlink_input.specs.Packet.{IsPacketCause, IsPacketFault, IsPacketStop, IsWholePacket, captured_of}
+use Rattle.netlink_lines.specs.Packet.{HasContent, HasExtent, HasTorn, IsDatagram, IsTornBy, Packet, ShowsPackets, StartsPacket, content_lines, content_of, from_stop, is_route, stop_lines, torn_by, with_line}
+use Rattle.netlink_input.specs.Packet.{IsPacketCause, IsPacketFault, IsPacketStop, IsWholePacket, captured_of, extent_of}
 use Rattle.netlink_lines.specs.declared.packet.Content.{Content}
 use Rattle.netlink_lines.specs.declared.packet.Content.TheVariants as content
 use Rattle.netlink_input.specs.declared.pcap.Order.{Order}
@@ -31,17 +31,17 @@ datagram_once cut at bytes a b (stop, shows, is) (other, also, that) =
 other_once : (a b : Packet) (line : Lines) → (a.seen ≡ []) × (a.own ≡ line) → (b.seen ≡ []) × (b.own ≡ line) → a ≡ b
 other_once a b line (none, is) (nothing, that) = shown_once a b (none ∙ sym nothing) (is ∙ sym that)
 
-content_once : (at : ℕ) (packet : List ℕ) (what : Content) (a b : Packet) → HasContent at packet what a
-    → HasContent at packet what b → a ≡ b
-content_once at packet content.Messages a b first second =
-    datagram_once false (at + 32) (drop 32 packet) a b first second
-content_once at packet (content.CutMessages n m) a b (part, is, whole) (other, that, also) =
-    whole ∙ ap (with_line (content_lines at (length packet - 32) (content.Cut n m))) (datagram_once true (at + 32) (drop 32 packet) part other is that)
+pub content_once : (at before : ℕ) (packet : List ℕ) (what : Content) (a b : Packet) → HasContent at before packet what a
+    → HasContent at before packet what b → a ≡ b
+content_once at before packet content.Messages a b first second =
+    datagram_once false (at + before) (drop before packet) a b first second
+content_once at before packet (content.CutMessages n m) a b (part, is, whole) (other, that, also) =
+    whole ∙ ap (with_line (content_lines at (length packet - before) (content.Cut n m))) (datagram_once true (at + before) (drop before packet) part other is that)
     ∙ sym also
-content_once at packet (content.Family n) a b first second = other_once a b _ first second
-content_once at packet (content.Cut n m) a b first second = other_once a b _ first second
-content_once at packet (content.Short n) a b first second = other_once a b _ first second
-content_once at packet (content.Device n) a b first second = other_once a b _ first second
+content_once at before packet (content.Family n) a b first second = other_once a b _ first second
+content_once at before packet (content.Cut n m) a b first second = other_once a b _ first second
+content_once at before packet (content.Short n) a b first second = other_once a b _ first second
+content_once at before packet (content.Device n) a b first second = other_once a b _ first second
 
 -- ---- bytes start with one packet
 
@@ -64,8 +64,8 @@ packet_once : (order : Order) (end : ℕ) (bytes : List ℕ) (a b : Packet) (res
     → StartsPacket order end bytes a rest → StartsPacket order end bytes b other → (a ≡ b) × (rest ≡ other)
 packet_once order end bytes a b rest other first second =
     let same = packet_same order bytes first.packet second.packet rest other first.size second.size first.whole second.whole in (
-      content_once (end - length bytes) second.packet (content_of order second.packet) a b
-          (subst (λ (p : List ℕ). HasContent (end - length bytes) p (content_of order p) a) same.0 first.content) second.content,
+      content_once (end - length bytes) 32 second.packet (content_of (extent_of order second.packet) second.packet) a b
+          (subst (λ (p : List ℕ). HasExtent (end - length bytes) (extent_of order p) p a) same.0 first.content) second.content,
       same.1,
     )
 
@@ -140,7 +140,7 @@ pub parts_once : (end : ℕ) (bytes : List ℕ) (stop : Stop) (last more : List 
     → HasTorn end bytes stop more → last ≡ more
 parts_once end bytes stop last more (s, is, torn) (t, that, also) =
     let left : List ℕ = torn_by stop.cause (from_stop (end - length bytes) bytes stop) in
-    is ∙ ap (λ (p : Packet). p ∷ []) (torn_once (is_route left) stop.at left s t torn also) ∙ sym that
+    is ∙ ap (λ (p : Packet). p ∷ []) (torn_once (is_route 16 left) stop.at left s t torn also) ∙ sym that
 
 -- ---- bytes show one list
 

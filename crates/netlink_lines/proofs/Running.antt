@@ -41,7 +41,7 @@ pub record Kept {A : Type 0} (f : Format A) (memory : Memory) (base : ℕ) (old 
 pub record IsShown {A : Type 0} (f : Format A) (now left : Option (List ℕ)) (at : ℕ) (bytes : List ℕ) (missing : ℕ) (state : Memory) (lines : Lines) (after : Memory) : Type 0 where
   pub took : Consumes now left bytes
   pub one : A
-  pub is : IsOne f at bytes missing one
+  pub is : IsOne f now at bytes missing one
   pub tells : lines ≡ f.lines state one
   pub leaves : after ≡ f.leaves state one
 
@@ -55,7 +55,7 @@ frame_shown check now left at frame view next state lines after gives is same te
     record {
       took = took;
       one = record { at = at; frame = frame; words = words };
-      is = is_message check at frame words whole most has;
+      is = is_message check now at frame words whole most has;
       tells = said;
       leaves = leaves;
     }
@@ -70,7 +70,7 @@ packet_shown check order now left at packet view next state lines after gives is
     record {
       took = took;
       one = shown;
-      is = is_packet check order at packet shown whole most has;
+      is = is_packet check order now at packet shown whole most has;
       tells = said;
       leaves = leaves;
     }
@@ -132,7 +132,7 @@ abbrev pub Ended : {A : Type 0} → Format A → Memory → ℕ → Option (List
 Ended f memory base old left start end after result =
     IfSome old (λ input. RunsOver f memory (base + length input) input left start end after result)
 
-runs : {A : Type 0} (f : Format A) (memory : Memory) (base : ℕ) (old left start end : Option (List ℕ)) (done : List A)
+pub runs : {A : Type 0} (f : Format A) (memory : Memory) (base : ℕ) (old left start end : Option (List ℕ)) (done : List A)
     (after : Memory) (result : Result ⊤ Fault)
     → IfSome old (λ input. Reads f (base + length input) input left done (told_from f memory done).malformed result)
     → Writes start end (told_from f memory done).text result → Leaves (told_from f memory done).memory after result

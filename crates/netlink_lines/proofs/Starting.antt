@@ -1,10 +1,12 @@
 -- How a run starts, by the first bytes of its input, and how it goes on.
-use Rattle.std.proofs.Common.{◌≡◌, ◌≤◌, ◌<◌, ◌+◌, ◌-◌, ◌++◌, ◌∙◌, refl, ap, arith, sym, subst, ℕ, List, [], Option, Some, None, IfSome, Result, Err, drop, length, append-nil, length-append, length-drop, length-take, inl, inr}
+use Rattle.std.proofs.Common.{◌≡◌, ◌≤◌, ◌<◌, ◌+◌, ◌-◌, ◌++◌, ◌∙◌, refl, ap, arith, sym, subst, ℕ, List, [], Option, Some, None, IfSome, Result, Err, drop, take, length, append-nil, length-append, length-drop, length-take, inl, inr}
 use Rattle.std.proofs.KnownBytes.{Appends-nil}
 use Rattle.std.proofs.lemmas.Bool.{cases_lt}
 use Rattle.std.proofs.lemmas.List.{drop_at}
 use Rattle.std.specs.Io.KnownBytes.{prepend_known}
 use Rattle.std.specs.Prelude.{Bool, true, false, ⊤, if◌then◌else◌, ◌⊎◌}
+use Rattle.netlink_input.specs.BlockLaws.{block_head, head_least}
+use Rattle.netlink_lines.specs.Blocks.{blocks_of}
 use Rattle.netlink_lines.specs.Messages.{Check, Memory, no_memory}
 use Rattle.netlink_lines.specs.Packet.{packets_of}
 use Rattle.netlink_input.specs.Pcap.{is_pcap, layout_of}
@@ -13,12 +15,12 @@ use Rattle.netlink_lines.specs.Run.{RunsIn, RunsOver, RunsWith}
 use Rattle.netlink_lines.specs.Stream.{messages_of}
 use Rattle.netlink_lines.specs.declared.options.Options.{Options}
 use Rattle.netlink_input.specs.declared.pcap.Layout.{Layout}
-use Rattle.netlink_input.specs.declared.pcap.Layout.TheVariants.{Messages, Packets, Unread}
+use Rattle.netlink_input.specs.declared.pcap.Layout.TheVariants.{Blocks, Messages, Packets, Unread}
 use Rattle.netlink_input.specs.declared.pcap.Order.{Order}
 use Rattle.netlink_input.specs.declared.fault.Fault.{Fault}
 use Rattle.netlink_input.specs.declared.fault.Fault.TheVariants as fault
 use Rattle.netlink_input.specs.declared.stream.Stop.{Stop}
-use Rattle.netlink_input.specs.LayoutLaws.{layout_in, messages_magic, packets_size, pcap_in}
+use Rattle.netlink_input.specs.LayoutLaws.{blocks_magic, layout_in, messages_magic, packets_size, pcap_in}
 
 -- ---- what they tell
 
@@ -77,6 +79,27 @@ runs_packets check options order (Some xs) (Some ys) left start end first memory
     (subst (λ (l : List ℕ). RunsOver (packets_of check order) memory (24 + length ys) l left start end after result) (sym rest) runs)) in
     subst (λ (layout : Layout). RunsIn check options layout xs left start end result) (sym same) (after, whole)
 
+pub runs_blocks : (check : Check) (options : Options) (old middle left start end : Option (List ℕ)) (first : List ℕ) (memory after : Memory)
+    (result : Result ⊤ Fault) → Starts old middle first → layout_of first ≡ Blocks → memory ≡ no_memory options
+    → IfSome (prepend_known first middle) (λ bytes. RunsOver (blocks_of check bytes) memory (length bytes) bytes left start end after result)
+    → IfSome old (λ input. RunsWith check options input left start end result)
+runs_blocks check options None middle left start end first memory after result starts is none runs = tt
+runs_blocks check options (Some xs) None left start end first memory after result (took, few, all) is none runs = absurd took
+runs_blocks check options (Some xs) (Some ys) left start end first memory after result (took, few, all) is none runs =
+    let same : layout_of xs ≡ Blocks = ap layout_of took ∙ layout_first first ys all ∙ is in
+    let whole : RunsOver (blocks_of check xs) (no_memory options) (length xs) xs left start end after result =
+    subst (λ (m : Memory). RunsOver (blocks_of check xs) m (length xs) xs left start end after result) none
+    (subst (λ (l : List ℕ). RunsOver (blocks_of check l) memory (length l) l left start end after result) (sym took) runs) in
+    subst (λ (layout : Layout). RunsIn check options layout xs left start end result) (sym same) (after, whole)
+
+-- no more than 4 bytes were read
+pub few_first : (old middle : Option (List ℕ)) (first : List ℕ) → Starts old middle first → layout_of first ≡ Blocks → length first < 8
+few_first old middle first (took, few, all) is =
+    elim (cases_lt (length first) 4) [
+      | inl short ↦ omega (arith, short)
+      | inr long ↦ omega (arith, few, start_of first false (blocks_magic first is long))
+    ]
+
 pub runs_unread : (check : Check) (options : Options) (why : Stop) (old middle left start : Option (List ℕ)) (first : List ℕ) → Starts old middle first
     → layout_of first ≡ Unread why → IfSome old (λ input. RunsWith {R = ⊤} check options input left start start (Err (fault.Stopped why)))
 runs_unread check options why None middle left start first starts is = tt
@@ -91,6 +114,7 @@ no_memory_in : (check : Check) (options : Options) (layout : Layout) (input : Li
     → RunsIn {R = ⊤} check options layout input left start start (Err fault.OutOfMemory)
 no_memory_in check options Messages input left start = (no_memory options, ([], inl (input, refl), Appends-nil start, tt))
 no_memory_in check options (Packets order) input left start = (no_memory options, ([], inl (drop 24 input, refl), Appends-nil start, tt))
+no_memory_in check options Blocks input left start = (no_memory options, ([], inl (input, refl), Appends-nil start, tt))
 no_memory_in check options (Unread why) input left start = (tt, Appends-nil start)
 
 pub starts_without_memory : (check : Check) (options : Options) (old left start : Option (List ℕ))
@@ -111,6 +135,19 @@ few_given xs ys front is short messages =
           )
     ]
 
+-- nor of blocks
+few_of_blocks : (xs ys front : List ℕ) → xs ≡ front ++ ys → length front < start_size front → layout_of xs ≡ Blocks
+    → length front < 4
+few_of_blocks xs ys front is short blocks =
+    elim (cases_lt (length front) 4) [
+      | inl few ↦ few
+      | inr long ↦ (
+          let whole : 4 ≤ length xs = omega (arith, long, ap length is, length-append front ys) in
+          let magic : is_pcap front ≡ false = sym (pcap_in front ys long) ∙ ap is_pcap (sym is) ∙ blocks_magic xs blocks whole in
+          omega (arith, short, start_of front false magic)
+          )
+    ]
+
 no_input_in : (check : Check) (options : Options) (layout : Layout) (xs ys front : List ℕ) (start : Option (List ℕ)) → xs ≡ front ++ ys
     → length front < start_size front → layout_of xs ≡ layout
     → RunsIn {R = ⊤} check options layout xs (Some ys) start start (Err fault.Read)
@@ -126,6 +163,25 @@ no_input_in check options (Packets order) xs ys front start is short same =
     let size = length-take (length rest - length ys) rest in
     let most = start_most (is_pcap front) in
     (no_memory options, ([], (rest, refl, λ holds. omega (arith, short, most, ap length is, long, left, size, holds.0)), Appends-nil start, refl))
+no_input_in check options Blocks xs ys front start is short same =
+    let few = few_of_blocks xs ys front is short same in
+    let long = length-append front ys in
+    let size = length-take (length xs - length ys) xs in (
+      no_memory options,
+      (
+        [],
+        (
+          xs,
+          refl,
+          λ holds. (
+              let some = block_head holds.0 (take (length xs - length ys) xs) holds.2.0 holds.2.1 in
+              omega (arith, few, ap length is, long, size, some, head_least holds.0.order (take (length xs - length ys) xs))
+              ),
+        ),
+        Appends-nil start,
+        refl,
+      ),
+    )
 no_input_in check options (Unread why) xs ys front start is short same = (tt, Appends-nil start)
 
 starts_without_input : (check : Check) (options : Options) (old left start : Option (List ℕ)) → TriesStart old left

@@ -11,8 +11,8 @@ use Rattle.netlink_replies.specs.Meaning.{meaning}
 use Rattle.netlink_lines.specs.Ack.{IsWords}
 use Rattle.netlink_lines.specs.Format.{Format, ShowsAll, StopsAs, tell, told_from, told_nothing}
 use Rattle.netlink_lines.specs.Messages.{Check, Memory, Seen}
-use Rattle.netlink_lines.specs.Packet.{HasContent, IsTorn, Packet, StartsPacket, content_of, packets_of}
-use Rattle.netlink_input.specs.Packet.{IsPacketFault, IsWholePacket, captured_of, torn_of}
+use Rattle.netlink_lines.specs.Packet.{HasExtent, IsTorn, Packet, StartsPacket, packets_of}
+use Rattle.netlink_input.specs.Packet.{IsPacketFault, IsWholePacket, captured_of, extent_of, torn_of}
 use Rattle.netlink_input.specs.Reading.{Skips, SkipsPart}
 use Rattle.netlink_lines.specs.Run.{NoneLost, ShowsFirst}
 use Rattle.netlink_lines.specs.Stream.{messages_of}
@@ -37,15 +37,15 @@ pub passed_nothing : {A : Type 0} (f : Format A) (base : ℕ) (old : Option (Lis
 passed_nothing f base None = tt
 passed_nothing f base (Some input) = (refl, refl)
 
--- bytes at this offset are one of these, with this padding, whatever follows
-abbrev pub IsOne : {A : Type 0} → Format A → ℕ → List ℕ → ℕ → A → Type 0
-IsOne f at bytes missing one =
-    (end : ℕ) (whole after : List ℕ) → whole ≡ bytes ++ after → at ≡ end - length whole
+-- bytes at this offset, which the reader had, are one of these, with this padding, whatever follows
+abbrev pub IsOne : {A : Type 0} → Format A → Option (List ℕ) → ℕ → List ℕ → ℕ → A → Type 0
+IsOne f now at bytes missing one =
+    (end : ℕ) (whole after : List ℕ) → now ≡ Some whole → whole ≡ bytes ++ after → at ≡ end - length whole
     → f.starts end whole one (drop missing after)
 
 pub passes : {A : Type 0} (f : Format A) (base : ℕ) (old now left : Option (List ℕ)) (done : List A) (at : ℕ)
     (bytes : List ℕ) (missing : ℕ) (one : A) → PassedKnown f base old done now 0 at → Consumes now left bytes
-    → IsOne f at bytes missing one → PassedKnown f base old (done ++ (one ∷ [])) left missing (at + length bytes)
+    → IsOne f now at bytes missing one → PassedKnown f base old (done ++ (one ∷ [])) left missing (at + length bytes)
 passes f base None now left done at bytes missing one passed took is = tt
 passes f base (Some input) None left done at bytes missing one passed took is = absurd passed
 passes f base (Some input) (Some rest) None done at bytes missing one passed took is = absurd took
@@ -53,7 +53,7 @@ passes f base (Some input) (Some rest) (Some after) done at bytes missing one (p
     let here : at ≡ base + length input - length rest = omega (arith, place) in
     let long : length rest ≡ length bytes + length after = ap length took ∙ length-append bytes after in (
       passed_push (f.starts (base + length input)) input done rest one (drop missing after) passed
-          (is (base + length input) rest after took here),
+          (is (base + length input) rest after refl took here),
       omega (arith, place, long),
     )
 
@@ -86,22 +86,22 @@ starts_whole bytes frame left is whole =
       ];
     }
 
-pub is_message : (check : Check) (at : ℕ) (frame words : List ℕ) → IsWholeFrame frame
+pub is_message : (check : Check) (now : Option (List ℕ)) (at : ℕ) (frame words : List ℕ) → IsWholeFrame frame
     → length frame ≤ longest → IsWords (meaning frame) words
-    → IsOne (messages_of check) at frame (padding (length frame)) (record { at = at; frame = frame; words = words })
-is_message check at frame words whole most is end bytes after same place =
+    → IsOne (messages_of check) now at frame (padding (length frame)) (record { at = at; frame = frame; words = words })
+is_message check now at frame words whole most is end bytes after known same place =
     record { starts = starts_whole bytes frame after same whole; most = most; place = place; words = is }
 
 -- a packet has no padding
-pub is_packet : (check : Check) (order : Order) (at : ℕ) (packet : List ℕ) (shown : Packet) → IsWholePacket order packet
-    → captured_of order packet ≤ longest → HasContent at packet (content_of order packet) shown
-    → IsOne (packets_of check order) at packet 0 shown
-is_packet check order at packet shown whole most has end bytes after same place = record {
+pub is_packet : (check : Check) (order : Order) (now : Option (List ℕ)) (at : ℕ) (packet : List ℕ) (shown : Packet) → IsWholePacket order packet
+    → captured_of order packet ≤ longest → HasExtent at (extent_of order packet) packet shown
+    → IsOne (packets_of check order) now at packet 0 shown
+is_packet check order now at packet shown whole most has end bytes after known same place = record {
   packet = packet;
   size = whole;
   whole = same;
   most = most;
-  content = subst (λ (n : ℕ). HasContent n packet (content_of order packet) shown) place has;
+  content = subst (λ (n : ℕ). HasExtent n (extent_of order packet) packet shown) place has;
 }
 
 -- ---- what a run showed when it ends
@@ -168,9 +168,14 @@ first_shown f base None now done missing at passed = tt
 first_shown f base (Some input) None done missing at passed = absurd passed
 first_shown f base (Some input) (Some left) done missing at (passed, place) = inl (drop missing left, passed)
 
+-- the bytes of a reader, if they are known
+abbrev pub known : Option (List ℕ) → List ℕ
+known None = []
+known (Some bytes) = bytes
+
 -- the reader gave bytes that hold none: `Tries` and `TriesPacket`
 abbrev pub TriesOne : {A : Type 0} → Format A → Option (List ℕ) → Option (List ℕ) → Type 0
-TriesOne f old new = (front : List ℕ) × Consumes old new front × (f.holds front → ⊥)
+TriesOne f old new = (front : List ℕ) × Consumes old new front × (f.holds (known old) front → ⊥)
 
 pub none_lost : {A : Type 0} (f : Format A) (base : ℕ) (old now new : Option (List ℕ)) (done : List A) (at : ℕ)
     → PassedKnown f base old done now 0 at → TriesOne f now new
@@ -183,7 +188,7 @@ none_lost f base (Some input) (Some rest) (Some left) done at (passed, place) (f
     let read : take (length rest - length left) rest ≡ front =
     ap (λ (l : List ℕ). take (length rest - length left) l) took
     ∙ take_at front left (length rest - length left) (omega (arith, long)) in
-    (rest, passed, λ holds. torn (subst f.holds read holds))
+    (rest, passed, λ holds. torn (subst (f.holds rest) read holds))
 
 -- the reader failed in the padding after a frame
 pub none_lost_between : (check : Check) (base : ℕ) (old now new : Option (List ℕ)) (done : List Seen) (missing at : ℕ)

@@ -13,8 +13,8 @@ pub record Format (A : Type 0) : Type 1 where
   pub stops : ℕ → List ℕ → Stop → Type 0
   -- of bytes that end at this offset and stop here, these are shown after the whole ones
   pub parts : ℕ → List ℕ → Stop → List A → Type 0
-  -- bytes hold a whole one at their start
-  pub holds : List ℕ → Type 0
+  -- of bytes that end the input, these first ones hold a whole one
+  pub holds : List ℕ → List ℕ → Type 0
   -- its lines, after those that left this memory
   pub lines : Memory → A → Lines
   -- what it leaves

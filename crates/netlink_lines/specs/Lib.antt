@@ -1,4 +1,5 @@
 pub mod Ack
+pub mod Blocks
 pub mod Bytes
 pub mod Check
 pub mod Concern

@@ -1,4 +1,4 @@
--- The packets of a pcap file, and how each is shown. The header of a packet has 16 bytes: its time in 8,
+-- The packets of a pcap file, and how each packet is shown. The header of a packet has 16 bytes: its time in 8,
 -- the number of bytes that were captured, and the number of bytes that it had. In the captured bytes, a
 -- header of 16 comes first (LINKTYPE_NETLINK), whose numbers are big-endian: the type of the packet in 2
 -- bytes, the device type (ARPHRD_NETLINK, 824) in 2, 10 that are not used, and the netlink family in 2.
@@ -9,33 +9,37 @@ use Rattle.netlink_packet_core.specs.Header.{field}
 use Rattle.netlink_packet_core.specs.Walks.{WalksAs}
 use Rattle.netlink_lines.specs.Format.{Format, told_from}
 use Rattle.netlink_lines.specs.Messages.{Check, Lines, Memory, Seen, bad, good}
-use Rattle.netlink_input.specs.Packet.{HoldsPacket, IsPacketStop, IsWholePacket, captured_of, original_of, torn_of}
+use Rattle.netlink_input.specs.Packet.{HoldsPacket, IsPacketStop, IsWholePacket, captured_of, extent_of, torn_of}
 use Rattle.netlink_input.specs.Pcap.{number_in}
 use Rattle.netlink_lines.specs.Stream.{ShowsMessages, messages_of}
 use Rattle.netlink_input.specs.Stream.{longest, stop_text}
 use Rattle.netlink_lines.specs.declared.packet.Content.{Content}
 use Rattle.netlink_lines.specs.declared.packet.Content.TheVariants.{Messages, Family, CutMessages, Cut, Short, Device}
+use Rattle.netlink_input.specs.declared.packet.Extent.{Extent}
 use Rattle.netlink_input.specs.declared.pcap.Order.{Order}
 use Rattle.netlink_input.specs.declared.pcap.Order.TheVariants.{Big}
 use Rattle.netlink_input.specs.declared.stream.Cause.{Cause}
 use Rattle.netlink_input.specs.declared.stream.Cause.TheVariants.{Pcap}
 use Rattle.netlink_input.specs.declared.stream.Stop.{Stop}
 
--- a packet, or what there is of it, has the header of a datagram of route netlink
-abbrev pub is_route : List ℕ → Bool
-is_route packet =
-    nat_le 32 (length packet) && (number_in Big 18 2 packet == 824 && number_in Big 30 2 packet == 0)
+-- the captured bytes of a packet, or what there is of them, which starts at this offset, have the header of a
+-- datagram of route netlink
+abbrev pub is_route : ℕ → List ℕ → Bool
+is_route from packet =
+    nat_le (from + 16) (length packet)
+    && (number_in Big (from + 2) 2 packet == 824 && number_in Big (from + 14) 2 packet == 0)
 
--- what a packet is; the first of these that holds
-abbrev pub content_of : Order → List ℕ → Content
-content_of order packet =
-    if nat_lt (captured_of order packet) (original_of order packet) then
-    (if is_route packet then CutMessages (captured_of order packet) (original_of order packet)
-    else Cut (captured_of order packet) (original_of order packet))
-    else if nat_lt (captured_of order packet) 16 then Short (captured_of order packet)
-    else if number_in Big 18 2 packet == 824 then
-    (if number_in Big 30 2 packet == 0 then Messages else Family (number_in Big 30 2 packet))
-    else Device (number_in Big 18 2 packet)
+-- what a packet is, by the bytes of it that there are; the first of these that holds
+abbrev pub content_of : Extent → List ℕ → Content
+content_of extent packet =
+    if nat_lt extent.captured extent.original then
+    (if is_route extent.from packet then CutMessages extent.captured extent.original
+    else Cut extent.captured extent.original)
+    else if nat_lt extent.captured 16 then Short extent.captured
+    else if number_in Big (extent.from + 2) 2 packet == 824 then
+    (if number_in Big (extent.from + 14) 2 packet == 0 then Messages
+    else Family (number_in Big (extent.from + 14) 2 packet))
+    else Device (number_in Big (extent.from + 2) 2 packet)
 
 -- why a packet has no datagram
 abbrev pub content_text : Content → List ℕ
@@ -100,13 +104,18 @@ with_line line shown =
 abbrev pub IsCut : ℕ → List ℕ → Lines → Packet → Type 0
 IsCut at bytes line shown = (part : Packet) × IsDatagram true at bytes part × (shown ≡ with_line line part)
 
--- a packet, whose header is at this offset of the input, is shown so, by what it is
-abbrev pub HasContent : ℕ → List ℕ → Content → Packet → Type 0
-HasContent at packet Messages shown = IsDatagram false (at + 32) (drop 32 packet) shown
-HasContent at packet (CutMessages captured original) shown =
-    IsCut (at + 32) (drop 32 packet) (content_lines at (length packet - 32) (Cut captured original)) shown
-HasContent at packet other shown =
-    (shown.seen ≡ []) × (shown.own ≡ content_lines at (length packet - 32) other)
+-- a packet, which starts at this offset of the input with this number of bytes before its datagram, is shown so, by
+-- what it is
+abbrev pub HasContent : ℕ → ℕ → List ℕ → Content → Packet → Type 0
+HasContent at before packet Messages shown = IsDatagram false (at + before) (drop before packet) shown
+HasContent at before packet (CutMessages captured original) shown =
+    IsCut (at + before) (drop before packet) (content_lines at (length packet - before) (Cut captured original)) shown
+HasContent at before packet other shown =
+    (shown.seen ≡ []) × (shown.own ≡ content_lines at (length packet - before) other)
+
+-- a packet of which there are these bytes
+abbrev pub HasExtent : ℕ → Extent → List ℕ → Packet → Type 0
+HasExtent at extent packet shown = HasContent at (extent.from + 16) packet (content_of extent packet) shown
 
 -- its lines, by what the packets before it leave
 abbrev pub packet_lines : Check → Memory → Packet → Lines
@@ -129,9 +138,13 @@ TellsShown check Is memory lines after =
 abbrev pub TellsDatagram : Check → Bool → ℕ → List ℕ → Memory → Lines → Memory → Type 0
 TellsDatagram check cut at bytes = TellsShown check (IsDatagram cut at bytes)
 
--- a packet, whose header is at this offset of the input
+-- a packet, which starts at this offset of the input
+abbrev pub TellsExtent : Check → Extent → ℕ → List ℕ → Memory → Lines → Memory → Type 0
+TellsExtent check extent at packet = TellsShown check (HasExtent at extent packet)
+
+-- a packet of a pcap file, whose header is at this offset of the input
 abbrev pub TellsPacket : Check → Order → ℕ → List ℕ → Memory → Lines → Memory → Type 0
-TellsPacket check order at packet = TellsShown check (HasContent at packet (content_of order packet))
+TellsPacket check order at packet = TellsExtent check (extent_of order packet) at packet
 
 -- ---- the packets of a file
 
@@ -141,7 +154,7 @@ pub record StartsPacket (order : Order) (end : ℕ) (bytes : List ℕ) (shown : 
   pub size : IsWholePacket order packet
   pub whole : bytes ≡ packet ++ rest
   pub most : captured_of order packet ≤ longest
-  pub content : HasContent (end - length bytes) packet (content_of order packet) shown
+  pub content : HasExtent (end - length bytes) (extent_of order packet) packet shown
 
 -- ---- a packet that the end of the file cuts
 
@@ -156,7 +169,7 @@ IsTornBy true at bytes shown = IsDatagram true (at + 32) (drop 32 bytes) shown
 IsTornBy false at bytes shown = shown ≡ record { seen = []; own = good [] }
 
 abbrev pub IsTorn : ℕ → List ℕ → Packet → Type 0
-IsTorn at bytes = IsTornBy (is_route bytes) at bytes
+IsTorn at bytes = IsTornBy (is_route 16 bytes) at bytes
 
 abbrev pub TellsTorn : Check → ℕ → List ℕ → Memory → Lines → Memory → Type 0
 TellsTorn check at bytes = TellsShown check (IsTorn at bytes)
@@ -173,7 +186,7 @@ packets_of check order = record {
   starts = StartsPacket order;
   stops = IsPacketStop order;
   parts = HasTorn;
-  holds = HoldsPacket order;
+  holds = λ rest. HoldsPacket order;
   lines = packet_lines check;
   leaves = packet_leaves check;
 }

@@ -2,6 +2,7 @@
 use Rattle.std.specs.Prelude.{◌≡◌, ◌≤◌, ◌⊎◌, ℕ, Bool, true, false, ⊤, ◌-◌, List, [], ◌++◌, drop, length, take, Option, None, Some, Result, Ok, Err}
 use Rattle.std.specs.Io.KnownBytes.{Appends}
 use Rattle.netlink_packet_core.specs.Walks.{Passed}
+use Rattle.netlink_lines.specs.Blocks.{blocks_of}
 use Rattle.netlink_lines.specs.Format.{Format, ShowsAll, StopsAs, told_from}
 use Rattle.netlink_lines.specs.Messages.{Check, Lines, Memory, no_memory}
 use Rattle.netlink_lines.specs.Options.{plain}
@@ -9,7 +10,7 @@ use Rattle.netlink_lines.specs.Packet.{TellsTorn, packets_of}
 use Rattle.netlink_input.specs.Pcap.{layout_of}
 use Rattle.netlink_lines.specs.Stream.{messages_of}
 use Rattle.netlink_input.specs.declared.pcap.Layout.{Layout}
-use Rattle.netlink_input.specs.declared.pcap.Layout.TheVariants.{Messages, Packets, Unread}
+use Rattle.netlink_input.specs.declared.pcap.Layout.TheVariants.{Blocks, Messages, Packets, Unread}
 use Rattle.netlink_input.specs.declared.fault.Fault.{Fault}
 use Rattle.netlink_input.specs.declared.fault.Fault.TheVariants as fault
 use Rattle.netlink_lines.specs.declared.options.Options.{Options}
@@ -27,7 +28,7 @@ abbrev pub NoneLost : {A : Type 0} → Format A → ℕ → List ℕ → List A 
 NoneLost f end bytes all None = ⊥
 NoneLost f end bytes all (Some left) =
     (rest : List ℕ) × Passed (f.starts end) bytes all rest
-    × (f.holds (take (length rest - length left) rest) → ⊥)
+    × (f.holds rest (take (length rest - length left) rest) → ⊥)
 
 -- the messages or packets that a run over the bytes showed, by how it ended; what is left in the reader;
 -- and whether one was malformed
@@ -103,6 +104,8 @@ RunsIn check options Messages input left old new result =
     RunsAll (messages_of check) options (length input) input left old new result
 RunsIn check options (Packets order) input left old new result =
     RunsAll (packets_of check order) options (length input) (drop 24 input) left old new result
+RunsIn check options Blocks input left old new result =
+    RunsAll (blocks_of check input) options (length input) input left old new result
 RunsIn check options (Unread why) input left old new result = Rejects why result × Appends old new []
 
 -- what a run over the input did, by what it prints besides the lines

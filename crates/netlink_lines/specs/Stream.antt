@@ -24,7 +24,7 @@ messages_of check = record {
   starts = StartsSeen;
   stops = IsStop;
   parts = λ end bytes stop last. last ≡ [];
-  holds = HoldsFrame;
+  holds = λ rest. HoldsFrame;
   lines = seen_lines check;
   leaves = memory_after check;
 }

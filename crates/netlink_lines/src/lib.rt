@@ -1,5 +1,5 @@
 //! The lines of messages of route netlink (linux/rtnetlink.h), as `ip -o` prints them. `run` writes
-//! those of a stream, or of a pcap file, as each message arrives. `Line::line` returns that of one message, and
+//! those of a stream, or of a pcap or pcapng file, as each message arrives. `Line::line` returns that of one message, and
 //! functions such as `link_text` those of one family.
 //!
 //! The words of the lines are in `netlink_link_lines`, `netlink_address_lines` and `netlink_route_lines`. This crate adds
@@ -29,7 +29,7 @@
 //! | `Failed to parse message with type 16: ..` | `messages::error_shown` | `Messages::error_lines` |
 //! | `.. the payload has 4 bytes instead of 8` | `messages::wrong_time` | `Messages::wrong_time` |
 //!
-//! Of a packet of a pcap file:
+//! Of a packet of a pcap or pcapng file:
 //!
 //! | word of a line | function | definition |
 //! |---|---|---|
@@ -43,6 +43,7 @@
 
 mod ack;
 mod ack_table;
+mod blocks;
 mod bytes;
 mod capture;
 mod concern;

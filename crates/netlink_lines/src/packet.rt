@@ -1,23 +1,23 @@
-//! The packets of a pcap file, and what each is shown as.
+//! The packets of a pcap or pcapng file, and what each is shown as.
 
-ghost use Rattle.std.specs.Prelude.{◌≡◌, ◌<◌, ◌+◌, ◌-◌, ◌++◌, ◌^◌, ◌⊎◌, [], IfErr, IfOk, string_bytes};
+ghost use Rattle.std.specs.Prelude.{◌≡◌, ◌<◌, ◌+◌, ◌++◌, ◌≤◌, ◌^◌, ◌⊎◌, [], IfErr, IfOk, string_bytes};
 ghost use Rattle.netlink_lines.specs.Check.{check_of};
 ghost use Rattle.netlink_lines.specs.Messages.{memory_of};
-ghost use Rattle.netlink_lines.specs.Packet.{TellsDatagram, TellsPacket, TellsTorn, are_zeros, content_lines, content_of, content_text, from_stop, is_partial, is_route, is_silent, stop_lines};
-ghost use Rattle.netlink_input.specs.Packet.{IsWholePacket, torn_of};
+ghost use Rattle.netlink_lines.specs.Packet.{TellsDatagram, TellsExtent, TellsPacket, TellsTorn, are_zeros, content_lines, content_of, content_text, from_stop, is_partial, is_route, is_silent, stop_lines};
+ghost use Rattle.netlink_input.specs.Packet.{IsExtent, IsWholePacket, torn_of};
 
 use crate::line::Line;
 use crate::messages::{Shown, malformed, well_formed};
 use crate::runs::all_messages;
 use crate::state::State;
 use netlink_input::fault::Fault;
-use netlink_input::packet::HEADER_LEN;
-use netlink_input::pcap::{Order, PcapFault, u16_in, u32_in};
+use netlink_input::packet::{Extent, HEADER_LEN, extent_of};
+use netlink_input::pcap::{Order, PcapFault, u16_in};
 use netlink_input::stream::Stop;
 use netlink_packet_core::{NETLINK_HEADER_LEN, u32_at};
 use std::alloc::{AllocError, Global};
 
-/// The offset in bytes of a packet's datagram.
+/// The offset in bytes of a datagram in a packet of a pcap file.
 const DATAGRAM: usize = 32;
 
 /// `ARPHRD_NETLINK` of linux/if_arp.h.
@@ -41,14 +41,14 @@ pub(crate) enum Content {
 }
 
 /// Returns what a packet is.
-fn content_of(order: Order, packet: &[u8]) -> Content
-    requires whole { IsWholePacket order packet.now }
-    ensures { result ≡ content_of order packet.now }
+fn content_of(extent: Extent, packet: &[u8]) -> Content
+    requires extent { IsExtent extent packet.now }
+    ensures { result ≡ content_of extent packet.now }
 {
-    let captured = u32_in(order, packet, 8);
-    let original = u32_in(order, packet, 12);
+    let captured = extent.captured;
+    let original = extent.original;
     if captured < original {
-        if is_route(packet) {
+        if is_route(extent.from, packet) {
             return Content::CutMessages(captured, original);
         }
         return Content::Cut(captured, original);
@@ -56,35 +56,31 @@ fn content_of(order: Order, packet: &[u8]) -> Content
     if (captured as usize) < HEADER_LEN {
         return Content::Short(captured);
     }
-    let device = u16_in(Order::Big, packet, 18);
+    let device = u16_in(Order::Big, packet, extent.from + 2);
     if device != NETLINK_DEVICE {
         return Content::Device(device);
     }
-    match u16_in(Order::Big, packet, 30) {
+    match u16_in(Order::Big, packet, extent.from + 14) {
         0 => Content::Messages,
         family => Content::Family(family),
     }
 }
 
-/// Returns whether a packet, or what there is of it, has the header of a datagram of route netlink.
-fn is_route(packet: &[u8]) -> bool
-    ensures { result ≡ is_route packet.now }
+/// Returns whether the captured bytes of a packet, or what there is of them, which starts at this offset,
+/// have the header of a datagram of route netlink.
+fn is_route(from: usize, packet: &[u8]) -> bool
+    requires few { from ≤ 28 }
+    ensures { result ≡ is_route from packet.now }
 {
-    if packet.len() < DATAGRAM {
+    if packet.len() < from + HEADER_LEN {
         return false;
     }
-    let is_netlink = u16_in(Order::Big, packet, 18) == NETLINK_DEVICE;
-    is_netlink & (u16_in(Order::Big, packet, 30) == 0)
+    let is_netlink = u16_in(Order::Big, packet, from + 2) == NETLINK_DEVICE;
+    is_netlink & (u16_in(Order::Big, packet, from + 14) == 0)
 }
 
-/// Writes the lines of a packet, whose header is at this offset of the input, into a vector, whose
-/// old contents it drops, and returns whether something in the packet is malformed. The messages
-/// before left this state, and it is updated.
-///
-/// The lines of a datagram of route netlink are those of its messages; what ends it before its end is
-/// one more, unless it is zeros, which are padding. If it was cut, the line about that follows. The
-/// line of a datagram of another family is its family and size, and that of any other packet is its
-/// error. Returns `OutOfMemory` if an allocation fails.
+/// Writes the lines of a packet of a pcap file, whose header is at this offset of the input, as
+/// `extent_lines` does.
 pub(crate) fn packet_lines<F: Line>(
     alloc: Global,
     state: &mut State,
@@ -99,22 +95,50 @@ pub(crate) fn packet_lines<F: Line>(
         packet.now (memory_of state.old) (lines.new.items, malformed) (memory_of state.new)) }
     ensures fault { IfErr result (λ fault. fault ≡ Fault.OutOfMemory) }
 {
+    let extent = extent_of(order, packet);
+    extent_lines::<F>(alloc, state, at, extent, packet, lines)
+}
+
+/// Writes the lines of a packet, which starts at this offset of the input, into a vector, whose old
+/// contents it drops, and returns whether something in the packet is malformed. The messages before left
+/// this state, and it is updated.
+///
+/// The lines of a datagram of route netlink are those of its messages; what ends it before its end is
+/// one more, unless it is zeros, which are padding. If it was cut, the line about that follows. The
+/// line of a datagram of another family is its family and size, and that of any other packet is its
+/// error. Returns `OutOfMemory` if an allocation fails.
+pub(crate) fn extent_lines<F: Line>(
+    alloc: Global,
+    state: &mut State,
+    at: u64,
+    extent: Extent,
+    packet: &[u8],
+    lines: &mut Vec<u8>,
+) -> Result<bool, Fault>
+    requires extent { IsExtent extent packet.now }
+    requires room { at + (extent.from + 16) < 2 ^ 64 }
+    ensures tells { IfOk result (λ malformed. TellsExtent (check_of F.Table) extent at
+        packet.now (memory_of state.old) (lines.new.items, malformed) (memory_of state.new)) }
+    ensures fault { IfErr result (λ fault. fault ≡ Fault.OutOfMemory) }
+{
     lines.clear();
-    match content_of(order, packet) {
+    let before = extent.from + HEADER_LEN;
+    let size = packet.len().saturating_sub(before);
+    match content_of(extent, packet) {
         Content::Messages => {
-            let at = at + DATAGRAM as u64;
-            datagram_lines::<F>(alloc, state, false, at, &packet[DATAGRAM..], lines)
+            let start = at + before as u64;
+            datagram_lines::<F>(alloc, state, false, start, &packet[before..], lines)
         }
         Content::CutMessages(captured, original) => {
-            let start = at + DATAGRAM as u64;
-            datagram_lines::<F>(alloc, state, true, start, &packet[DATAGRAM..], lines)?;
+            let start = at + before as u64;
+            datagram_lines::<F>(alloc, state, true, start, &packet[before..], lines)?;
             let cut = Content::Cut(captured, original);
-            let shown = content_lines(alloc, at, packet.len(), cut)?;
+            let shown = content_lines(alloc, at, size, cut)?;
             lines.extend_from_slice(shown.text.as_bytes())?;
             Ok(true)
         }
         other => {
-            let shown = content_lines(alloc, at, packet.len(), other)?;
+            let shown = content_lines(alloc, at, size, other)?;
             lines.extend_from_slice(shown.text.as_bytes())?;
             Ok(shown.is_malformed)
         }
@@ -137,7 +161,7 @@ pub(crate) fn torn_lines<F: Line>(
         packet.now (memory_of state.old) (lines.new.items, malformed) (memory_of state.new)) }
     ensures fault { IfErr result (λ fault. fault ≡ Fault.OutOfMemory) }
 {
-    if !is_route(packet) {
+    if !is_route(HEADER_LEN, packet) {
         return Ok(false);
     }
     let at = at + DATAGRAM as u64;
@@ -247,14 +271,12 @@ fn are_zeros(bytes: &[u8]) -> bool
     bytes.iter().all(|byte| *byte == 0)
 }
 
-/// Returns the line of a packet that is no datagram of route netlink, by the packet's size with its
-/// header.
+/// Returns the line of a packet that is no datagram of route netlink, by the size of its datagram.
 fn content_lines(alloc: Global, at: u64, size: usize, content: Content) -> Result<Shown, AllocError>
-    ensures { IfOk result (λ s. (string_bytes s.text, s.is_malformed) ≡ content_lines at (size - 32) content) }
+    ensures { IfOk result (λ s. (string_bytes s.text, s.is_malformed) ≡ content_lines at size content) }
 {
     match content {
         Content::Family(family) => {
-            let size = size.saturating_sub(DATAGRAM);
             let line = format!(in alloc; "netlink family {family}, {size} bytes\n")?;
             Ok(well_formed(line))
         }

@@ -8,6 +8,7 @@ mod names;
 mod neighbour_lines;
 mod other_lines;
 mod pcap_files;
+mod pcapng_files;
 mod rejected;
 mod requests;
 mod route_lines;

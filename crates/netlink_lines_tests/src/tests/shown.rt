@@ -42,7 +42,10 @@ pub(crate) fn shown(alloc: Global, input: &[u8]) -> (Vec<u8>, Result<(), Fault>)
 pub(crate) fn shown_with_labels(alloc: Global, input: &[u8]) -> (Vec<u8>, Result<(), Fault>) {
     let mut reader = input;
     let mut output = Vec::new(alloc);
-    let labels = Options { labels: true, bytes: false };
+    let labels = Options {
+        labels: true,
+        bytes: false,
+    };
     let ended = run_with::<Joined<RouteTables>, _, _>(alloc, labels, &mut reader, &mut output);
     (output, ended)
 }

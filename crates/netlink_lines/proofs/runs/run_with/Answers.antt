@@ -3,8 +3,8 @@ use Rattle.std.proofs.lemmas.Result.{err_from_is_err_and}
 use Rattle.netlink_lines.specs.Check.{check_of}
 use Rattle.netlink_lines.specs.Messages.{Check, memory_of}
 use Rattle.netlink_input.specs.Pcap.{layout_of}
-use Rattle.netlink_input.specs.declared.pcap.Layout.TheVariants.{Messages, Packets, Unread}
-use Rattle.netlink_lines.proofs.Starting.{no_start, runs_messages, runs_packets, runs_unread, starts_without_memory}
+use Rattle.netlink_input.specs.declared.pcap.Layout.TheVariants.{Blocks, Messages, Packets, Unread}
+use Rattle.netlink_lines.proofs.Starting.{few_first, no_start, runs_blocks, runs_messages, runs_packets, runs_unread, starts_without_memory}
 use Rattle.netlink_lines.proofs.runs.run_with.Goals as goal
 
 pub returns-in_err-first : goal.returns-in_err-first
@@ -42,6 +42,23 @@ returns-in-Packets g c =
       runs =
           runs_packets check c.args.options c.in-Packets.order _ _ _ _ _ c.read_start.new.first.items (memory_of c.new-state.result)
           (memory_of c.packets.new.state) _ c.in_ok-read_start.ensures.start is c.new-state.ensures c.packets.ensures.runs;
+    }
+
+pub blocks-requires : goal.blocks-requires
+blocks-requires g c =
+    let is : layout_of c.read_start.new.first.items ≡ Blocks =
+    rw c.deref.ensures.value at (sym c.layout_of.ensures.layout ∙ c.in-Blocks.is) in
+    record { few = few_first _ _ c.read_start.new.first.items c.in_ok-read_start.ensures.start is }
+
+pub returns-in-Blocks : goal.returns-in-Blocks
+returns-in-Blocks g c =
+    let check : Check = check_of g.F.Table in
+    let is : layout_of c.read_start.new.first.items ≡ Blocks =
+    rw c.deref.ensures.value at (sym c.layout_of.ensures.layout ∙ c.in-Blocks.is) in
+    record {
+      runs =
+          runs_blocks check c.args.options _ _ _ _ _ c.read_start.new.first.items (memory_of c.new-state.result) (memory_of c.blocks-in-Blocks.new.state) _
+          c.in_ok-read_start.ensures.start is c.new-state.ensures c.blocks-in-Blocks.ensures.runs;
     }
 
 pub returns-in-Unread : goal.returns-in-Unread
