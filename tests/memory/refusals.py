@@ -167,12 +167,15 @@ def of_frame(library):
 
 def of_show(library):
     """Returns the sweeps of netlink_show: each of its datagrams, an empty input, for which it allocates to read its
-    arguments, then its buffer, and then the room for the first bytes, a pcap file and a pcapng file.
+    arguments, then its buffer, and then the room for the first bytes, a pcap file and a pcapng file, and some with
+    --bytes.
 
     The program writes the line of a message before it reads on, so the lines before a failed allocation are there."""
     program = built("netlink_show", "netlink_show")
-    _, allocations, _ = run_failing(library, [program], b"", 0)
-    early = [SHOW_USAGE] * (allocations - 2) + [OUT_OF_MEMORY] * 2
+
+    def early(command):
+        _, allocations, _ = run_failing(library, command, b"", 0)
+        return [SHOW_USAGE] * (allocations - 2) + [OUT_OF_MEMORY] * 2
 
     inputs = {}
     for name, (source, end) in DATAGRAMS.items():
@@ -180,15 +183,17 @@ def of_show(library):
     packets = [packet(inputs["links"]), packet(inputs["links, the last one truncated"]), packet(b"", family=16)]
     inputs["a pcap file"] = header() + b"".join(packets)
     blocks = [enhanced(packed(inputs["links"])), simple(packed(inputs["an error with its request"]))]
+    for name in ("links", "an error that names an attribute", "links, the last one truncated"):
+        inputs[f"bytes of {name}"] = inputs[name]
     inputs["a pcapng file"] = section() + interface() + b"".join(blocks)
 
     def sweep_of(name):
-        data = inputs[name]
-        sweep = Sweep(library, f"netlink_show of {name}", [program], data)
-        usual = run([program], data)
+        data, command = inputs[name], [program, *["--bytes"] * name.startswith("bytes of ")]
+        sweep = Sweep(library, f"netlink_show of {name}", command, data)
+        usual = run(command, data)
         lines = usual[1].splitlines(keepends=True)
         later = [(1, b"".join(lines[:number]), OUT_OF_MEMORY[2]) for number in range(len(lines) + 1)]
-        return sweep.each_in_turn(usual, early, later)
+        return sweep.each_in_turn(usual, early(command), later)
 
     return in_parallel(sweep_of, inputs)
 

@@ -1,11 +1,11 @@
 pub mod BlockRuns
-pub mod Bytes
 pub mod Datagrams
 pub mod Frames
 pub mod Once
 pub mod OnceBlocks
 pub mod OncePackets
 pub mod Reaching
+pub mod RejectedBytes
 pub mod Running
 pub mod Shown
 pub mod Starting

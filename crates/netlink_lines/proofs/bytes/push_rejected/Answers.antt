@@ -1,6 +1,6 @@
 use Rattle.std.proofs.Common.{rules}
 use Rattle.netlink_lines.specs.Check.{check_of}
-use Rattle.netlink_lines.proofs.Bytes.{rejected_other}
+use Rattle.netlink_lines.proofs.RejectedBytes.{rejected_other}
 use Rattle.netlink_lines.proofs.bytes.push_rejected.Goals as goal
 
 pub returns : goal.returns
