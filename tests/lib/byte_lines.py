@@ -68,8 +68,8 @@ def row_of(kinds, block, kind, top):
     if links and found[0] == INFO_DATA:
         value = next((it for _at, one, it in attributes(block) if str(one & 0x3FFF) == INFO_KIND), None)
         chosen = [it for it in links if value is not None and it[1].encode() == value.split(b"\0")[0]]
-        if chosen:
-            form, inside = "nest", chosen[0][4]
+        if chosen:  # kinds of links that share a policy share its kinds, each of which is listed with one of them
+            form, inside = "nest", [kind for it in links if it[3] == chosen[0][3] for kind in it[4]]
     if form == "header":
         inside = top
     return None if name == "-" else name, form, size, inside
@@ -149,7 +149,7 @@ class Lines:
                 self.add(depth, at + start, block[start:end], f"  {label}: {value_text(form, size, value)}")
                 continue
             head = block[start : start + 4 + nest[1]]
-            self.add(depth, at + start, head, f"  {label}: {head[4:].hex()}" if nest[1] else f"  {label}:")
+            self.add(depth, at + start, head, f"  {label}: {value[: nest[1]].hex()}" if nest[1] else f"  {label}:")
             self.block(nest[0], value[nest[1] :], at + start + 4 + nest[1], top, depth + 1)
         self.add(depth, at + end, block[end:], "")
 
@@ -211,7 +211,9 @@ def byte_errors(program, frames):
             line += next(lines, b"")
         wanted = line + lines_of(frame).encode()
         if not rest.startswith(wanted):
-            yield f"--bytes: {frame.hex()[:200]}: {rest[: len(wanted)]} instead of {wanted}"
+            pairs = zip(rest.splitlines(), wanted.splitlines())
+            ours, other = next((it for it in pairs if it[0] != it[1]), (rest[:200], wanted[:200]))
+            yield f"--bytes: {frame.hex()[:200]}: {ours} instead of {other}"
             return
         rest = rest[len(wanted) :]
     if rest or next(lines, None):

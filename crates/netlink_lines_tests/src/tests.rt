@@ -1,5 +1,6 @@
 //! Lines of messages that are made by hand, runs, and texts of numbers and bytes.
 
+mod byte_lines;
 mod lines;
 mod link_lines;
 mod mpls_lines;

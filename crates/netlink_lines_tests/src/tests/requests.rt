@@ -1,7 +1,7 @@
 //! Requests, made by hand after linux/netlink.h and linux/rtnetlink.h, among what the kernel tells.
 
-use crate::tests::shown::{assert_run, joined, shown_with_labels};
-use netlink_lines::Fault;
+use crate::tests::shown::{assert_run, joined, shown_with};
+use netlink_lines::{Fault, Options};
 use std::alloc::{AllocError, Global};
 use std::test::Fail;
 
@@ -189,7 +189,11 @@ fn requests_are_no_facts(rt: HostRuntime) -> Result<(), Fail> {
         labelled.push_str(line)?;
     }
     assert_run(&rt, alloc, &input, &wanted, Err(Fault::Malformed));
-    let (output, ended) = shown_with_labels(alloc, &input);
+    let labels = Options {
+        labels: true,
+        bytes: false,
+    };
+    let (output, ended) = shown_with(alloc, labels, &input);
     assert!(rt; ended == Err(Fault::Malformed));
     assert_eq!(rt; output.as_slice(), labelled.as_bytes());
     Ok(())

@@ -38,15 +38,15 @@ pub(crate) fn shown(alloc: Global, input: &[u8]) -> (Vec<u8>, Result<(), Fault>)
     (output, ended)
 }
 
-/// Returns the lines of these bytes with labels, and how the run ended.
-pub(crate) fn shown_with_labels(alloc: Global, input: &[u8]) -> (Vec<u8>, Result<(), Fault>) {
+/// Returns the lines of these bytes with these options, and how the run ended.
+pub(crate) fn shown_with(
+    alloc: Global,
+    options: Options,
+    input: &[u8],
+) -> (Vec<u8>, Result<(), Fault>) {
     let mut reader = input;
     let mut output = Vec::new(alloc);
-    let labels = Options {
-        labels: true,
-        bytes: false,
-    };
-    let ended = run_with::<Joined<RouteTables>, _, _>(alloc, labels, &mut reader, &mut output);
+    let ended = run_with::<Joined<RouteTables>, _, _>(alloc, options, &mut reader, &mut output);
     (output, ended)
 }
 
