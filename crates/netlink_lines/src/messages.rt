@@ -55,7 +55,7 @@ pub(crate) fn next_lines<F: Line>(
         (memory_of state.old) (string_bytes s.text, s.is_malformed) (memory_of state.new)) }
 {
     let shown = message_lines::<F>(alloc, state, at, frame)?;
-    if !state.options.bytes | state.time.is_some() {
+    if !state.options.bytes || time_in(frame).is_some() {
         return Ok(shown);
     }
     with_bytes::<F>(shown, frame)

@@ -1,6 +1,6 @@
 -- Labels of MPLS (linux/mpls.h).
 use Rattle.std.specs.Prelude.{ℕ, ◌==◌, ◌+◌, ◌*◌, ◌/◌, ◌%◌, List, [], ◌∷◌, Option, Some, None, codes, decimal, if◌then◌else◌}
-use Rattle.netlink_words.specs.Parts.{prefix_of}
+use Rattle.netlink_words.specs.Parts.{keyed, prefix_of}
 use Rattle.netlink_words.specs.Text.{separated}
 
 -- a label: the upper 20 bits of 4 bytes
@@ -31,6 +31,10 @@ label_or_default (b ∷ word) = b ∷ word
 -- the labels of a destination, and its length unless that is the length of a label
 unfoldable pub label_target : List ℕ → ℕ → List ℕ
 label_target labels size = label_or_default (prefix_of (labels_text labels) size 20)
+
+-- the labels that replace that of the destination of a route, if it is one of MPLS
+unfoldable pub new_labels : ℕ → List ℕ → List ℕ
+new_labels family labels = if family == 28 then keyed (codes "as to") (labels_text labels) else []
 
 -- whether the time to live goes on in the IP header
 abbrev pub propagation_text : ℕ → List ℕ

@@ -11,7 +11,7 @@ use Rattle.netlink_words.specs.Parts.{or_empty}
 use Rattle.netlink_names.specs.Device.{device_part}
 use Rattle.netlink_words.specs.NumberNames.{protocol_text, route_type_text, scope_text, table_text}
 use Rattle.netlink_words.specs.Parts.{host_length, keyed, number_part, prefix_text, realms_part, tos_part, when, with_parts}
-use Rattle.netlink_route_lines.specs.Mpls.{label_target, labels_text, propagation_part}
+use Rattle.netlink_route_lines.specs.Mpls.{label_target, new_labels, propagation_part}
 use Rattle.netlink_route_lines.specs.Multicast.{is_multicast, multicast_line}
 use Rattle.netlink_route_lines.specs.RouteCache.{cache_part, lifetime_parts}
 use Rattle.netlink_route_lines.specs.RouteHops.{hops_text, via_part}
@@ -60,7 +60,7 @@ route_front t payload =
     ∷ target_text payload
     ∷ keyed (codes "from") (source_text payload)
     ∷ number_part (codes "nhid") (route_number payload RTA_NH_ID)
-    ∷ keyed (codes "as to") (labels_text (route_bytes payload RTA_NEWDST))
+    ∷ new_labels (route_byte payload 0) (route_bytes payload RTA_NEWDST)
     ∷ tos_part (route_byte payload 3) ∷ []
 
 -- the gateway and the link

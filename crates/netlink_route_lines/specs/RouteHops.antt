@@ -16,7 +16,7 @@ use Rattle.netlink_words.specs.Parts.{or_empty}
 use Rattle.netlink_names.specs.Device.{device_part}
 use Rattle.netlink_words.specs.NumberNames.{family_text}
 use Rattle.netlink_words.specs.Parts.{keyed, realms_part, with_parts}
-use Rattle.netlink_route_lines.specs.Mpls.{labels_text}
+use Rattle.netlink_route_lines.specs.Mpls.{new_labels}
 use Rattle.netlink_route_lines.specs.RouteFlags.{hop_flags_text}
 use Rattle.netlink_words.specs.Text.{bytes_text, ip_words}
 use Rattle.netlink_names.specs.declared.device.Known.{Known}
@@ -45,7 +45,7 @@ weight_part family word = if family == 28 then [] else codes "weight " ++ decima
 unfoldable pub hop_parts : List Known → ℕ → ℕ → List ℕ → List ℕ → List (List ℕ)
 hop_parts known family word index block =
     codes "nexthop"
-    ∷ keyed (codes "as to") (labels_text (or_empty (found_in block RTA_NEWDST)))
+    ∷ new_labels family (or_empty (found_in block RTA_NEWDST))
     ∷ keyed (codes "via") (ip_words (or_empty (found_in block RTA_GATEWAY)))
     ∷ via_part (or_empty (found_in block RTA_VIA))
     ∷ realms_part (codes "realm") (codes "realms") (option_map number_le (found_in block RTA_FLOW))

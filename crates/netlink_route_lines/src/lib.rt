@@ -15,7 +15,7 @@
 //! | `from 10.0.0.0/8` | `route::push_source` | `Route::route_front` |
 //! | `100/200`, labels of MPLS | `mpls::labels_text` | `Mpls::labels_text` |
 //! | `nhid 10` | `route::push_front` | `Route::route_front` |
-//! | `as to 200` | `mpls::push_new_labels` | `Route::route_front` |
+//! | `as to 200` | `route::push_labels` | `Mpls::new_labels` |
 //! | `tos 0x10` | `netlink_words::parts::push_tos` | `netlink_words::Parts::tos_part` |
 //! | `via 10.1.0.3` | `route_hops::push_next` | `Route::route_next` |
 //! | `via inet6 fe80::1` | `route_hops::push_via` | `RouteHops::via_part` |
@@ -42,7 +42,7 @@
 //! | `pref medium` | `route_flags::push_preference` | `RouteFlags::preference_text` |
 //! | `ttl-propogate enabled` | `mpls::push_propagation` | `Mpls::propagation_part` |
 //! | `nexthop` | `route_hops::push_hop_parts` | `RouteHops::hop_parts` |
-//! | `as to 200` | `mpls::push_new_labels` | `RouteHops::hop_parts` |
+//! | `as to 200` | `route_hops::push_hop_labels` | `Mpls::new_labels` |
 //! | `via 10.1.0.3` | `route_hops::push_next` | `RouteHops::hop_parts` |
 //! | `via inet6 fe80::1` | `route_hops::push_via` | `RouteHops::via_part` |
 //! | `realm 5`, `realms 3/5` | `route_hops::push_hop_parts` | `RouteHops::hop_parts` |

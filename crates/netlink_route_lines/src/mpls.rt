@@ -86,7 +86,6 @@ fn with_length(alloc: Global, labels: String, length: u8) -> Result<String, Allo
 }
 
 /// Appends the labels that replace that of the destination, in `RTA_NEWDST`, if there are some.
-#[tactic(auto, unfolding(crate::specs::Mpls::labels_text, crate::specs::Mpls::with_labels, netlink_words::specs::Parts::keyed, netlink_words::specs::Parts::with_part))]
 pub(crate) fn push_new_labels(
     alloc: Global,
     text: &mut String,
@@ -94,9 +93,6 @@ pub(crate) fn push_new_labels(
 ) -> Result<(), AllocError>
     ensures { OnOk result (AddsPart text.old text.new (keyed (codes "as to") (labels_text labels.now))) }
 {
-    if labels.is_empty() {
-        return Ok(());
-    }
     push_keyed(text, "as to", labels_text(alloc, labels)?.as_str())
 }
 

@@ -4,8 +4,9 @@ ghost use Rattle.std.specs.Prelude.{◌≡◌, IfOk, OnOk, codes, string_bytes};
 ghost use Rattle.std.specs.Option.{option_map};
 ghost use Rattle.netlink_route.specs.declared.routes.TheConstants.{RTA_DST, RTA_GATEWAY, RTA_NEWDST, RTA_PREFSRC, RTA_SRC, RTA_VIA};
 ghost use Rattle.netlink_words.specs.Parts.{AddsPart, AddsParts, keyed, prefix_text};
+ghost use Rattle.netlink_route_lines.specs.Mpls.{new_labels};
 ghost use Rattle.netlink_route_lines.specs.Multicast.{multicast_line};
-ghost use Rattle.netlink_route_lines.specs.Route.{installer_part, is_own, is_shown, kept_parts, last_parts, origin_parts, route_bytes, route_entry_line, route_front, route_next, route_table, route_words, scope_part, table_part, target_text, type_part, with_rest, word_or_default};
+ghost use Rattle.netlink_route_lines.specs.Route.{installer_part, is_own, is_shown, kept_parts, last_parts, origin_parts, route_byte, route_bytes, route_entry_line, route_front, route_next, route_table, route_words, scope_part, table_part, target_text, type_part, with_rest, word_or_default};
 
 use crate::mpls::{AF_MPLS, push_label_target, push_new_labels, push_propagation};
 use crate::multicast::{RT_TABLE_MAIN, is_multicast, multicast_line};
@@ -136,7 +137,7 @@ fn push_front(
     let from = source_of(route);
     push_source(alloc, text, from, route.header().u8(RTM_SRC_LEN), whole)?;
     push_number(text, "nhid", route.index().u32(RTA_NH_ID))?;
-    push_new_labels(alloc, text, new_labels_of(route))?;
+    push_labels(alloc, text, route)?;
     push_tos(alloc, text, route.header().u8(RTM_TOS))
 }
 
@@ -224,6 +225,22 @@ fn source_of<'a>(route: &MessageIndex<'a, Routes>) -> &'a [u8]
     ensures { result.now ≡ route_bytes route.now.message.payload.now RTA_SRC }
 {
     or_empty(route.index().ip(RTA_SRC))
+}
+
+/// Appends the new labels of a route of MPLS.
+#[tactic(auto, unfolding(crate::specs::Mpls::new_labels, netlink_words::specs::Parts::with_part))]
+fn push_labels(
+    alloc: Global,
+    text: &mut String,
+    route: &MessageIndex<'_, Routes>,
+) -> Result<(), AllocError>
+    ensures { OnOk result (AddsPart text.old text.new
+        (new_labels (route_byte route.now.message.payload.now 0) (route_bytes route.now.message.payload.now RTA_NEWDST))) }
+{
+    if route.header().u8(RTM_FAMILY) != AF_MPLS {
+        return Ok(());
+    }
+    push_new_labels(alloc, text, new_labels_of(route))
 }
 
 /// Returns the new labels of a route of MPLS; empty if there are none.

@@ -8,6 +8,7 @@ ghost use Rattle.netlink_family.specs.Values.{value_bytes};
 ghost use Rattle.netlink_route.specs.declared.routes.TheConstants.{RTA_GATEWAY, RTA_MULTIPATH, RTA_NEWDST, RTA_VIA};
 ghost use Rattle.netlink_words.specs.Parts.{AddsPart, AddsParts, or_empty};
 ghost use Rattle.netlink_words.specs.Parts.{AddsPart, AddsParts};
+ghost use Rattle.netlink_route_lines.specs.Mpls.{new_labels};
 ghost use Rattle.netlink_route_lines.specs.RouteHops.{IsHop, IsHops, IsOfHop, hop_parts, hops_text, next_parts, via_address, via_part, weight_part, with_hop};
 
 use crate::mpls::{AF_MPLS, push_new_labels};
@@ -101,7 +102,7 @@ fn push_hop_parts(
         (AddsParts text.old text.new (hop_parts known.now family word header.now attributes.now.block.now)) }
 {
     push_part(text, "nexthop")?;
-    push_new_labels(alloc, text, new_labels_of(attributes))?;
+    push_hop_labels(alloc, text, family, attributes)?;
     push_next(alloc, text, gateway_of(attributes), via_of(attributes))?;
     push_realms(alloc, text, "realm", "realms", attributes.u32(RTA_FLOW))?;
     push_device(text, known, "dev", Some(parse_u32(header).unwrap()))?;
@@ -118,6 +119,24 @@ fn push_weight(text: &mut String, family: u8, word: u16) -> Result<(), AllocErro
         return Ok(());
     }
     push_number(text, "weight", Some((word / 256) as u32 + 1))
+}
+
+/// Appends the new labels of a next hop of a route of MPLS.
+#[tactic(auto, unfolding(crate::specs::Mpls::new_labels, netlink_words::specs::Parts::with_part))]
+fn push_hop_labels(
+    alloc: Global,
+    text: &mut String,
+    family: u8,
+    attributes: &BlockView<'_>,
+) -> Result<(), AllocError>
+    requires { IsOfHop (⟦<Routes as Table>⟧.rows 24) attributes.now }
+    ensures { OnOk result (AddsPart text.old text.new
+        (new_labels family (or_empty (found_in attributes.now.block.now RTA_NEWDST)))) }
+{
+    if family != AF_MPLS {
+        return Ok(());
+    }
+    push_new_labels(alloc, text, new_labels_of(attributes))
 }
 
 /// Returns the new labels of a next hop of MPLS; empty if there are none.
