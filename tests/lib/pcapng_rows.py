@@ -86,8 +86,9 @@ def read_block(of, data):
     bytes start, how many were captured, and how many it had."""
     if len(data) < 8:
         return f"the header of a block is cut to {len(data)} of 8 bytes"
-    kind = of.number(data, 0)
-    fixed = FIXED.get(kind, 8)
+    kind, said = of.number(data, 0), of.number(data, 4)
+    # The options of an interface are read, unless its length is out of bounds.
+    fixed = said - 4 if kind == INTERFACE and 20 <= said <= LONGEST else FIXED.get(kind, 8)
     if len(data) < fixed:
         return f"the header of a block is cut to {len(data)} of {fixed} bytes"
     after, packet = of, None
@@ -96,7 +97,7 @@ def read_block(of, data):
             return "a section has neither byte order"
         after = Section(order)
     size = after.number(data, 4)
-    if error := size_error(size, fixed + 4):
+    if error := size_error(size, FIXED.get(kind, 8) + 4):
         return error
     if kind == SECTION and (major := after.number(data, 12, 2)) != 1:
         return f"the major version of a section is {major} instead of 1"

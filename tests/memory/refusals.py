@@ -26,7 +26,7 @@ OTHER_ALLOCATORS = "aligned_alloc posix_memalign memalign valloc reallocarray mm
 
 # The result if an allocation fails while a program reads its arguments, and the result if one fails later.
 FRAME_USAGE = (2, b"", b"usage: netlink_frame normalize|show|nlas|canon|frames\n")
-SHOW_USAGE = (2, b"", b"usage: netlink_show [--label] [--bytes] < FILE\n")
+SHOW_USAGE = (2, b"", b"usage: netlink_show [--label] [--time] [--bytes] < FILE\n")
 OUT_OF_MEMORY = (1, b"", b"out of memory\n")
 
 # The result of a test that passes, and the results of a test that returns out of memory by `?`.

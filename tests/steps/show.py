@@ -30,6 +30,7 @@ from pcap_rows import packet as pcap_packet  # noqa: E402
 from pcap_rows import pcap_rows, tshark_errors, without_padding  # noqa: E402
 from pcapng_rows import block, enhanced, interface, others, packed, pcapng_errors, pcapng_rows, section, simple  # noqa: E402
 from pcapng_rows import tshark_errors as tshark_block_errors  # noqa: E402
+from time_rows import time_errors, time_rows  # noqa: E402
 
 CAPTURED = ["links-0", "links-1", "links-2", "addresses-0", "addresses-1", "link-by-name-0"]
 CAPTURED += ["event-0", "event-1", "event-2"]
@@ -65,7 +66,7 @@ ADDRESS_FLAGS = [(0x2, "nodad"), (0x40, "tentative")]
 ERRNO = [*range(1, 41), *range(42, 58), *range(59, 134)]
 
 BAD = "a message is malformed"
-USAGE = (2, b"", "usage: netlink_show [--label] [--bytes] < FILE")
+USAGE = (2, b"", "usage: netlink_show [--label] [--time] [--bytes] < FILE")
 LINE = b"7: a: <> link/netrom\n"
 # The lines of the bytes of that message.
 BYTES = b"""\
@@ -493,8 +494,10 @@ def rows():
     yield row(f"{data.hex()} with a label", ["--label"], (0, b"[1.000002] [LINK]" + LINE + b"noop\n", ""), data)
     yield row("a time and its bytes", ["--bytes"], (0, b"[1.000002] " + LINE + BYTES, ""), time(1, 2) + link(NAMED))
     yield row("labels and bytes", ["--label", "--bytes"], (0, b"[LINK]" + LINE + BYTES, ""), link(NAMED))
+    options = ["--bytes", "--time", "--label"]
+    yield row("all options", options, (0, b"[1700000000.000005] [LINK]" + LINE + BYTES, ""), in_packets(link(NAMED)))
     yield row("bytes and labels", ["--bytes", "--label"], (0, b"[LINK]" + LINE + BYTES, ""), in_packets(link(NAMED)))
-    for words in (["links"], [""], ["-h"], ["a", "b"], [b"\xff"], ["label"], ["--labels"], ["--label", "--label"]):
+    for words in (["links"], [""], ["-h"], ["a", "b"], [b"\xff"], ["label"], ["--labels"], ["--label", "--label"], ["--time", "--time"], ["--time", "--label", "--time"]):
         yield row(f"arguments {words}", words, USAGE, link(NAMED))
 
 
@@ -636,7 +639,7 @@ def all_frames():
 def main():
     program = built("netlink_show", "netlink_show")
     streams = [*captured_lines().values()]
-    files = [*pcap_rows(frame, shown, streams), *pcapng_rows(frame, shown, streams)]
+    files = [*pcap_rows(frame, shown, streams), *pcapng_rows(frame, shown, streams), *time_rows(frame, link(NAMED), LINE)]
     all_rows = [*rows(), *stream_rows(), *files, *failing_rows(FailingDevices()), *monitor_rows(stop_of)]
     errors = [it for it in in_parallel(lambda it: error_of(program, it), all_rows) if it]
     checks = [*live_checks(program), request_error(program)]
@@ -645,12 +648,13 @@ def main():
     from_monitor, messages = monitor_errors(program)
     from_tshark, read = tshark_errors(frame)
     from_blocks, more = tshark_block_errors(frame)
+    from_times, timed = time_errors(program, frame)
     from_file, lines = pcapng_errors(program)
     if read is None:
         print("skipped: tshark (it is not installed)")
     bytes_of = all_frames()
-    errors += from_ip + from_monitor + from_tshark + from_blocks + from_file + [*byte_errors(program, bytes_of)]
-    counted = len(all_rows) + len(checks) + frames + messages + len(bytes_of) + (read or 0) + more + lines
+    errors += from_ip + from_monitor + from_tshark + from_blocks + from_times + from_file + [*byte_errors(program, bytes_of)]
+    counted = len(all_rows) + len(checks) + frames + messages + len(bytes_of) + (read or 0) + more + timed + lines
     tally("show", errors, counted - len(errors))
 
 

@@ -2,20 +2,23 @@
 use Rattle.std.proofs.Common.{◌≡◌, ◌≢◌, ◌<◌, ◌≤◌, ◌+◌, ◌-◌, ◌∙◌, refl, ℕ, List, [], ◌++◌, Option, Some, None, IfSome, Result, Ok, Err, take, length, ap, sym, subst, arith, inl, inr, append-nil, append_assoc, length-append}
 use Rattle.std.proofs.KnownBytes.{Consumes-trans}
 use Rattle.std.proofs.lemmas.Bool.{cases_lt, le-ltb, lt-ltb, ltb-false}
-use Rattle.std.proofs.lemmas.List.{drop_at, take-append-le, take_all, take_at}
+use Rattle.std.proofs.lemmas.List.{drop_at, length-take-le, take-append-le, take_all, take_at}
 use Rattle.std.specs.Io.KnownBytes.{Consumes, IsAtEnd}
-use Rattle.std.specs.Prelude.{Bool, true, false, ◌==◌, ◌⊎◌, if◌then◌else◌, nat_lt, slice_range}
+use Rattle.std.specs.Prelude.{Bool, true, false, ◌==◌, ◌||◌, ◌⊎◌, if◌then◌else◌, nat_lt, slice_range}
 use Rattle.netlink_packet_core.specs.Numbers.{number_be, number_le}
-use Rattle.netlink_input.specs.Block.{block_of, fixed_of, head_size, kept_by, kept_size}
+use Rattle.netlink_input.specs.Block.{block_of, fixed_of, head_size, kept_by, kept_size, options_end}
 use Rattle.netlink_input.specs.Blocks.{EndsBlock, GivesBlock, StartsHead, TriesBlock, TriesHead, block_in, ended, kept_of, unless_ended, whole_block}
 use Rattle.netlink_input.specs.LayoutLaws.{number_in_first}
+use Rattle.netlink_input.specs.Packet.{IsExtent}
 use Rattle.netlink_input.specs.Pcap.{number_in}
 use Rattle.netlink_input.specs.Reading.{ReadsUpTo, TriesUpTo}
+use Rattle.netlink_input.specs.Stream.{longest}
 use Rattle.netlink_input.specs.declared.block.Block.{Block}
 use Rattle.netlink_input.specs.declared.block.Section.{Section}
 use Rattle.netlink_input.specs.declared.blocks.NextBlock.TheVariants as next
 use Rattle.netlink_input.specs.declared.fault.Fault.{Fault}
 use Rattle.netlink_input.specs.declared.fault.Fault.TheVariants.{OutOfMemory, Read}
+use Rattle.netlink_input.specs.declared.packet.Extent.{Extent}
 use Rattle.netlink_input.specs.declared.pcap.Order.{Order}
 use Rattle.netlink_input.specs.declared.pcap.Order.TheVariants.{Little, Big}
 use Rattle.netlink_input.specs.declared.pcap.PcapFault.{PcapFault}
@@ -23,30 +26,47 @@ use Rattle.netlink_input.specs.declared.pcap.PcapFault.TheVariants.{BlockCut, Bl
 
 -- ---- how many bytes a block starts with
 
-least_of : (a b c d : Bool) → 8 ≤ (if a then 24 else if b then 16 else if c then 28 else if d then 12 else 8)
-least_of true b c d = omega arith
-least_of false true c d = omega arith
-least_of false false true d = omega arith
-least_of false false false true = omega arith
-least_of false false false false = omega arith
+least_options : (b : Bool) (size : ℕ) → (b ≡ false → 20 ≤ size) → 8 ≤ (if b then 16 else size - 4)
+least_options true size long = omega arith
+least_options false size long = omega (arith, long refl)
 
-least_by : (b : Bool) (kind : ℕ) → 8 ≤ (if b then 8 else fixed_of kind)
-least_by true kind = omega arith
-least_by false kind = least_of (kind == 168627466) (kind == 1) (kind == 6) (kind == 3)
+first_false : (a b : Bool) → (a || b) ≡ false → a ≡ false
+first_false false b is = refl
+first_false true b is = absurd cc
+
+options_least : (size : ℕ) → 8 ≤ options_end size
+options_least size =
+    least_options (nat_lt size 20 || nat_lt longest size) size
+    (λ not. ltb-false size 20 (first_false (nat_lt size 20) (nat_lt longest size) not))
+
+least_of : (a b c d : Bool) (size : ℕ)
+    → 8 ≤ (if a then 24 else if b then options_end size else if c then 28 else if d then 12 else 8)
+least_of true b c d size = omega arith
+least_of false true c d size = options_least size
+least_of false false true d size = omega arith
+least_of false false false true size = omega arith
+least_of false false false false size = omega arith
+
+least_by : (b : Bool) (kind size : ℕ) → 8 ≤ (if b then 8 else fixed_of kind size)
+least_by true kind size = omega arith
+least_by false kind size = least_of (kind == 168627466) (kind == 1) (kind == 6) (kind == 3) size
 
 pub head_least : (order : Order) (head : List ℕ) → 8 ≤ head_size order head
-head_least order head = least_by (nat_lt (length head) 8) (number_in order 0 4 head)
+head_least order head = least_by (nat_lt (length head) 8) (number_in order 0 4 head) (number_in order 4 4 head)
 
-size_by_kind : (order : Order) (head : List ℕ) → 8 ≤ length head → head_size order head ≡ fixed_of (number_in order 0 4 head)
+size_by_kind : (order : Order) (head : List ℕ) → 8 ≤ length head
+    → head_size order head ≡ fixed_of (number_in order 0 4 head) (number_in order 4 4 head)
 size_by_kind order head long =
-    ap (λ (b : Bool). if b then 8 else fixed_of (number_in order 0 4 head)) (le-ltb (length head) 8 long)
+    ap (λ (b : Bool). if b then 8 else fixed_of (number_in order 0 4 head) (number_in order 4 4 head)) (le-ltb (length head) 8 long)
 
 -- no byte after the first 8 is looked at
 pub head_size_first : (order : Order) (head more : List ℕ) → 8 ≤ length head
     → head_size order (head ++ more) ≡ head_size order head
 head_size_first order head more long =
     size_by_kind order (head ++ more) (omega (arith, long, length-append head more))
-    ∙ ap fixed_of (number_in_first order 0 4 head more (omega (arith, long))) ∙ sym (size_by_kind order head long)
+    ∙ ap (λ (n : ℕ). fixed_of n (number_in order 4 4 (head ++ more))) (number_in_first order 0 4 head more (omega (arith, long)))
+    ∙ ap (fixed_of (number_in order 0 4 head)) (number_in_first order 4 4 head more (omega (arith, long)))
+    ∙ sym (size_by_kind order head long)
 
 -- ---- a block and what follows it
 
@@ -163,6 +183,13 @@ gives_block section old middle new head more kept block took after long whole is
       omega (arith, ap (kept_by block.packet) size, fits, enough),
       same ∙ ap (λ (n : ℕ). take (kept_by block.packet n) (head ++ more)) (sym size),
     )
+
+-- what is kept of a block with a packet
+pub extent_kept : (packet : Option Extent) (size : ℕ) (whole kept : List ℕ) → kept ≡ take (kept_by packet size) whole
+    → kept_by packet size ≤ length whole → IfSome packet (λ e. e.from ≤ 28) → IfSome packet (λ e. IsExtent e kept)
+extent_kept None size whole kept same fits short = tt
+extent_kept (Some packet) size whole kept same fits short =
+    (short, ap length same ∙ length-take-le (packet.from + packet.captured) whole fits)
 
 -- no bytes are no block
 some_head : (bytes rest : List ℕ) → 8 ≤ length bytes → (bytes ++ rest) ≢ []

@@ -9,3 +9,4 @@ pub mod Pcap
 pub mod Reading
 pub mod ReadingLaws
 pub mod Stream
+pub mod Time

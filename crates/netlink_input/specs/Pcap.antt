@@ -29,6 +29,10 @@ order_of magic =
 abbrev pub is_pcap : List ℕ → Bool
 is_pcap bytes = nat_le 4 (length bytes) && is_some (order_of (field 0 4 bytes))
 
+-- the times of a pcap file with this byte order are in nanoseconds
+abbrev pub is_nano : Order → List ℕ → Bool
+is_nano order bytes = number_in order 0 4 bytes == 2712812621
+
 -- the input is not read, for this cause at this offset
 abbrev pub unread : ℕ → PcapFault → Layout
 unread at why = Unread (record { at = at; cause = Pcap why })

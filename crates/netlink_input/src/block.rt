@@ -3,11 +3,13 @@
 //! The format is that of the draft "PCAP Now Generic (pcapng) Capture File Format".
 
 ghost use Rattle.std.specs.Prelude.{◌≡◌, ◌≤◌, ◌+◌, None, Some, IfOk, IfSome, length};
-ghost use Rattle.netlink_input.specs.Block.{block_of, enhanced_block, fixed_of, head_size, interface_block, kept_size, magic_order, one_more, other_block, packet_block, section_block, section_in, simple_block, size_fault, snapped, start};
+ghost use Rattle.netlink_input.specs.Block.{after_option, block_of, count_in, enhanced_block, fixed_of, head_size, interface_block, kept_size, magic_order, one_more, options_end, other_block, packet_block, resolution_of, section_block, section_in, simple_block, size_fault, snapped, start, with_interface};
+ghost use Rattle.netlink_input.specs.Pcap.{number_in};
 
 use crate::packet::Extent;
 use crate::pcap::{NETLINK, Order, PCAPNG, PcapFault, u16_in, u32_in};
 use crate::stream::LONGEST;
+use crate::time::{Time, clock_time};
 
 /// The size in bytes of what each block starts with: its type and its length.
 pub const BLOCK_HEAD_LEN: usize = 8;
@@ -15,12 +17,19 @@ pub const BLOCK_HEAD_LEN: usize = 8;
 /// The size in bytes of the length at the end of a block.
 pub const BLOCK_END_LEN: usize = 4;
 
-/// The types of the blocks that are read: the header of a section has the number that starts a file.
+/// The types of the blocks that are read: the header of a section has the number that starts a
+/// file.
 const INTERFACE: u32 = 1;
 
 const SIMPLE: u32 = 3;
 
 const ENHANCED: u32 = 6;
+
+/// The resolution of times in microseconds, and the option of an interface for another
+/// (`if_tsresol`).
+const MICROSECONDS: u8 = 6;
+
+const RESOLUTION: u16 = 9;
 
 /// The magic number in the header of a section.
 const BYTE_ORDER: u32 = 0x1a2b_3c4d;
@@ -36,6 +45,10 @@ pub struct Section {
     pub interfaces: u32,
     /// The number of bytes of a packet of the first interface that are captured, or 0 for all.
     pub snap: u32,
+    /// How the first interface counts its times.
+    pub resolution: u8,
+    /// How many interfaces from the first on count their times like it.
+    pub timed: u32,
 }
 
 /// A block.
@@ -47,6 +60,8 @@ pub struct Block {
     pub section: Section,
     /// The packet in it, if it has one.
     pub packet: Option<Extent>,
+    /// The time of the packet, if it is known.
+    pub time: Option<Time>,
 }
 
 impl Section {
@@ -58,21 +73,35 @@ impl Section {
             order: Order::Little,
             interfaces: 0,
             snap: 0,
+            resolution: MICROSECONDS,
+            timed: 0,
         }
     }
 }
 
-/// Returns the size of what a block of this type starts with: all that is read of it, except a packet.
-fn fixed_of(kind: u32) -> usize
-    ensures { result ≡ fixed_of kind }
+/// Returns the size of what a block of this type and length starts with: all that is read of it,
+/// except a packet.
+fn fixed_of(kind: u32, size: u32) -> usize
+    ensures { result ≡ fixed_of kind size }
 {
     match kind {
         PCAPNG => 24,
-        INTERFACE => 16,
+        INTERFACE => options_end(size),
         ENHANCED => 28,
         SIMPLE => 12,
         _ => BLOCK_HEAD_LEN,
     }
+}
+
+/// Returns the offset at which the options of an interface end, in a block of this length. A block
+/// of more than 1048576 bytes counts as one without options.
+fn options_end(size: u32) -> usize
+    ensures { result ≡ options_end size }
+{
+    if size < 20 || size as usize > LONGEST {
+        return 16;
+    }
+    size as usize - BLOCK_END_LEN
 }
 
 /// Returns how many bytes at the start of a block have to be read, by those that were: 8 tell it.
@@ -82,16 +111,17 @@ pub fn head_size(order: Order, head: &[u8]) -> usize
     if head.len() < BLOCK_HEAD_LEN {
         return BLOCK_HEAD_LEN;
     }
-    fixed_of(u32_in(order, head, 0))
+    fixed_of(u32_in(order, head, 0), u32_in(order, head, 4))
 }
 
-/// Returns a block by its first bytes, or why it cannot be read. Requires those that `head_size` says.
+/// Returns a block by its first bytes, or why it cannot be read. Requires those that `head_size`
+/// says.
 ///
-/// Returns `SectionOrder` if the byte order of a section is unknown; `BlockUneven` or `BlockSmall` if the
-/// length is no multiple of 4, or too small for the type; `SectionVersion` if the major version of a
-/// section is not 1; `InterfaceType` if the link type of an interface is not netlink; `Interface` if the
-/// section has no such interface; `PacketLong` if more than 1048576 bytes were captured, and `PacketOver`
-/// if more than the block has room for.
+/// Returns `SectionOrder` if the byte order of a section is unknown; `BlockUneven` or `BlockSmall`
+/// if the length is no multiple of 4, or too small for the type; `SectionVersion` if the major
+/// version of a section is not 1; `InterfaceType` if the link type of an interface is not netlink;
+/// `Interface` if the section has no such interface; `PacketLong` if more than 1048576 bytes were
+/// captured, and `PacketOver` if more than the block has room for.
 pub fn block_of(section: Section, head: &[u8]) -> Result<Block, PcapFault>
     requires whole { length head.now ≡ head_size section.order head.now }
     requires eight { 8 ≤ length head.now }
@@ -174,11 +204,14 @@ fn section_in(order: Order, head: &[u8]) -> Result<Block, PcapFault>
         order,
         interfaces: 0,
         snap: 0,
+        resolution: MICROSECONDS,
+        timed: 0,
     };
     Ok(Block {
         size,
         section,
         packet: None,
+        time: None,
     })
 }
 
@@ -192,11 +225,68 @@ fn one_more(count: u32) -> u32
     count
 }
 
+/// Returns what is known of a section after one more interface.
+fn with_interface(section: Section, snap: u32, resolution: u8) -> Section
+    ensures { result ≡ with_interface section snap resolution }
+{
+    let interfaces = one_more(section.interfaces);
+    if section.interfaces == 0 {
+        return Section {
+            order: section.order,
+            interfaces,
+            snap,
+            resolution,
+            timed: 1,
+        };
+    }
+    let is_alike = section.timed == section.interfaces && section.resolution == resolution;
+    Section {
+        order: section.order,
+        interfaces,
+        snap: section.snap,
+        resolution: section.resolution,
+        timed: if is_alike { interfaces } else { section.timed },
+    }
+}
+
+/// Returns how an interface with these options counts its times: in microseconds, unless an option
+/// says otherwise.
+fn resolution_of(order: Order, options: &[u8]) -> u8
+    ensures { result ≡ resolution_of order options.now }
+{
+    let mut rest = options;
+    for _ in 0..options.len() / 4 {
+        if rest.len() < 4 {
+            return MICROSECONDS;
+        }
+        let kind = u16_in(order, rest, 0);
+        if kind == RESOLUTION && rest.len() > 4 {
+            return rest[4];
+        }
+        if kind == 0 {
+            return MICROSECONDS;
+        }
+        rest = after_option(rest, u16_in(order, rest, 2));
+    }
+    MICROSECONDS
+}
+
+/// Returns what follows an option with a value of this size, and its padding.
+fn after_option(rest: &[u8], size: u16) -> &[u8]
+    ensures { result.now ≡ after_option rest.now size }
+{
+    let padded = (size as usize + 3) / 4 * 4;
+    match rest.split_at_checked(4 + padded) {
+        Some((_, after)) => after,
+        None => &[],
+    }
+}
+
 /// Returns the description of an interface.
 fn interface_block(section: Section, head: &[u8]) -> Result<Block, PcapFault>
-    requires whole { length head.now ≡ 16 }
+    requires whole { length head.now ≡ options_end (number_in section.order 4 4 head.now) }
     ensures is { result ≡ interface_block section head.now }
-    ensures room { IfOk result (λ block. (block.packet ≡ None) × (20 ≤ block.size)) }
+    ensures room { IfOk result (λ block. (block.packet ≡ None) × (length head.now + 4 ≤ block.size)) }
 {
     let size = u32_in(section.order, head, 4);
     if let Some(why) = size_fault(size, 20) {
@@ -206,20 +296,13 @@ fn interface_block(section: Section, head: &[u8]) -> Result<Block, PcapFault>
     if link_type != NETLINK {
         return Err(PcapFault::InterfaceType(link_type));
     }
-    let snap = if section.interfaces == 0 {
-        u32_in(section.order, head, 12)
-    } else {
-        section.snap
-    };
-    let section = Section {
-        order: section.order,
-        interfaces: one_more(section.interfaces),
-        snap,
-    };
+    let resolution = resolution_of(section.order, &head[16..]);
+    let section = with_interface(section, u32_in(section.order, head, 12), resolution);
     Ok(Block {
         size,
         section,
         packet: None,
+        time: None,
     })
 }
 
@@ -235,12 +318,26 @@ fn enhanced_block(section: Section, head: &[u8]) -> Result<Block, PcapFault>
         return Err(why);
     }
     let interface = u32_in(section.order, head, 8);
+    let time = if interface < section.timed {
+        clock_time(section.resolution, count_in(section.order, head))
+    } else {
+        None
+    };
     let packet = Extent {
         from: 28,
         captured: u32_in(section.order, head, 20),
         original: u32_in(section.order, head, 24),
     };
-    packet_block(section, interface, size, packet)
+    packet_block(section, interface, size, packet, time)
+}
+
+/// Returns the number by which an interface counts the time of a packet: its upper half is first.
+fn count_in(order: Order, head: &[u8]) -> u64
+    requires whole { length head.now ≡ 28 }
+    ensures { result ≡ count_in order head.now }
+{
+    let upper = u32_in(order, head, 12) as u64;
+    upper * (1 << 32) + u32_in(order, head, 16) as u64
 }
 
 /// Returns how many bytes of a packet are captured, if at most `snap` are, or all for 0.
@@ -270,7 +367,7 @@ fn simple_block(section: Section, head: &[u8]) -> Result<Block, PcapFault>
         captured: snapped(section.snap, original),
         original,
     };
-    packet_block(section, 0, size, packet)
+    packet_block(section, 0, size, packet, None)
 }
 
 /// Returns a block of this size with a packet of this interface.
@@ -279,10 +376,11 @@ fn packet_block(
     interface: u32,
     size: u32,
     packet: Extent,
+    time: Option<Time>,
 ) -> Result<Block, PcapFault>
     requires short { packet.from ≤ 28 }
     requires room { packet.from + 4 ≤ size }
-    ensures is { result ≡ packet_block section interface size packet }
+    ensures is { result ≡ packet_block section interface size packet time }
     ensures room { IfOk result (λ block. (block.packet ≡ Some packet) × (block.size ≡ size)
         × (packet.from + packet.captured + 4 ≤ size)) }
 {
@@ -300,6 +398,7 @@ fn packet_block(
         size,
         section,
         packet: Some(packet),
+        time,
     })
 }
 
@@ -316,6 +415,7 @@ fn other_block(section: Section, head: &[u8]) -> Result<Block, PcapFault>
             size,
             section,
             packet: None,
+            time: None,
         }),
     }
 }

@@ -27,13 +27,13 @@ pub enum NextBlock {
     Stop(PcapFault),
 }
 
-/// Reads the next block of a pcapng file, and no byte after it. The vector has its first bytes, at most 8,
-/// if they were read before. Afterwards it has what the block starts with, and its captured bytes, if it
-/// has a packet: the rest of the block is skipped.
+/// Reads the next block of a pcapng file, and no byte after it. The vector has its first bytes, at
+/// most 8, if they were read before. Afterwards it has what the block starts with, and its captured
+/// bytes, if it has a packet: the rest of the block is skipped.
 ///
-/// Returns `Stop` if the file ends within the block, if its two lengths differ, or as `block_of` says.
-/// Returns `Read` if the reader fails; it has then not given a whole block. Returns `OutOfMemory` if an
-/// allocation for the block fails.
+/// Returns `Stop` if the file ends within the block, if its two lengths differ, or as `block_of`
+/// says. Returns `Read` if the reader fails; it has then not given a whole block. Returns
+/// `OutOfMemory` if an allocation for the block fails.
 pub fn read_block<R: Read>(
     section: Section,
     reader: &mut R,
@@ -64,11 +64,11 @@ pub fn read_block<R: Read>(
     }
 }
 
-/// Reads what a block starts with into a vector that has the first bytes of it, at most 8; less if the
-/// reader ends.
+/// Reads what a block starts with into a vector that has the first bytes of it, at most 8; less if
+/// the reader ends.
 ///
-/// Returns `Read` if the reader fails; it has then not given all of these bytes. Returns `OutOfMemory`
-/// if an allocation fails.
+/// Returns `Read` if the reader fails; it has then not given all of these bytes. Returns
+/// `OutOfMemory` if an allocation fails.
 fn read_head<R: Read>(order: Order, reader: &mut R, block: &mut Vec<u8>) -> Result<(), Fault>
     requires few { length block.old.items ≤ 8 }
     ensures head { OnOk result (StartsHead order (prepend_known block.old.items (R.remaining reader.old))
@@ -85,12 +85,12 @@ fn read_head<R: Read>(order: Order, reader: &mut R, block: &mut Vec<u8>) -> Resu
     Ok(())
 }
 
-/// Reads the rest of a block whose start is in a vector, and leaves in the vector what is kept of it.
-/// Returns why it does not end as it should: `BlockCut` if the reader ends in it, and `BlockEnds` if it has
-/// another length at its end.
+/// Reads the rest of a block whose start is in a vector, and leaves in the vector what is kept of
+/// it. Returns why it does not end as it should: `BlockCut` if the reader ends in it, and
+/// `BlockEnds` if it has another length at its end.
 ///
-/// Returns `Read` if the reader fails; it has then not given the whole block. Returns `OutOfMemory` if an
-/// allocation fails.
+/// Returns `Read` if the reader fails; it has then not given the whole block. Returns `OutOfMemory`
+/// if an allocation fails.
 fn read_rest<R: Read>(
     block: Block,
     reader: &mut R,

@@ -1,5 +1,5 @@
-//! The input of a run: the frames of a stream, the packets of a pcap file and the blocks of a pcapng file,
-//! one at a time.
+//! The input of a run: the frames of a stream, the packets of a pcap file and the blocks of a
+//! pcapng file, one at a time.
 #![tactic(auto)]
 
 pub mod block;
@@ -9,3 +9,4 @@ pub mod packet;
 pub mod pcap;
 pub mod start;
 pub mod stream;
+pub mod time;

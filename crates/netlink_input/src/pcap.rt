@@ -1,10 +1,10 @@
-//! Pcap files: their numbers, the header by which one is recognized, and why one, or a pcapng file, is
-//! not read.
+//! Pcap files: their numbers, the header by which one is recognized, and why one, or a pcapng file,
+//! is not read.
 //!
 //! The format is that of libpcap (pcap-savefile) with the link type `LINKTYPE_NETLINK`.
 
 ghost use Rattle.std.specs.Prelude.{◌≡◌, ◌≤◌, ◌+◌, Some, length};
-ghost use Rattle.netlink_input.specs.Pcap.{is_pcap, layout_of, link_type_name, number_in, order_of, pcap_layout, pcap_text, unread};
+ghost use Rattle.netlink_input.specs.Pcap.{is_nano, is_pcap, layout_of, link_type_name, number_in, order_of, pcap_layout, pcap_text, unread};
 
 use crate::stream::{Cause, Stop};
 use netlink_packet_core::{parse_u16_be, parse_u16_le, parse_u32_be, parse_u32_le, u32_at};
@@ -198,8 +198,8 @@ pub fn u32_in(order: Order, bytes: &[u8], at: usize) -> u32
     number.unwrap_or(0)
 }
 
-/// Returns the byte order of a pcap file by its magic number, read as little-endian, and `None` if it
-/// is not that of a pcap file.
+/// Returns the byte order of a pcap file by its magic number, read as little-endian, and `None` if
+/// it is not that of a pcap file.
 fn order_of(magic: u32) -> Option<Order>
     ensures { result ≡ order_of magic }
 {
@@ -217,6 +217,15 @@ pub fn is_pcap(first: &[u8]) -> bool
     ensures { result ≡ is_pcap first.now }
 {
     first.len() >= MAGIC_LEN && order_of(u32_at(first, 0)).is_some()
+}
+
+/// Returns whether the times of a pcap file with this byte order, which starts so, are in
+/// nanoseconds.
+pub fn is_nano(order: Order, first: &[u8]) -> bool
+    requires magic { 4 ≤ length first.now }
+    ensures { result ≡ is_nano order first.now }
+{
+    u32_in(order, first, 0) == NANOSECONDS
 }
 
 /// Returns what an input is, by its first bytes: four, or all if it has fewer, and the whole header

@@ -1,12 +1,12 @@
 -- A run over the blocks of a pcapng file: what its loop keeps besides what others do, and how it ends.
-use Rattle.std.proofs.Common.{◌≡◌, ◌≢◌, ◌<◌, ◌≤◌, ◌+◌, ◌-◌, ◌∙◌, refl, ℕ, List, [], ◌∷◌, ◌++◌, Option, Some, None, IfSome, Result, Ok, Err, drop, take, length, ap, sym, subst, arith, inl, inr, append-nil, length-append, length-drop}
+use Rattle.std.proofs.Common.{◌≡◌, ◌≢◌, ◌<◌, ◌≤◌, ◌+◌, ◌-◌, ◌∙◌, refl, ℕ, List, [], ◌∷◌, ◌++◌, Option, Some, None, IfSome, Result, Ok, Err, drop, take, length, ap, sym, subst, arith, inl, inr, append-nil}
 use Rattle.std.proofs.lemmas.List.{drop_at}
 use Rattle.std.specs.Io.KnownBytes.{Appends, Consumes, IsAtEnd, prepend_known}
 use Rattle.std.specs.Prelude.{Bool, ◌⊎◌, ⊤}
 use Rattle.netlink_lines.specs.Blocks.{HasBlock, HoldsNext, IsBlockStop, StartsBlock, TellsBlock, blocks_of}
-use Rattle.netlink_lines.specs.Format.{Format, StopsAs, ShowsAll, told_from}
-use Rattle.netlink_lines.specs.Messages.{Check, Lines, Memory}
-use Rattle.netlink_lines.specs.Packet.{Packet, packet_leaves, packet_lines}
+use Rattle.netlink_lines.specs.Format.{Format, StopsAs, ShowsAll}
+use Rattle.netlink_lines.specs.Messages.{Check, Lines, Memory, stamped}
+use Rattle.netlink_lines.specs.Packet.{Stamped, packet_leaves, packet_lines, stamped_leaves, stamped_lines}
 use Rattle.netlink_lines.specs.Run.{RunsOver, end_of}
 use Rattle.netlink_input.specs.Block.{head_size, kept_by, start}
 use Rattle.netlink_input.specs.BlockLaws.{block_head, block_more, head_least, kept_more}
@@ -23,11 +23,11 @@ use Rattle.netlink_input.specs.declared.stream.Cause.TheVariants.{Pcap}
 use Rattle.netlink_input.specs.declared.stream.Stop.{Stop}
 use Rattle.netlink_lines.proofs.Reaching.{passes_push, reaches_once}
 use Rattle.netlink_lines.proofs.Running.{Ended, IsShown, Kept, at_the_end, no_one, no_write, runs, without_memory}
-use Rattle.netlink_lines.proofs.Steps.{StopsAt, TriesOne, known, stops_here}
+use Rattle.netlink_lines.proofs.Steps.{StopsAt, TriesOne, stops_here}
 
 -- ---- the blocks of a reader whose bytes are known or not
 
-abbrev pub StartsKnown : Option (List ℕ) → ℕ → List ℕ → Packet → List ℕ → Type 0
+abbrev pub StartsKnown : Option (List ℕ) → ℕ → List ℕ → Stamped → List ℕ → Type 0
 StartsKnown None end bytes shown rest = Unit {0}
 StartsKnown (Some input) end bytes shown rest = StartsBlock input end bytes shown rest
 
@@ -39,14 +39,14 @@ abbrev pub HoldsKnown : Option (List ℕ) → List ℕ → List ℕ → Type 0
 HoldsKnown None rest front = ⊥
 HoldsKnown (Some input) rest front = HoldsNext input rest front
 
-abbrev pub known_blocks : Check → Option (List ℕ) → Format Packet
+abbrev pub known_blocks : Check → Option (List ℕ) → Format Stamped
 known_blocks check old = record {
   starts = StartsKnown old;
   stops = StopsKnown old;
   parts = λ end bytes stop last. last ≡ [];
   holds = HoldsKnown old;
-  lines = packet_lines check;
-  leaves = packet_leaves check;
+  lines = stamped_lines check;
+  leaves = stamped_leaves check;
 }
 
 -- the blocks so far leave this section
@@ -76,13 +76,13 @@ reaches_next (Some input) (Some rest) (Some after) section bytes block (blocks, 
     )
 
 -- the next block, whatever it is
-is_block : (check : Check) (old now : Option (List ℕ)) (section : Section) (at : ℕ) (bytes : List ℕ) (block : Block) (shown : Packet)
+is_block : (check : Check) (old now : Option (List ℕ)) (section : Section) (at : ℕ) (bytes : List ℕ) (block : Block) (shown : Stamped)
     → ReachesKnown old now section → length bytes ≡ block.size → 0 < block.size → block_in section bytes ≡ Ok block
-    → kept_by block.packet (head_size section.order bytes) ≤ length bytes → HasBlock at block.packet (kept_of section block bytes) shown
+    → kept_by block.packet (head_size section.order bytes) ≤ length bytes → shown.time ≡ block.time → HasBlock at block.packet (kept_of section block bytes) shown.packet
     → (end : ℕ) (whole after : List ℕ) → now ≡ Some whole → whole ≡ bytes ++ after → at ≡ end - length whole
     → StartsKnown old end whole shown after
-is_block check None now section at bytes block shown reached size some is fits has end whole after there same place = tt
-is_block check (Some input) now section at bytes block shown reached size some is fits has end whole after there same place =
+is_block check None now section at bytes block shown reached size some is fits timely has end whole after there same place = tt
+is_block check (Some input) now section at bytes block shown reached size some is fits timely has end whole after there same place =
     let here : Reaches input whole section = subst (λ (o : Option (List ℕ)). ReachesKnown (Some input) o section) there reached in
     record {
       section = section;
@@ -91,28 +91,29 @@ is_block check (Some input) now section at bytes block shown reached size some i
       some = some;
       is = ap (block_in section) same ∙ block_more section bytes after block is;
       after = sym (ap (drop block.size) same ∙ drop_at bytes after block.size size);
+      time = timely;
       content =
-          subst (λ (n : ℕ). HasBlock n block.packet (kept_of section block whole) shown) place
-          (subst (λ (l : List ℕ). HasBlock at block.packet l shown)
+          subst (λ (n : ℕ). HasBlock n block.packet (kept_of section block whole) shown.packet) place
+          (subst (λ (l : List ℕ). HasBlock at block.packet l shown.packet)
           (sym (ap (kept_of section block) same ∙ kept_more section bytes after block is fits)) has);
     }
 
 pub block_shown : (check : Check) (old now left : Option (List ℕ)) (section : Section) (at : ℕ) (kept view : List ℕ) (found : NextBlock)
-    (block : Block) (state : Memory) (lines : Lines) (after : Memory) → ReachesKnown old now section
+    (block : Block) (state stamp : Memory) (lines : Lines) (after : Memory) → ReachesKnown old now section
     → GivesBlock section now left kept found → found ≡ next.Block block → view ≡ kept
-    → TellsBlock check block.packet at view state lines after
+    → stamp ≡ stamped state block.time → TellsBlock check block.packet at view stamp lines after
     → (bytes : List ℕ) × IsShown (known_blocks check old) now left at bytes 0 state lines after × (length bytes ≡ block.size)
     × ReachesKnown old left block.section
-block_shown check old now left section at kept view found block state lines after reached gives is same tells =
+block_shown check old now left section at kept view found block state stamp lines after reached gives is same timed tells =
     let (bytes, took, size, some, read, fits, keeps) = subst (GivesBlock section now left kept) is gives in
-    let (shown, has, said, leaves) = subst (λ (l : List ℕ). TellsBlock check block.packet at l state lines after) (same ∙ keeps) tells in (
+    let (shown, has, said, leaves) = subst (λ (l : List ℕ). TellsBlock check block.packet at l stamp lines after) (same ∙ keeps) tells in (
       bytes,
       record {
         took = took;
-        one = shown;
-        is = is_block check old now section at bytes block shown reached size some read fits has;
-        tells = said;
-        leaves = leaves;
+        one = record { time = block.time; packet = shown };
+        is = is_block check old now section at bytes block (record { time = block.time; packet = shown }) reached size some read fits refl has;
+        tells = said ∙ ap (λ (m : Memory). packet_lines check m shown) timed;
+        leaves = leaves ∙ ap (λ (m : Memory). packet_leaves check m shown) timed;
       },
       size,
       reaches_next old now left section bytes block reached took size some read,
@@ -129,7 +130,7 @@ block_stop check None (Some rest) section at why reached (some, is) = (some, λ 
 block_stop check (Some input) (Some rest) section at why reached (some, is) =
     (some, λ end place. record { section = section; reached = reached; place = place; cause = is })
 
-without_part : (check : Check) (old input : Option (List ℕ)) (base : ℕ) (done : List Packet) (stop : Stop)
+without_part : (check : Check) (old input : Option (List ℕ)) (base : ℕ) (done : List Stamped) (stop : Stop)
     → IfSome input (λ bytes. ShowsAll (known_blocks check old) (base + length bytes) bytes done (Some stop))
     → IfSome input (λ bytes. StopsAs (known_blocks check old) (base + length bytes) bytes done stop)
 without_part check old None base done stop shows = tt
@@ -156,7 +157,7 @@ pub at_block_stop : (check : Check) (memory : Memory) (old now left start end : 
     → IfSome now (λ rest. (rest ≢ []) × (block_in section rest ≡ Err why))
     → RunsKnown check memory old left start end state (Err (fault.Stopped (record { at = at; cause = Pcap why })))
 at_block_stop check memory old now left start end section at state malformed why k reached is =
-    let f : Format Packet = known_blocks check old in
+    let f : Format Stamped = known_blocks check old in
     ends_known check memory old left start end state (Err (fault.Stopped (record { at = at; cause = Pcap why })))
     (runs f memory 0 old left start end k.done state (Err (fault.Stopped (record { at = at; cause = Pcap why })))
     (without_part check old old 0 k.done (record { at = at; cause = Pcap why })

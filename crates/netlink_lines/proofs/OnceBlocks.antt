@@ -2,7 +2,7 @@
 use Rattle.std.proofs.Common.{◌≡◌, ◌+◌, ◌-◌, ◌∙◌, ap, arith, sym, subst, ℕ, List, [], drop, length, Option, Some, None, Result, Ok, Err}
 use Rattle.netlink_packet_core.specs.Walks.{StepLaws, walks_once}
 use Rattle.netlink_lines.specs.Blocks.{HasBlock, IsBlockCause, IsBlockStop, ShowsBlocks, StartsBlock}
-use Rattle.netlink_lines.specs.Packet.{Packet, content_of}
+use Rattle.netlink_lines.specs.Packet.{Packet, Stamped, content_of}
 use Rattle.netlink_input.specs.BlockLaws.{block_head, head_least}
 use Rattle.netlink_input.specs.Blocks.{block_in, kept_of}
 use Rattle.netlink_input.specs.declared.block.Block.{Block}
@@ -12,7 +12,7 @@ use Rattle.netlink_input.specs.declared.pcap.PcapFault.{PcapFault}
 use Rattle.netlink_input.specs.declared.stream.Cause.{Cause}
 use Rattle.netlink_input.specs.declared.stream.Cause.TheVariants.{Pcap}
 use Rattle.netlink_input.specs.declared.stream.Stop.{Stop}
-use Rattle.netlink_lines.proofs.OncePackets.{content_once}
+use Rattle.netlink_lines.proofs.OncePackets.{content_once, stamped_once}
 use Rattle.netlink_lines.proofs.Reaching.{ok_same, reaches_once}
 
 shown_once : (at : ℕ) (packet : Option Extent) (kept : List ℕ) (a b : Packet) → HasBlock at packet kept a
@@ -21,21 +21,22 @@ shown_once at None kept a b first second = first ∙ sym second
 shown_once at (Some extent) kept a b first second =
     content_once at (extent.from + 16) kept (content_of extent kept) a b first second
 
-block_once : (input : List ℕ) (end : ℕ) (bytes : List ℕ) (a b : Packet) (rest other : List ℕ)
+block_once : (input : List ℕ) (end : ℕ) (bytes : List ℕ) (a b : Stamped) (rest other : List ℕ)
     → StartsBlock input end bytes a rest → StartsBlock input end bytes b other → (a ≡ b) × (rest ≡ other)
 block_once input end bytes a b rest other first second =
     let section : first.section ≡ second.section = reaches_once input bytes first.section second.section first.reached second.reached in
     let block : first.block ≡ second.block =
     ok_same (block_in second.section bytes) first.block second.block
     (subst (λ (s : Section). block_in s bytes ≡ Ok first.block) section first.is) second.is in
-    let moved : HasBlock (end - length bytes) first.block.packet (kept_of second.section first.block bytes) a =
-    subst (λ (s : Section). HasBlock (end - length bytes) first.block.packet (kept_of s first.block bytes) a) section first.content in (
-      shown_once (end - length bytes) second.block.packet (kept_of second.section second.block bytes) a b
-          (subst (λ (one : Block). HasBlock (end - length bytes) one.packet (kept_of second.section one bytes) a) block moved) second.content,
+    let moved : HasBlock (end - length bytes) first.block.packet (kept_of second.section first.block bytes) a.packet =
+    subst (λ (s : Section). HasBlock (end - length bytes) first.block.packet (kept_of s first.block bytes) a.packet) section first.content in (
+      stamped_once a b (first.time ∙ ap (λ (one : Block). one.time) block ∙ sym second.time)
+          (shown_once (end - length bytes) second.block.packet (kept_of second.section second.block bytes) a.packet b.packet
+          (subst (λ (one : Block). HasBlock (end - length bytes) one.packet (kept_of second.section one bytes) a.packet) block moved) second.content),
       first.after ∙ ap (λ (one : Block). drop one.size bytes) block ∙ sym second.after,
     )
 
-no_block_starts : (input : List ℕ) (end : ℕ) (bytes : List ℕ) (shown : Packet) (rest : List ℕ) → bytes ≡ []
+no_block_starts : (input : List ℕ) (end : ℕ) (bytes : List ℕ) (shown : Stamped) (rest : List ℕ) → bytes ≡ []
     → StartsBlock input end bytes shown rest → ⊥
 no_block_starts input end bytes shown rest none starts =
     let some = block_head starts.section bytes starts.block starts.is in
@@ -46,7 +47,7 @@ no_cause_of : (section : Section) (bytes : List ℕ) (block : Block) (cause : Ca
 no_cause_of section bytes block (Pcap why) is that = absurd cc
 no_cause_of section bytes block _ is that = absurd that
 
-no_block_cause : (input : List ℕ) (end : ℕ) (bytes : List ℕ) (shown : Packet) (rest : List ℕ) (stop : Stop)
+no_block_cause : (input : List ℕ) (end : ℕ) (bytes : List ℕ) (shown : Stamped) (rest : List ℕ) (stop : Stop)
     → StartsBlock input end bytes shown rest → IsBlockStop input end bytes stop → ⊥
 no_block_cause input end bytes shown rest stop starts is =
     no_cause_of is.section bytes starts.block stop.cause
@@ -80,6 +81,6 @@ block_laws input end = record {
   fault_once = block_stop_once input end;
 }
 
-pub blocks_once : (input : List ℕ) (end : ℕ) (bytes : List ℕ) (all more : List Packet) (s t : Option Stop)
+pub blocks_once : (input : List ℕ) (end : ℕ) (bytes : List ℕ) (all more : List Stamped) (s t : Option Stop)
     → ShowsBlocks input end bytes all s → ShowsBlocks input end bytes more t → (all ≡ more) × (s ≡ t)
 blocks_once input end = walks_once (block_laws input end)

@@ -4,7 +4,7 @@ use Rattle.std.proofs.lemmas.List.{append_cancel_left, take_at}
 use Rattle.std.specs.Prelude.{Bool, true, false}
 use Rattle.netlink_packet_core.specs.Walks.{StepLaws, walks_once}
 use Rattle.netlink_lines.specs.Messages.{Lines, Seen}
-use Rattle.netlink_lines.specs.Packet.{HasContent, HasExtent, HasTorn, IsDatagram, IsTornBy, Packet, ShowsPackets, StartsPacket, content_lines, content_of, from_stop, is_route, stop_lines, torn_by, with_line}
+use Rattle.netlink_lines.specs.Packet.{HasContent, HasExtent, HasTorn, IsDatagram, IsTornBy, Packet, ShowsPackets, Stamped, StartsPacket, content_lines, content_of, from_stop, is_route, stop_lines, torn_by, with_line}
 use Rattle.netlink_input.specs.Packet.{IsPacketCause, IsPacketFault, IsPacketStop, IsWholePacket, captured_of, extent_of}
 use Rattle.netlink_lines.specs.declared.packet.Content.{Content}
 use Rattle.netlink_lines.specs.declared.packet.Content.TheVariants as content
@@ -14,6 +14,8 @@ use Rattle.netlink_input.specs.declared.pcap.PcapFault.TheVariants.{PacketShort,
 use Rattle.netlink_input.specs.declared.stream.Cause.{Cause}
 use Rattle.netlink_input.specs.declared.stream.Cause.TheVariants.{Pcap}
 use Rattle.netlink_input.specs.declared.stream.Stop.{Stop}
+use Rattle.netlink_input.specs.declared.time.Time.{Time}
+use Rattle.netlink_input.specs.Time.{pcap_time}
 use Rattle.netlink_lines.proofs.Once.{messages_once}
 use Rattle.netlink_input.specs.PacketLaws.{captured_in}
 
@@ -60,43 +62,49 @@ packet_same order bytes first second rest other whole also is that =
     ∙ take_at second other (length first) size in
     (same, append_cancel_left first rest other (sym is ∙ that ∙ ap (λ (l : List ℕ). l ++ other) (sym same)))
 
-packet_once : (order : Order) (end : ℕ) (bytes : List ℕ) (a b : Packet) (rest other : List ℕ)
-    → StartsPacket order end bytes a rest → StartsPacket order end bytes b other → (a ≡ b) × (rest ≡ other)
-packet_once order end bytes a b rest other first second =
+pub stamped_once : (a b : Stamped) → a.time ≡ b.time → a.packet ≡ b.packet → a ≡ b
+stamped_once a b time packet =
+    ap (λ (t : Option Time). record { time = t; packet = a.packet }) time
+    ∙ ap (λ (p : Packet). record { time = b.time; packet = p }) packet
+
+packet_once : (order : Order) (nano : Bool) (end : ℕ) (bytes : List ℕ) (a b : Stamped) (rest other : List ℕ)
+    → StartsPacket order nano end bytes a rest → StartsPacket order nano end bytes b other → (a ≡ b) × (rest ≡ other)
+packet_once order nano end bytes a b rest other first second =
     let same = packet_same order bytes first.packet second.packet rest other first.size second.size first.whole second.whole in (
-      content_once (end - length bytes) 32 second.packet (content_of (extent_of order second.packet) second.packet) a b
-          (subst (λ (p : List ℕ). HasExtent (end - length bytes) (extent_of order p) p a) same.0 first.content) second.content,
+      stamped_once a b (first.time ∙ ap (pcap_time order nano) same.0 ∙ sym second.time)
+          (content_once (end - length bytes) 32 second.packet (content_of (extent_of order second.packet) second.packet) a.packet b.packet
+          (subst (λ (p : List ℕ). HasExtent (end - length bytes) (extent_of order p) p a.packet) same.0 first.content) second.content),
       same.1,
     )
 
-no_packet_starts : (order : Order) (end : ℕ) (bytes : List ℕ) (shown : Packet) (rest : List ℕ) → bytes ≡ []
-    → StartsPacket order end bytes shown rest → ⊥
-no_packet_starts order end bytes shown rest none starts =
+no_packet_starts : (order : Order) (nano : Bool) (end : ℕ) (bytes : List ℕ) (shown : Stamped) (rest : List ℕ) → bytes ≡ []
+    → StartsPacket order nano end bytes shown rest → ⊥
+no_packet_starts order nano end bytes shown rest none starts =
     let long = ap length (sym none ∙ starts.whole) in
     let parts = length-append starts.packet rest in
     omega (arith, long, parts, starts.size.0)
 
 -- ---- bytes have one cause to stop, or none
 
-no_packet_fault : (order : Order) (end : ℕ) (bytes : List ℕ) (shown : Packet) (rest : List ℕ) (why : PcapFault)
-    → StartsPacket order end bytes shown rest → IsPacketFault order bytes why → ⊥
-no_packet_fault order end bytes shown rest (PacketShort size) starts (short, is) =
+no_packet_fault : (order : Order) (nano : Bool) (end : ℕ) (bytes : List ℕ) (shown : Stamped) (rest : List ℕ) (why : PcapFault)
+    → StartsPacket order nano end bytes shown rest → IsPacketFault order bytes why → ⊥
+no_packet_fault order nano end bytes shown rest (PacketShort size) starts (short, is) =
     let long = ap length starts.whole ∙ length-append starts.packet rest in
     omega (arith, long, short, starts.size.0)
-no_packet_fault order end bytes shown rest (PacketLong said) starts (long, is, high) =
+no_packet_fault order nano end bytes shown rest (PacketLong said) starts (long, is, high) =
     let same = captured_at order bytes starts.packet rest starts.size starts.whole in
     omega (arith, is, high, same, starts.most)
-no_packet_fault order end bytes shown rest (PacketCut said size) starts (least, is, most, short, less) =
+no_packet_fault order nano end bytes shown rest (PacketCut said size) starts (least, is, most, short, less) =
     let same = captured_at order bytes starts.packet rest starts.size starts.whole in
     let long = ap length starts.whole ∙ length-append starts.packet rest in
     omega (arith, is, short, less, same, long, starts.size.1)
-no_packet_fault order end bytes shown rest _ starts is = absurd is
+no_packet_fault order nano end bytes shown rest _ starts is = absurd is
 
-no_packet_cause : (order : Order) (end : ℕ) (bytes : List ℕ) (shown : Packet) (rest : List ℕ) (cause : Cause)
-    → StartsPacket order end bytes shown rest → IsPacketCause order bytes cause → ⊥
-no_packet_cause order end bytes shown rest (Pcap why) starts is =
-    no_packet_fault order end bytes shown rest why starts is
-no_packet_cause order end bytes shown rest _ starts is = absurd is
+no_packet_cause : (order : Order) (nano : Bool) (end : ℕ) (bytes : List ℕ) (shown : Stamped) (rest : List ℕ) (cause : Cause)
+    → StartsPacket order nano end bytes shown rest → IsPacketCause order bytes cause → ⊥
+no_packet_cause order nano end bytes shown rest (Pcap why) starts is =
+    no_packet_fault order nano end bytes shown rest why starts is
+no_packet_cause order nano end bytes shown rest _ starts is = absurd is
 
 packet_fault_once : (order : Order) (bytes : List ℕ) (e f : PcapFault) → IsPacketFault order bytes e
     → IsPacketFault order bytes f → e ≡ f
@@ -136,22 +144,23 @@ torn_once : (b : Bool) (at : ℕ) (bytes : List ℕ) (s t : Packet) → IsTornBy
 torn_once true at bytes s t first second = datagram_once true (at + 32) (drop 32 bytes) s t first second
 torn_once false at bytes s t first second = first ∙ sym second
 
-pub parts_once : (end : ℕ) (bytes : List ℕ) (stop : Stop) (last more : List Packet) → HasTorn end bytes stop last
-    → HasTorn end bytes stop more → last ≡ more
-parts_once end bytes stop last more (s, is, torn) (t, that, also) =
+pub parts_once : (order : Order) (nano : Bool) (end : ℕ) (bytes : List ℕ) (stop : Stop) (last more : List Stamped)
+    → HasTorn order nano end bytes stop last → HasTorn order nano end bytes stop more → last ≡ more
+parts_once order nano end bytes stop last more (s, is, timely, torn) (t, that, then, also) =
     let left : List ℕ = torn_by stop.cause (from_stop (end - length bytes) bytes stop) in
-    is ∙ ap (λ (p : Packet). p ∷ []) (torn_once (is_route 16 left) stop.at left s t torn also) ∙ sym that
+    is ∙ ap (λ (p : Stamped). p ∷ [])
+    (stamped_once s t (timely ∙ sym then) (torn_once (is_route 16 left) stop.at left s.packet t.packet torn also)) ∙ sym that
 
 -- ---- bytes show one list
 
-packet_laws : (order : Order) (end : ℕ) → StepLaws (StartsPacket order end) (IsPacketStop order end)
-packet_laws order end = record {
-  once = packet_once order end;
-  nothing = no_packet_starts order end;
-  fault = λ bytes shown rest stop starts is. no_packet_cause order end bytes shown rest stop.cause starts is.cause;
+packet_laws : (order : Order) (nano : Bool) (end : ℕ) → StepLaws (StartsPacket order nano end) (IsPacketStop order end)
+packet_laws order nano end = record {
+  once = packet_once order nano end;
+  nothing = no_packet_starts order nano end;
+  fault = λ bytes shown rest stop starts is. no_packet_cause order nano end bytes shown rest stop.cause starts is.cause;
   fault_once = packet_stop_once order end;
 }
 
-pub packets_once : (order : Order) (end : ℕ) (bytes : List ℕ) (all more : List Packet) (s t : Option Stop)
-    → ShowsPackets order end bytes all s → ShowsPackets order end bytes more t → (all ≡ more) × (s ≡ t)
-packets_once order end = walks_once (packet_laws order end)
+pub packets_once : (order : Order) (nano : Bool) (end : ℕ) (bytes : List ℕ) (all more : List Stamped) (s t : Option Stop)
+    → ShowsPackets order nano end bytes all s → ShowsPackets order nano end bytes more t → (all ≡ more) × (s ≡ t)
+packets_once order nano end = walks_once (packet_laws order nano end)

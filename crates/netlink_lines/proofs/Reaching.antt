@@ -1,5 +1,5 @@
 -- The blocks at the start of an input leave one section.
-use Rattle.std.proofs.Common.{◌≡◌, ◌<◌, ◌≤◌, ◌-◌, ◌∙◌, refl, ℕ, List, [], ◌∷◌, ◌++◌, Result, Ok, drop, length, ap, sym, subst, arith, length-drop}
+use Rattle.std.proofs.Common.{◌≡◌, ◌<◌, ◌≤◌, ◌∙◌, refl, ℕ, List, [], ◌∷◌, ◌++◌, Result, Ok, drop, length, ap, sym, subst, arith, length-drop}
 use Rattle.netlink_input.specs.Block.{start}
 use Rattle.netlink_input.specs.BlockLaws.{head_least, block_head}
 use Rattle.netlink_input.specs.Blocks.{PassesBlocks, Reaches, block_in}

@@ -6,10 +6,11 @@ use Rattle.std.specs.Io.KnownBytes.{Appends, Consumes, IsAtEnd}
 use Rattle.std.specs.Prelude.{Bool, true, false, ◌||◌, ◌⊎◌, ⊤}
 use Rattle.netlink_packet_core.specs.Attribute.{padding}
 use Rattle.netlink_lines.specs.Format.{Format, Told, told_from}
-use Rattle.netlink_lines.specs.Messages.{Check, Lines, Memory, Tells}
-use Rattle.netlink_lines.specs.Packet.{Packet, TellsPacket, TellsTorn, packets_of}
+use Rattle.netlink_lines.specs.Messages.{Check, Lines, Memory, Tells, stamped}
+use Rattle.netlink_lines.specs.Packet.{Stamped, TellsPacket, TellsTorn, packet_leaves, packet_lines, packets_of}
 use Rattle.netlink_input.specs.Packet.{IsPacketFault, torn_of}
 use Rattle.netlink_input.specs.Reading.{GivesNext, GivesPacket, Skips, SkipsPart}
+use Rattle.netlink_input.specs.Time.{pcap_time}
 use Rattle.netlink_lines.specs.Run.{EndsOver, Leaves, Reads, RunsOver, Writes, WritesTorn, end_by, end_of, end_with}
 use Rattle.netlink_lines.specs.Stream.{messages_of}
 use Rattle.netlink_input.specs.declared.packet.NextPacket.{NextPacket}
@@ -60,19 +61,20 @@ frame_shown check now left at frame view next state lines after gives is same te
       leaves = leaves;
     }
 
-pub packet_shown : (check : Check) (order : Order) (now left : Option (List ℕ)) (at : ℕ) (packet view : List ℕ)
-    (next : NextPacket) (state : Memory) (lines : Lines) (after : Memory) → GivesPacket order now left packet next
-    → next ≡ packet_next.Packet → view ≡ packet → TellsPacket check order at view state lines after
-    → IsShown (packets_of check order) now left at packet 0 state lines after
-packet_shown check order now left at packet view next state lines after gives is same tells =
+pub packet_shown : (check : Check) (order : Order) (nano : Bool) (now left : Option (List ℕ)) (at : ℕ) (packet view : List ℕ)
+    (next : NextPacket) (state stamp : Memory) (lines : Lines) (after : Memory) → GivesPacket order now left packet next
+    → next ≡ packet_next.Packet → view ≡ packet → stamp ≡ stamped state (pcap_time order nano packet)
+    → TellsPacket check order at view stamp lines after
+    → IsShown (packets_of check order nano) now left at packet 0 state lines after
+packet_shown check order nano now left at packet view next state stamp lines after gives is same timed tells =
     let (took, whole, most) = subst (GivesPacket order now left packet) is gives in
-    let (shown, has, said, leaves) = subst (λ (p : List ℕ). TellsPacket check order at p state lines after) same tells in
+    let (shown, has, said, leaves) = subst (λ (p : List ℕ). TellsPacket check order at p stamp lines after) same tells in
     record {
       took = took;
-      one = shown;
-      is = is_packet check order now at packet shown whole most has;
-      tells = said;
-      leaves = leaves;
+      one = record { time = pcap_time order nano packet; packet = shown };
+      is = is_packet check order nano now at packet (record { time = pcap_time order nano packet; packet = shown }) whole most refl has;
+      tells = said ∙ ap (λ (m : Memory). packet_lines check m shown) timed;
+      leaves = leaves ∙ ap (λ (m : Memory). packet_leaves check m shown) timed;
     }
 
 -- what is told after one more, which has these lines and leaves this
@@ -166,43 +168,47 @@ pub left_here : (order : Order) (why : PcapFault) (kept : List ℕ) (now : Optio
 left_here order why kept None is same = tt
 left_here order why kept (Some rest) is same = (is, same)
 
-pub at_torn_stop : (check : Check) (order : Order) (memory : Memory) (base : ℕ) (old now left start before end : Option (List ℕ))
-    (at : ℕ) (state : Memory) (malformed : Bool) (why : PcapFault) (kept : List ℕ) (lines : Lines) (after : Memory)
-    → Kept (packets_of check order) memory base old now start before 0 at state malformed → IfSome now (IsLeft order why kept)
-    → TellsTorn check at (torn_of why kept) state lines after → Appends before end lines.0
-    → Ended (packets_of check order) memory base old left start end after
+pub at_torn_stop : (check : Check) (order : Order) (nano : Bool) (memory : Memory) (base : ℕ) (old now left start before end : Option (List ℕ))
+    (at : ℕ) (state : Memory) (malformed : Bool) (why : PcapFault) (kept : List ℕ) (stamp : Memory) (lines : Lines) (after : Memory)
+    → Kept (packets_of check order nano) memory base old now start before 0 at state malformed → IfSome now (IsLeft order why kept)
+    → stamp ≡ stamped state (pcap_time order nano (torn_of why kept)) → TellsTorn check at (torn_of why kept) stamp lines after → Appends before end lines.0
+    → Ended (packets_of check order nano) memory base old left start end after
     (Err (fault.Stopped (record { at = at; cause = Pcap why })))
-at_torn_stop check order memory base None now left start before end at state malformed why kept lines after k is tells more = tt
-at_torn_stop check order memory base (Some input) None left start before end at state malformed why kept lines after k is tells more =
+at_torn_stop check order nano memory base None now left start before end at state malformed why kept stamp lines after k is timed tells more = tt
+at_torn_stop check order nano memory base (Some input) None left start before end at state malformed why kept stamp lines after k is timed tells more =
     absurd k.passed
-at_torn_stop check order memory base (Some input) (Some rest) left start before end at state malformed why kept lines after k is (shown, torn, said, leaves) more =
-    let f : Format Packet = packets_of check order in
-    let told = told_more f memory k.done shown state after lines malformed k.leaves k.any said leaves in (
+at_torn_stop check order nano memory base (Some input) (Some rest) left start before end at state malformed why kept stamp lines after k is timed (packet, torn, said, leaves) more =
+    let f : Format Stamped = packets_of check order nano in
+    let shown : Stamped = record { time = pcap_time order nano (torn_of why kept); packet = packet } in
+    let told = told_more f memory k.done shown state after lines malformed k.leaves k.any
+    (said ∙ ap (λ (m : Memory). packet_lines check m packet) timed) (leaves ∙ ap (λ (m : Memory). packet_leaves check m packet) timed) in (
       k.done ++ (shown ∷ []),
-      stops_torn check order base input rest k.done at why kept shown k.passed is.0 is.1 torn,
+      stops_torn check order nano base input rest k.done at why kept shown k.passed is.0 is.1 refl torn,
       subst (Appends start end) (sym (ap (λ (t : Told). t.text) told))
           (Appends-trans start before end (told_from f memory k.done).text lines.0 k.wrote more),
       sym (ap (λ (t : Told). t.memory) told),
     )
 
 -- a part of these lines was written
-no_torn_write : (check : Check) (order : Order) (memory : Memory) (base : ℕ) (old now left start before end : Option (List ℕ))
-    (at : ℕ) (state : Memory) (malformed : Bool) (why : PcapFault) (kept : List ℕ) (lines : Lines) (after : Memory)
-    → Kept (packets_of check order) memory base old now start before 0 at state malformed → IfSome now (IsLeft order why kept)
-    → TellsTorn check at (torn_of why kept) state lines after → (n : ℕ) × (n ≤ length lines.0) × Appends before end (take n lines.0)
-    → Ended (packets_of check order) memory base old left start end after (Err fault.Write)
-no_torn_write check order memory base None now left start before end at state malformed why kept lines after k is tells more = tt
-no_torn_write check order memory base (Some input) None left start before end at state malformed why kept lines after k is tells more =
+no_torn_write : (check : Check) (order : Order) (nano : Bool) (memory : Memory) (base : ℕ) (old now left start before end : Option (List ℕ))
+    (at : ℕ) (state : Memory) (malformed : Bool) (why : PcapFault) (kept : List ℕ) (stamp : Memory) (lines : Lines) (after : Memory)
+    → Kept (packets_of check order nano) memory base old now start before 0 at state malformed → IfSome now (IsLeft order why kept)
+    → stamp ≡ stamped state (pcap_time order nano (torn_of why kept)) → TellsTorn check at (torn_of why kept) stamp lines after → (n : ℕ) × (n ≤ length lines.0) × Appends before end (take n lines.0)
+    → Ended (packets_of check order nano) memory base old left start end after (Err fault.Write)
+no_torn_write check order nano memory base None now left start before end at state malformed why kept stamp lines after k is timed tells more = tt
+no_torn_write check order nano memory base (Some input) None left start before end at state malformed why kept stamp lines after k is timed tells more =
     absurd k.passed
-no_torn_write check order memory base (Some input) (Some rest) left start before end at state malformed why kept lines after k is (shown, torn, said, leaves) (n, few, more) =
-    let f : Format Packet = packets_of check order in
-    let told = told_more f memory k.done shown state after lines malformed k.leaves k.any said leaves in
+no_torn_write check order nano memory base (Some input) (Some rest) left start before end at state malformed why kept stamp lines after k is timed (packet, torn, said, leaves) (n, few, more) =
+    let f : Format Stamped = packets_of check order nano in
+    let shown : Stamped = record { time = pcap_time order nano (torn_of why kept); packet = packet } in
+    let told = told_more f memory k.done shown state after lines malformed k.leaves k.any
+    (said ∙ ap (λ (m : Memory). packet_lines check m packet) timed) (leaves ∙ ap (λ (m : Memory). packet_leaves check m packet) timed) in
     let so_far : List ℕ = (told_from f memory k.done).text in
     let split : (told_from f memory (k.done ++ (shown ∷ []))).text ≡ (so_far ++ take n lines.0) ++ drop n lines.0 =
     ap (λ (t : Told). t.text) told ∙ ap (λ (l : List ℕ). so_far ++ l) (sym (take-append-drop n lines.0))
     ∙ sym (append_assoc so_far (take n lines.0) (drop n lines.0)) in (
       k.done ++ (shown ∷ []),
-      inr (record { at = at; cause = Pcap why }, stops_torn check order base input rest k.done at why kept shown k.passed is.0 is.1 torn),
+      inr (record { at = at; cause = Pcap why }, stops_torn check order nano base input rest k.done at why kept shown k.passed is.0 is.1 refl torn),
       (so_far ++ take n lines.0, drop n lines.0, split, Appends-trans start before end so_far (take n lines.0) k.wrote more),
       sym (ap (λ (t : Told). t.memory) told),
     )
@@ -254,26 +260,27 @@ without_memory f memory base old now left start end at state malformed after k =
     (first_shown f base old now k.done 0 at k.passed) k.wrote tt
 
 -- the lines of what was left could not be written
-torn_ends : (check : Check) (order : Order) (memory : Memory) (base : ℕ) (old now left start before end : Option (List ℕ))
-    (at : ℕ) (state : Memory) (malformed : Bool) (why : PcapFault) (kept : List ℕ) (after : Memory) (fails : Fault)
-    → Kept (packets_of check order) memory base old now start before 0 at state malformed → IfSome now (IsLeft order why kept)
-    → WritesTorn {R = ⊤} check at (torn_of why kept) state after before end (Err fails)
-    → Ended (packets_of check order) memory base old left start end after (Err fails)
-torn_ends check order memory base old now left start before end at state malformed why kept after fault.Write k is (lines, tells, n, few, more) =
-    no_torn_write check order memory base old now left start before end at state malformed why kept lines after k is tells (n, few, more)
-torn_ends check order memory base old now left start before end at state malformed why kept after fault.OutOfMemory k is same =
-    subst (λ (e : Option (List ℕ)). Ended (packets_of check order) memory base old left start e after (Err fault.OutOfMemory)) (sym same)
-    (without_memory (packets_of check order) memory base old now left start before at state malformed after k)
-torn_ends check order memory base old now left start before end at state malformed why kept after other k is fails = absurd fails
+torn_ends : (check : Check) (order : Order) (nano : Bool) (memory : Memory) (base : ℕ) (old now left start before end : Option (List ℕ))
+    (at : ℕ) (state : Memory) (malformed : Bool) (why : PcapFault) (kept : List ℕ) (stamp after : Memory) (fails : Fault)
+    → Kept (packets_of check order nano) memory base old now start before 0 at state malformed → IfSome now (IsLeft order why kept)
+    → stamp ≡ stamped state (pcap_time order nano (torn_of why kept)) → WritesTorn {R = ⊤} check at (torn_of why kept) stamp after before end (Err fails)
+    → Ended (packets_of check order nano) memory base old left start end after (Err fails)
+torn_ends check order nano memory base old now left start before end at state malformed why kept stamp after fault.Write k is timed (lines, tells, n, few, more) =
+    no_torn_write check order nano memory base old now left start before end at state malformed why kept stamp lines after k is timed tells (n, few, more)
+torn_ends check order nano memory base old now left start before end at state malformed why kept stamp after fault.OutOfMemory k is timed same =
+    subst (λ (e : Option (List ℕ)). Ended (packets_of check order nano) memory base old left start e after (Err fault.OutOfMemory)) (sym same)
+    (without_memory (packets_of check order nano) memory base old now left start before at state malformed after k)
+torn_ends check order nano memory base old now left start before end at state malformed why kept stamp after other k is timed fails = absurd fails
 
-pub torn_fails : (check : Check) (order : Order) (memory : Memory) (base : ℕ) (old now left start before end : Option (List ℕ))
-    (at : ℕ) (state : Memory) (malformed : Bool) (why : PcapFault) (kept view : List ℕ) (after : Memory) (fails : Fault)
-    → Kept (packets_of check order) memory base old now start before 0 at state malformed → IfSome now (IsLeft order why kept)
-    → view ≡ kept → WritesTorn {R = ⊤} check at (torn_of why view) state after before end (Err fails)
-    → Ended (packets_of check order) memory base old left start end after (Err fails)
-torn_fails check order memory base old now left start before end at state malformed why kept view after fails k is same writes =
-    torn_ends check order memory base old now left start before end at state malformed why kept after fails k is
-    (subst (λ (l : List ℕ). WritesTorn {R = ⊤} check at (torn_of why l) state after before end (Err fails)) same writes)
+pub torn_fails : (check : Check) (order : Order) (nano : Bool) (memory : Memory) (base : ℕ) (old now left start before end : Option (List ℕ))
+    (at : ℕ) (state : Memory) (malformed : Bool) (why : PcapFault) (kept view : List ℕ) (stamp after : Memory) (fails : Fault)
+    → Kept (packets_of check order nano) memory base old now start before 0 at state malformed → IfSome now (IsLeft order why kept)
+    → view ≡ kept → stamp ≡ stamped state (pcap_time order nano (torn_of why kept))
+    → WritesTorn {R = ⊤} check at (torn_of why view) stamp after before end (Err fails)
+    → Ended (packets_of check order nano) memory base old left start end after (Err fails)
+torn_fails check order nano memory base old now left start before end at state malformed why kept view stamp after fails k is same timed writes =
+    torn_ends check order nano memory base old now left start before end at state malformed why kept stamp after fails k is timed
+    (subst (λ (l : List ℕ). WritesTorn {R = ⊤} check at (torn_of why l) stamp after before end (Err fails)) same writes)
 
 -- the reader gave no more, or too many messages or packets, or bytes
 pub failed_read : {A : Type 0} (f : Format A) (memory : Memory) (base : ℕ) (old now left start end : Option (List ℕ)) (at : ℕ)

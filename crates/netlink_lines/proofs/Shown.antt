@@ -12,13 +12,13 @@ use Rattle.netlink_replies.specs.Meaning.{Item, done_item, error_item, meaning}
 use Rattle.netlink_replies.specs.declared.reply.Reply.TheVariants.{Message, Overrun}
 use Rattle.netlink_lines.specs.Ack.{IsWords, marked_if}
 use Rattle.netlink_lines.proofs.Words.{no_words}
-use Rattle.netlink_lines.specs.Messages.{Check, HasLines, Lines, Memory, TellsMessage, bad, error_lines, family_lines, frame_lines, good, item_lines, is_named, known_after, timed, unless_time}
+use Rattle.netlink_lines.specs.Messages.{Check, HasLines, Lines, Memory, TellsMessage, bad, error_lines, family_lines, frame_lines, good, item_lines, is_named, known_after, time_or, timed, unless_time}
 use Rattle.netlink_lines.specs.Lines.{known_by}
 use Rattle.netlink_lines.specs.Time.{time_in, time_of}
 use Rattle.netlink_names.specs.declared.device.Known.{Known}
 use Rattle.netlink_lines.specs.declared.messages.Shown.{Shown}
 use Rattle.netlink_lines.specs.declared.options.Options.{Options}
-use Rattle.netlink_lines.specs.declared.time.Time.{Time}
+use Rattle.netlink_input.specs.declared.time.Time.{Time}
 
 pub has_lines : {E : Type 0} (check : Check) (options : Options) (known : List Known) (at : ℕ) (frame words : List ℕ) (item : Option Item)
     (flags : ℕ) (shown : Lines) (r : Result Shown E) → item ≡ meaning frame → IsWords item words
@@ -64,40 +64,40 @@ time_meaning frame time is =
 
 -- what a message leaves, by its time and the names after it
 leaves_these : (check : Check) (frame : List ℕ) (memory : Memory) (time : Option Time) (known : List Known)
-    → time ≡ time_in frame → known ≡ known_after check frame memory.known
-    → ◌≡◌ {A = Memory} (record { time = time; known = known; options = memory.options })
-    (record { time = time_in frame; known = known_after check frame memory.known; options = memory.options })
+    → time ≡ time_or (time_in frame) memory.stamp → known ≡ known_after check frame memory.known
+    → ◌≡◌ {A = Memory} (record { time = time; known = known; options = memory.options; stamp = memory.stamp })
+    (record { time = time_or (time_in frame) memory.stamp; known = known_after check frame memory.known; options = memory.options; stamp = memory.stamp })
 leaves_these check frame memory time known same names = cc
 
 -- a time leaves itself, and has no line
 pub tells_time : (check : Check) (at : ℕ) (frame : List ℕ) (memory : Memory) (lines : Lines) (result : Option Time)
     (known : List Known) (time : Time) → result ≡ time_in frame → known ≡ known_after check frame memory.known
     → Some time ≡ time_in frame → lines ≡ good []
-    → TellsMessage check at frame memory lines (record { time = result; known = known; options = memory.options })
+    → TellsMessage check at frame memory lines (record { time = result; known = known; options = memory.options; stamp = memory.stamp })
 tells_time check at frame memory lines result known time same names is none =
     let after : List Known = known_after check frame memory.known in (
       [],
       subst (λ (i : Option Item). IsWords i []) (sym (time_meaning frame time is)) (no_words frame),
       none ∙ ap (λ (t : Option Time). unless_time t (timed memory.time (frame_lines check memory.options after at frame []))) is,
-      leaves_these check frame memory result known same names,
+      leaves_these check frame memory result known (same ∙ sym is ∙ ap (λ (t : Option Time). time_or t memory.stamp) is) names,
     )
 
 -- any other message has its lines after the time so far, by the names after it
 pub tells_lines : {E : Type 0} (check : Check) (at : ℕ) (frame : List ℕ) (memory : Memory) (shown : Lines)
-    (result : Option Time) (known view : List Known) (r : Result Shown E)
-    → result ≡ time_in frame → known ≡ known_after check frame memory.known → None ≡ time_in frame → view ≡ known
+    (known view : List Known) (r : Result Shown E)
+    → known ≡ known_after check frame memory.known → None ≡ time_in frame → view ≡ known
     → HasLines check memory.options view at frame shown
     → IfOk r (λ s. ◌≡◌ {A = Lines} (string_bytes s.text, s.is_malformed) (timed memory.time shown))
-    → IfOk r (λ s. TellsMessage check at frame memory (string_bytes s.text, s.is_malformed) (record { time = result; known = known; options = memory.options }))
-tells_lines check at frame memory shown result known view (Ok s) same names is seen (words, has, lines) timely =
+    → IfOk r (λ s. TellsMessage check at frame memory (string_bytes s.text, s.is_malformed) (record { time = memory.stamp; known = known; options = memory.options; stamp = memory.stamp }))
+tells_lines check at frame memory shown known view (Ok s) names is seen (words, has, lines) timely =
     let after : List Known = known_after check frame memory.known in (
       words,
       has,
       timely ∙ ap (timed memory.time) (lines ∙ ap (λ (k : List Known). frame_lines check memory.options k at frame words) (seen ∙ names))
           ∙ ap (λ (t : Option Time). unless_time t (timed memory.time (frame_lines check memory.options after at frame words))) is,
-      leaves_these check frame memory result known same names,
+      leaves_these check frame memory memory.stamp known (ap (λ (t : Option Time). time_or t memory.stamp) is) names,
     )
-tells_lines check at frame memory shown result known view (Err e) same names is seen has timely = tt
+tells_lines check at frame memory shown known view (Err e) names is seen has timely = tt
 
 -- ---- a message of a family
 
@@ -131,7 +131,7 @@ pub tells_own : {E : Type 0} (check : Check) (at : ℕ) (frame : List ℕ) (memo
     → shown ≡ family_lines memory.options known at frame (check.error (header_of frame).message_type (payload_of frame))
     → marked ≡ marked_if flags shown
     → IfOk r (λ s. ◌≡◌ {A = Lines} (string_bytes s.text, s.is_malformed) (timed memory.time marked))
-    → IfOk r (λ s. TellsMessage check at frame memory (string_bytes s.text, s.is_malformed) (record { time = None; known = known; options = memory.options }))
+    → IfOk r (λ s. TellsMessage check at frame memory (string_bytes s.text, s.is_malformed) (record { time = memory.stamp; known = known; options = memory.options; stamp = memory.stamp }))
 tells_own check at frame memory known flags shown marked (Ok s) least names flag lines mark timely =
     let after : List Known = known_after check frame memory.known in
     let item : shown ≡ item_lines check memory.options after at frame [] (meaning frame) =
@@ -142,7 +142,7 @@ tells_own check at frame memory known flags shown marked (Ok s) least names flag
       timely ∙ ap (timed memory.time)
           (mark ∙ ap (λ (n : ℕ). marked_if n shown) flag ∙ ap (marked_if (header_of frame).flags) item)
           ∙ ap (λ (t : Option Time). unless_time t (timed memory.time (frame_lines check memory.options after at frame []))) (own_time frame least),
-      leaves_these check frame memory None known (own_time frame least) names,
+      leaves_these check frame memory memory.stamp known (ap (λ (t : Option Time). time_or t memory.stamp) (own_time frame least)) names,
     )
 tells_own check at frame memory known flags shown marked (Err e) least names flag lines mark timely = tt
 

@@ -4,14 +4,14 @@ use Rattle.std.proofs.KnownBytes.{Appends-nil}
 use Rattle.std.proofs.lemmas.Bool.{cases_lt}
 use Rattle.std.proofs.lemmas.List.{drop_at}
 use Rattle.std.specs.Io.KnownBytes.{prepend_known}
-use Rattle.std.specs.Prelude.{Bool, true, false, ⊤, if◌then◌else◌, ◌⊎◌}
+use Rattle.std.specs.Prelude.{Bool, true, false, ◌==◌, ⊤, if◌then◌else◌, ◌⊎◌}
 use Rattle.netlink_input.specs.BlockLaws.{block_head, head_least}
 use Rattle.netlink_lines.specs.Blocks.{blocks_of}
 use Rattle.netlink_lines.specs.Messages.{Check, Memory, no_memory}
 use Rattle.netlink_lines.specs.Packet.{packets_of}
-use Rattle.netlink_input.specs.Pcap.{is_pcap, layout_of}
+use Rattle.netlink_input.specs.Pcap.{is_nano, is_pcap, layout_of, number_in}
 use Rattle.netlink_input.specs.Reading.{Starts, TriesStart, start_size}
-use Rattle.netlink_lines.specs.Run.{RunsIn, RunsOver, RunsWith}
+use Rattle.netlink_lines.specs.Run.{RunsAll, RunsIn, RunsOver, RunsWith}
 use Rattle.netlink_lines.specs.Stream.{messages_of}
 use Rattle.netlink_lines.specs.declared.options.Options.{Options}
 use Rattle.netlink_input.specs.declared.pcap.Layout.{Layout}
@@ -20,7 +20,7 @@ use Rattle.netlink_input.specs.declared.pcap.Order.{Order}
 use Rattle.netlink_input.specs.declared.fault.Fault.{Fault}
 use Rattle.netlink_input.specs.declared.fault.Fault.TheVariants as fault
 use Rattle.netlink_input.specs.declared.stream.Stop.{Stop}
-use Rattle.netlink_input.specs.LayoutLaws.{blocks_magic, layout_in, messages_magic, packets_size, pcap_in}
+use Rattle.netlink_input.specs.LayoutLaws.{blocks_magic, layout_in, messages_magic, number_in_first, packets_size, pcap_in}
 
 -- ---- what they tell
 
@@ -62,22 +62,25 @@ runs_messages check options (Some xs) (Some ys) left start end first memory afte
     (subst (λ (l : List ℕ). RunsOver (messages_of check) memory (0 + length l) l left start end after result) (sym took) runs)) in
     subst (λ (layout : Layout). RunsIn check options layout xs left start end result) (sym same) (after, whole)
 
-pub runs_packets : (check : Check) (options : Options) (order : Order) (old middle left start end : Option (List ℕ)) (first : List ℕ) (memory after : Memory)
-    (result : Result ⊤ Fault) → Starts old middle first → layout_of first ≡ Packets order → memory ≡ no_memory options
-    → IfSome middle (λ bytes. RunsOver (packets_of check order) memory (24 + length bytes) bytes left start end after result)
+pub runs_packets : (check : Check) (options : Options) (order : Order) (nano : Bool) (old middle left start end : Option (List ℕ)) (first : List ℕ) (memory after : Memory)
+    (result : Result ⊤ Fault) → Starts old middle first → layout_of first ≡ Packets order → nano ≡ is_nano order first → memory ≡ no_memory options
+    → IfSome middle (λ bytes. RunsOver (packets_of check order nano) memory (24 + length bytes) bytes left start end after result)
     → IfSome old (λ input. RunsWith check options input left start end result)
-runs_packets check options order None middle left start end first memory after result starts is none runs = tt
-runs_packets check options order (Some xs) None left start end first memory after result (took, few, all) is none runs = absurd took
-runs_packets check options order (Some xs) (Some ys) left start end first memory after result (took, few, all) is none runs =
+runs_packets check options order nano None middle left start end first memory after result starts is unit none runs = tt
+runs_packets check options order nano (Some xs) None left start end first memory after result (took, few, all) is unit none runs = absurd took
+runs_packets check options order nano (Some xs) (Some ys) left start end first memory after result (took, few, all) is unit none runs =
     let same : layout_of xs ≡ Packets order = ap layout_of took ∙ layout_first first ys all ∙ is in
     let size : length first ≡ 24 = omega (arith, packets_size first order is, few, start_most (is_pcap first)) in
     let long : length xs ≡ 24 + length ys = omega (arith, ap length took, length-append first ys, size) in
     let rest : drop 24 xs ≡ ys = ap (drop 24) took ∙ drop_at first ys 24 size in
-    let whole : RunsOver (packets_of check order) (no_memory options) (length xs) (drop 24 xs) left start end after result =
-    subst (λ (m : Memory). RunsOver (packets_of check order) m (length xs) (drop 24 xs) left start end after result) none
-    (subst (λ (n : ℕ). RunsOver (packets_of check order) memory n (drop 24 xs) left start end after result) (sym long)
-    (subst (λ (l : List ℕ). RunsOver (packets_of check order) memory (24 + length ys) l left start end after result) (sym rest) runs)) in
-    subst (λ (layout : Layout). RunsIn check options layout xs left start end result) (sym same) (after, whole)
+    let nanos : nano ≡ is_nano order xs =
+    unit ∙ sym (ap (λ (n : ℕ). n == 2712812621) (ap (number_in order 0 4) took ∙ number_in_first order 0 4 first ys (omega (arith, size)))) in
+    let whole : RunsOver (packets_of check order nano) (no_memory options) (length xs) (drop 24 xs) left start end after result =
+    subst (λ (m : Memory). RunsOver (packets_of check order nano) m (length xs) (drop 24 xs) left start end after result) none
+    (subst (λ (n : ℕ). RunsOver (packets_of check order nano) memory n (drop 24 xs) left start end after result) (sym long)
+    (subst (λ (l : List ℕ). RunsOver (packets_of check order nano) memory (24 + length ys) l left start end after result) (sym rest) runs)) in
+    subst (λ (layout : Layout). RunsIn check options layout xs left start end result) (sym same)
+    (subst (λ (b : Bool). RunsAll (packets_of check order b) options (length xs) (drop 24 xs) left start end result) nanos (after, whole))
 
 pub runs_blocks : (check : Check) (options : Options) (old middle left start end : Option (List ℕ)) (first : List ℕ) (memory after : Memory)
     (result : Result ⊤ Fault) → Starts old middle first → layout_of first ≡ Blocks → memory ≡ no_memory options

@@ -6,17 +6,19 @@ use Rattle.std.proofs.lemmas.List.Sums.{fold-append}
 use Rattle.std.specs.Io.KnownBytes.{Consumes, IsAtEnd}
 use Rattle.netlink_packet_core.specs.Attribute.{padding}
 use Rattle.netlink_packet_core.specs.FrameWalk.{IsWholeFrame, StartsFrame}
+use Rattle.std.specs.Prelude.{Bool}
 use Rattle.netlink_packet_core.specs.Walks.{Passed, passed_ends, passed_faults, passed_keeps, passed_push}
 use Rattle.netlink_replies.specs.Meaning.{meaning}
 use Rattle.netlink_lines.specs.Ack.{IsWords}
 use Rattle.netlink_lines.specs.Format.{Format, ShowsAll, StopsAs, tell, told_from, told_nothing}
 use Rattle.netlink_lines.specs.Messages.{Check, Memory, Seen}
-use Rattle.netlink_lines.specs.Packet.{HasExtent, IsTorn, Packet, StartsPacket, packets_of}
+use Rattle.netlink_lines.specs.Packet.{HasExtent, IsTorn, Stamped, StartsPacket, packets_of}
 use Rattle.netlink_input.specs.Packet.{IsPacketFault, IsWholePacket, captured_of, extent_of, torn_of}
 use Rattle.netlink_input.specs.Reading.{Skips, SkipsPart}
 use Rattle.netlink_lines.specs.Run.{NoneLost, ShowsFirst}
 use Rattle.netlink_lines.specs.Stream.{messages_of}
 use Rattle.netlink_input.specs.Stream.{IsCause, longest}
+use Rattle.netlink_input.specs.Time.{pcap_time}
 use Rattle.netlink_input.specs.declared.pcap.Order.{Order}
 use Rattle.netlink_input.specs.declared.pcap.PcapFault.{PcapFault}
 use Rattle.netlink_input.specs.declared.stream.Cause.{Cause}
@@ -93,15 +95,16 @@ is_message check now at frame words whole most is end bytes after known same pla
     record { starts = starts_whole bytes frame after same whole; most = most; place = place; words = is }
 
 -- a packet has no padding
-pub is_packet : (check : Check) (order : Order) (now : Option (List ℕ)) (at : ℕ) (packet : List ℕ) (shown : Packet) → IsWholePacket order packet
-    → captured_of order packet ≤ longest → HasExtent at (extent_of order packet) packet shown
-    → IsOne (packets_of check order) now at packet 0 shown
-is_packet check order now at packet shown whole most has end bytes after known same place = record {
+pub is_packet : (check : Check) (order : Order) (nano : Bool) (now : Option (List ℕ)) (at : ℕ) (packet : List ℕ) (shown : Stamped)
+    → IsWholePacket order packet → captured_of order packet ≤ longest → shown.time ≡ pcap_time order nano packet
+    → HasExtent at (extent_of order packet) packet shown.packet → IsOne (packets_of check order nano) now at packet 0 shown
+is_packet check order nano now at packet shown whole most timely has end bytes after known same place = record {
   packet = packet;
   size = whole;
   whole = same;
   most = most;
-  content = subst (λ (n : ℕ). HasExtent n (extent_of order packet) packet shown) place has;
+  time = timely;
+  content = subst (λ (n : ℕ). HasExtent n (extent_of order packet) packet shown.packet) place has;
 }
 
 -- ---- what a run showed when it ends
@@ -134,22 +137,23 @@ stops_here f base (Some input) (Some rest) done at cause (passed, place) is =
     (record { at = at; cause = cause }) passed is.0 (is.1 (base + length input) place)
 
 -- what is left is the end of the input
-passed_end : (order : Order) (end : ℕ) (input : List ℕ) (done : List Packet) (rest : List ℕ)
-    → Passed (StartsPacket order end) input done rest → (front : List ℕ) × (input ≡ front ++ rest)
-passed_end order end input done rest passed =
-    passed_keeps (StartsPacket order end) (λ (l : List ℕ). (front : List ℕ) × (input ≡ front ++ l))
+passed_end : (order : Order) (nano : Bool) (end : ℕ) (input : List ℕ) (done : List Stamped) (rest : List ℕ)
+    → Passed (StartsPacket order nano end) input done rest → (front : List ℕ) × (input ≡ front ++ rest)
+passed_end order nano end input done rest passed =
+    passed_keeps (StartsPacket order nano end) (λ (l : List ℕ). (front : List ℕ) × (input ≡ front ++ l))
     (λ bytes one after starts ends. (
       ends.0 ++ starts.packet,
       ends.1 ∙ ap (λ (l : List ℕ). ends.0 ++ l) starts.whole ∙ sym (append_assoc ends.0 starts.packet after),
     )) input done rest passed ([], refl)
 
 -- the packets stop there, and this is shown of the bytes that are left, which the reader gave
-pub stops_torn : (check : Check) (order : Order) (base : ℕ) (input rest : List ℕ) (done : List Packet) (at : ℕ) (why : PcapFault)
-    (kept : List ℕ) (shown : Packet) → PassedKnown (packets_of check order) base (Some input) done (Some rest) 0 at
-    → (rest ≢ []) × IsPacketFault order rest why → torn_of why kept ≡ torn_of why rest → IsTorn at (torn_of why kept) shown
-    → StopsAs (packets_of check order) (base + length input) input (done ++ (shown ∷ [])) (record { at = at; cause = Pcap why })
-stops_torn check order base input rest done at why kept shown (passed, place) (some, is) same torn =
-    let (front, whole) = passed_end order (base + length input) input done rest passed in
+pub stops_torn : (check : Check) (order : Order) (nano : Bool) (base : ℕ) (input rest : List ℕ) (done : List Stamped) (at : ℕ) (why : PcapFault)
+    (kept : List ℕ) (shown : Stamped) → PassedKnown (packets_of check order nano) base (Some input) done (Some rest) 0 at
+    → (rest ≢ []) × IsPacketFault order rest why → torn_of why kept ≡ torn_of why rest → shown.time ≡ pcap_time order nano (torn_of why kept)
+    → IsTorn at (torn_of why kept) shown.packet
+    → StopsAs (packets_of check order nano) (base + length input) input (done ++ (shown ∷ [])) (record { at = at; cause = Pcap why })
+stops_torn check order nano base input rest done at why kept shown (passed, place) (some, is) same timely torn =
+    let (front, whole) = passed_end order nano (base + length input) input done rest passed in
     let long : length input ≡ length front + length rest = ap length whole ∙ length-append front rest in
     let size : length front ≡ at - (base + length input - length input) = omega (arith, long, place) in
     let left : drop (at - (base + length input - length input)) input ≡ rest =
@@ -157,9 +161,14 @@ stops_torn check order base input rest done at why kept shown (passed, place) (s
       done,
       shown ∷ [],
       refl,
-      stops_here (packets_of check order) base (Some input) (Some rest) done at (Pcap why) (passed, place)
+      stops_here (packets_of check order nano) base (Some input) (Some rest) done at (Pcap why) (passed, place)
           (some, λ end there. record { place = there; cause = is }),
-      (shown, refl, subst (λ (l : List ℕ). IsTorn at l shown) (same ∙ ap (torn_of why) (sym left)) torn),
+      (
+        shown,
+        refl,
+        timely ∙ ap (pcap_time order nano) (same ∙ ap (torn_of why) (sym left)),
+        subst (λ (l : List ℕ). IsTorn at l shown.packet) (same ∙ ap (torn_of why) (sym left)) torn,
+      ),
     )
 
 pub first_shown : {A : Type 0} (f : Format A) (base : ℕ) (old now : Option (List ℕ)) (done : List A) (missing at : ℕ)

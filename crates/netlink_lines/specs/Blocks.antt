@@ -4,7 +4,7 @@ use Rattle.std.specs.Prelude.{◌≡◌, ◌<◌, ◌+◌, ◌-◌, ℕ, List, [
 use Rattle.netlink_packet_core.specs.Walks.{WalksAs}
 use Rattle.netlink_lines.specs.Format.{Format}
 use Rattle.netlink_lines.specs.Messages.{Check, Lines, Memory, good}
-use Rattle.netlink_lines.specs.Packet.{HasExtent, Packet, TellsShown, packet_leaves, packet_lines}
+use Rattle.netlink_lines.specs.Packet.{HasExtent, Packet, Stamped, TellsShown, stamped_leaves, stamped_lines}
 use Rattle.netlink_input.specs.Blocks.{HoldsBlock, Reaches, block_in, kept_of}
 use Rattle.netlink_input.specs.declared.block.Block.{Block}
 use Rattle.netlink_input.specs.declared.block.Section.{Section}
@@ -22,14 +22,15 @@ abbrev pub TellsBlock : Check → Option Extent → ℕ → List ℕ → Memory 
 TellsBlock check packet at kept = TellsShown check (HasBlock at packet kept)
 
 -- the last bytes of the input, which end at this offset, start with a block that is shown so
-pub record StartsBlock (input : List ℕ) (end : ℕ) (bytes : List ℕ) (shown : Packet) (rest : List ℕ) : Type 0 where
+pub record StartsBlock (input : List ℕ) (end : ℕ) (bytes : List ℕ) (shown : Stamped) (rest : List ℕ) : Type 0 where
   pub section : Section
   pub reached : Reaches input bytes section
   pub block : Block
   pub some : 0 < block.size
   pub is : block_in section bytes ≡ Ok block
   pub after : rest ≡ drop block.size bytes
-  pub content : HasBlock (end - length bytes) block.packet (kept_of section block bytes) shown
+  pub time : shown.time ≡ block.time
+  pub content : HasBlock (end - length bytes) block.packet (kept_of section block bytes) shown.packet
 
 abbrev pub IsBlockCause : Section → List ℕ → Cause → Type 0
 IsBlockCause section bytes (Pcap why) = block_in section bytes ≡ Err why
@@ -47,16 +48,16 @@ abbrev pub HoldsNext : List ℕ → List ℕ → List ℕ → Type 0
 HoldsNext input rest front = (section : Section) × Reaches input rest section × HoldsBlock section front
 
 -- the blocks of an input, by the errors of payloads
-abbrev pub blocks_of : Check → List ℕ → Format Packet
+abbrev pub blocks_of : Check → List ℕ → Format Stamped
 blocks_of check input = record {
   starts = StartsBlock input;
   stops = IsBlockStop input;
   parts = λ end bytes stop last. last ≡ [];
   holds = HoldsNext input;
-  lines = packet_lines check;
-  leaves = packet_leaves check;
+  lines = stamped_lines check;
+  leaves = stamped_leaves check;
 }
 
 -- the last bytes of the input, which end at this offset, are these blocks, up to their end or a stop
-abbrev pub ShowsBlocks : List ℕ → ℕ → List ℕ → List Packet → Option Stop → Type 0
+abbrev pub ShowsBlocks : List ℕ → ℕ → List ℕ → List Stamped → Option Stop → Type 0
 ShowsBlocks input end = WalksAs (StartsBlock input end) (IsBlockStop input end)

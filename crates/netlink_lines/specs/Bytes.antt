@@ -14,7 +14,7 @@ use Rattle.netlink_lines.specs.Options.{Lines}
 use Rattle.netlink_lines.specs.Requests.{is_dump}
 use Rattle.netlink_lines.specs.declared.ack_table.TheConstants.{ROWS}
 use Rattle.netlink_lines.specs.declared.options.Options.{Options}
-use Rattle.netlink_lines.specs.declared.time.Time.{Time}
+use Rattle.netlink_input.specs.declared.time.Time.{Time}
 
 -- struct nlmsghdr of linux/netlink.h
 abbrev pub header_fields : List Field
@@ -80,7 +80,11 @@ frame_bytes check frame =
 abbrev pub followed : List ℕ → Lines → Lines
 followed bytes (text, malformed) = (text ++ bytes, malformed)
 
--- the lines of a message, and those of its bytes after them if that is asked for; a time has no lines
+-- the same, unless the message is a time, which has no lines
+abbrev pub unless_bytes : Option Time → List ℕ → Lines → Lines
+unless_bytes None bytes lines = followed bytes lines
+unless_bytes (Some time) bytes lines = lines
+
+-- the lines of a message, and those of its bytes after them if that is asked for
 abbrev pub with_bytes : Options → Option Time → List ℕ → Lines → Lines
-with_bytes options (Some time) bytes lines = lines
-with_bytes options None bytes lines = if options.bytes then followed bytes lines else lines
+with_bytes options time bytes lines = if options.bytes then unless_bytes time bytes lines else lines

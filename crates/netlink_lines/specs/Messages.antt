@@ -20,7 +20,7 @@ use Rattle.netlink_lines.specs.Time.{time_in, time_text}
 use Rattle.netlink_names.specs.declared.device.Known.{Known}
 use Rattle.netlink_lines.specs.declared.options.Options.{Options}
 use Rattle.netlink_lines.specs.declared.state.State.{State}
-use Rattle.netlink_lines.specs.declared.time.Time.{Time}
+use Rattle.netlink_input.specs.declared.time.Time.{Time}
 
 abbrev pub good : List ℕ → Lines
 good text = (text, false)
@@ -95,22 +95,31 @@ HasLines check options known at frame lines =
 
 -- ---- what the messages so far leave to the next
 
--- the time that precedes the next line, the names of links, and what is printed besides the lines
+-- the time that precedes the next line, the names of links, what is printed besides the lines, and the time of
+-- the packet, which precedes each of its lines
 pub record Memory : Type 0 where
   pub time : Option Time
   pub known : List Known
   pub options : Options
+  pub stamp : Option Time
 
 abbrev pub memory_of : State → Memory
-memory_of state = record { time = state.time; known = state.known; options = state.options }
+memory_of state =
+    record { time = state.time; known = state.known; options = state.options; stamp = state.stamp }
 
 -- no message so far
 abbrev pub no_memory : Options → Memory
-no_memory options = record { time = None; known = []; options = options }
+no_memory options = record { time = None; known = []; options = options; stamp = None }
 
 -- messages with these flags and of this type tell the names of links
 abbrev pub is_named : ℕ → ℕ → Bool
 is_named flags t = (t == 16 || t == 17) && not (is_request flags t)
+
+-- the memory before a packet with this time, which precedes each of its messages, if times are printed
+abbrev pub stamped : Memory → Option Time → Memory
+stamped memory time =
+    if memory.options.times
+    then record { time = time; known = memory.known; options = memory.options; stamp = time } else memory
 
 -- the names of links after a message of this type and payload, by the payload's error
 abbrev pub known_if : Option FamilyError → ℕ → List ℕ → List Known → List Known
@@ -155,12 +164,18 @@ abbrev pub seen_lines : Check → Memory → Seen → Lines
 seen_lines check memory seen =
     with_bytes memory.options (time_in seen.frame) (frame_bytes check seen.frame) (message_lines check memory seen)
 
--- what it leaves: a time is for the next message alone
+-- the time in a message, or that of its packet
+abbrev pub time_or : Option Time → Option Time → Option Time
+time_or None stamp = stamp
+time_or (Some time) stamp = Some time
+
+-- what it leaves: a time is for the next message alone, that of a packet for each of its messages
 abbrev pub memory_after : Check → Memory → Seen → Memory
 memory_after check memory seen = record {
-  time = time_in seen.frame;
+  time = time_or (time_in seen.frame) memory.stamp;
   known = known_after check seen.frame memory.known;
   options = memory.options;
+  stamp = memory.stamp;
 }
 
 -- the frame of a message at this offset has these lines after others, and leaves this

@@ -8,11 +8,12 @@ use Rattle.std.specs.List.{list_all}
 use Rattle.netlink_packet_core.specs.Header.{field}
 use Rattle.netlink_packet_core.specs.Walks.{WalksAs}
 use Rattle.netlink_lines.specs.Format.{Format, told_from}
-use Rattle.netlink_lines.specs.Messages.{Check, Lines, Memory, Seen, bad, good}
+use Rattle.netlink_lines.specs.Messages.{Check, Lines, Memory, Seen, bad, good, stamped}
 use Rattle.netlink_input.specs.Packet.{HoldsPacket, IsPacketStop, IsWholePacket, captured_of, extent_of, torn_of}
 use Rattle.netlink_input.specs.Pcap.{number_in}
 use Rattle.netlink_lines.specs.Stream.{ShowsMessages, messages_of}
 use Rattle.netlink_input.specs.Stream.{longest, stop_text}
+use Rattle.netlink_input.specs.Time.{pcap_time}
 use Rattle.netlink_lines.specs.declared.packet.Content.{Content}
 use Rattle.netlink_lines.specs.declared.packet.Content.TheVariants.{Messages, Family, CutMessages, Cut, Short, Device}
 use Rattle.netlink_input.specs.declared.packet.Extent.{Extent}
@@ -21,6 +22,7 @@ use Rattle.netlink_input.specs.declared.pcap.Order.TheVariants.{Big}
 use Rattle.netlink_input.specs.declared.stream.Cause.{Cause}
 use Rattle.netlink_input.specs.declared.stream.Cause.TheVariants.{Pcap}
 use Rattle.netlink_input.specs.declared.stream.Stop.{Stop}
+use Rattle.netlink_input.specs.declared.time.Time.{Time}
 
 -- the captured bytes of a packet, or what there is of them, which starts at this offset, have the header of a
 -- datagram of route netlink
@@ -89,6 +91,11 @@ pub record Packet : Type 0 where
   pub seen : List Seen
   pub own : Lines
 
+-- a packet with its time, if that is known
+pub record Stamped : Type 0 where
+  pub time : Option Time
+  pub packet : Packet
+
 -- a datagram that starts at this offset of the input, of which all bytes are there or which was cut, is shown so
 abbrev pub IsDatagram : Bool → ℕ → List ℕ → Packet → Type 0
 IsDatagram cut at bytes shown =
@@ -149,12 +156,13 @@ TellsPacket check order at packet = TellsExtent check (extent_of order packet) a
 -- ---- the packets of a file
 
 -- the bytes, which end at this offset of the input, start with a packet that is shown so
-pub record StartsPacket (order : Order) (end : ℕ) (bytes : List ℕ) (shown : Packet) (rest : List ℕ) : Type 0 where
+pub record StartsPacket (order : Order) (nano : Bool) (end : ℕ) (bytes : List ℕ) (shown : Stamped) (rest : List ℕ) : Type 0 where
   pub packet : List ℕ
   pub size : IsWholePacket order packet
   pub whole : bytes ≡ packet ++ rest
   pub most : captured_of order packet ≤ longest
-  pub content : HasExtent (end - length bytes) (extent_of order packet) packet shown
+  pub time : shown.time ≡ pcap_time order nano packet
+  pub content : HasExtent (end - length bytes) (extent_of order packet) packet shown.packet
 
 -- ---- a packet that the end of the file cuts
 
@@ -175,22 +183,30 @@ abbrev pub TellsTorn : Check → ℕ → List ℕ → Memory → Lines → Memor
 TellsTorn check at bytes = TellsShown check (IsTorn at bytes)
 
 -- what is shown of the bytes at a stop, by all bytes, which end at this offset of the input
-abbrev pub HasTorn : ℕ → List ℕ → Stop → List Packet → Type 0
-HasTorn end bytes stop last =
-    (shown : Packet) × (last ≡ shown ∷ [])
-    × IsTorn stop.at (torn_by stop.cause (from_stop (end - length bytes) bytes stop)) shown
+abbrev pub HasTorn : Order → Bool → ℕ → List ℕ → Stop → List Stamped → Type 0
+HasTorn order nano end bytes stop last =
+    (shown : Stamped) × (last ≡ shown ∷ [])
+    × (shown.time ≡ pcap_time order nano (torn_by stop.cause (from_stop (end - length bytes) bytes stop)))
+    × IsTorn stop.at (torn_by stop.cause (from_stop (end - length bytes) bytes stop)) shown.packet
+
+-- its lines and what it leaves, after its time
+abbrev pub stamped_lines : Check → Memory → Stamped → Lines
+stamped_lines check memory shown = packet_lines check (stamped memory shown.time) shown.packet
+
+abbrev pub stamped_leaves : Check → Memory → Stamped → Memory
+stamped_leaves check memory shown = packet_leaves check (stamped memory shown.time) shown.packet
 
 -- packets, by the errors of payloads
-abbrev pub packets_of : Check → Order → Format Packet
-packets_of check order = record {
-  starts = StartsPacket order;
+abbrev pub packets_of : Check → Order → Bool → Format Stamped
+packets_of check order nano = record {
+  starts = StartsPacket order nano;
   stops = IsPacketStop order;
-  parts = HasTorn;
+  parts = HasTorn order nano;
   holds = λ rest. HoldsPacket order;
-  lines = packet_lines check;
-  leaves = packet_leaves check;
+  lines = stamped_lines check;
+  leaves = stamped_leaves check;
 }
 
 -- the bytes, which end at this offset of the input, are these packets, up to their end or a stop
-abbrev pub ShowsPackets : Order → ℕ → List ℕ → List Packet → Option Stop → Type 0
-ShowsPackets order end = WalksAs (StartsPacket order end) (IsPacketStop order end)
+abbrev pub ShowsPackets : Order → Bool → ℕ → List ℕ → List Stamped → Option Stop → Type 0
+ShowsPackets order nano end = WalksAs (StartsPacket order nano end) (IsPacketStop order end)

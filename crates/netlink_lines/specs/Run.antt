@@ -7,7 +7,7 @@ use Rattle.netlink_lines.specs.Format.{Format, ShowsAll, StopsAs, told_from}
 use Rattle.netlink_lines.specs.Messages.{Check, Lines, Memory, no_memory}
 use Rattle.netlink_lines.specs.Options.{plain}
 use Rattle.netlink_lines.specs.Packet.{TellsTorn, packets_of}
-use Rattle.netlink_input.specs.Pcap.{layout_of}
+use Rattle.netlink_input.specs.Pcap.{is_nano, layout_of}
 use Rattle.netlink_lines.specs.Stream.{messages_of}
 use Rattle.netlink_input.specs.declared.pcap.Layout.{Layout}
 use Rattle.netlink_input.specs.declared.pcap.Layout.TheVariants.{Blocks, Messages, Packets, Unread}
@@ -103,7 +103,7 @@ abbrev pub RunsIn : {R : Type 0} → Check → Options → Layout → List ℕ �
 RunsIn check options Messages input left old new result =
     RunsAll (messages_of check) options (length input) input left old new result
 RunsIn check options (Packets order) input left old new result =
-    RunsAll (packets_of check order) options (length input) (drop 24 input) left old new result
+    RunsAll (packets_of check order (is_nano order input)) options (length input) (drop 24 input) left old new result
 RunsIn check options Blocks input left old new result =
     RunsAll (blocks_of check input) options (length input) input left old new result
 RunsIn check options (Unread why) input left old new result = Rejects why result × Appends old new []

@@ -2,7 +2,7 @@
 use Rattle.std.specs.Prelude.{ℕ, ◌==◌, List, [], ◌++◌, length, nat_lt, Option, Some, None, codes, decimal, if◌then◌else◌}
 use Rattle.netlink_packet_core.specs.Fields.{number_at}
 use Rattle.netlink_packet_core.specs.Header.{header_of, payload_of}
-use Rattle.netlink_lines.specs.declared.time.Time.{Time}
+use Rattle.netlink_input.specs.declared.time.Time.{Time}
 
 -- the time in a payload of 8 bytes
 unfoldable pub time_of : List ℕ → Option Time

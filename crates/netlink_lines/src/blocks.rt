@@ -21,12 +21,13 @@ use netlink_program::write_through;
 use std::alloc::Global;
 use std::io::{Read, Write};
 
-/// The greatest offset at which a block may start, 2^33 below 2^64: the offset after it is below 2^64.
+/// The greatest offset at which a block may start, 2^33 below 2^64: the offset after it is below
+/// 2^64.
 const LAST: u64 = 0xffff_fffe_0000_0000;
 
-/// Reads one block after another of a pcapng file, and writes the lines of the packet in each, and flushes
-/// the writer, before it reads another byte. Keeps one packet and its lines in memory. The vector has the
-/// first bytes of the file, fewer than 8, which were read before.
+/// Reads one block after another of a pcapng file, and writes the lines of the packet in each, and
+/// flushes the writer, before it reads another byte. Keeps one packet and its lines in memory. The
+/// vector has the first bytes of the file, fewer than 8, which were read before.
 ///
 /// Ends as `run` does, at the end of the file or at a block that cannot be read.
 pub(crate) fn blocks<F: Line, R: Read, W: Write>(
@@ -59,6 +60,7 @@ pub(crate) fn blocks<F: Line, R: Read, W: Write>(
                 return Err(Fault::Stopped(Stop { at, cause }));
             }
         };
+        state.stamp(next.time);
         let is_bad = block_lines::<F>(alloc, state, at, next.packet, &block, &mut lines)?;
         write_through(writer, &lines)?;
         is_malformed = is_malformed || is_bad;
@@ -69,9 +71,9 @@ pub(crate) fn blocks<F: Line, R: Read, W: Write>(
     Err(Fault::Read)
 }
 
-/// Writes the lines of the packet in a block, which starts at this offset of the input, into a vector,
-/// whose old contents it drops, and returns whether something in the packet is malformed. A block without
-/// a packet has no lines. Returns `OutOfMemory` if an allocation fails.
+/// Writes the lines of the packet in a block, which starts at this offset of the input, into a
+/// vector, whose old contents it drops, and returns whether something in the packet is malformed. A
+/// block without a packet has no lines. Returns `OutOfMemory` if an allocation fails.
 fn block_lines<F: Line>(
     alloc: Global,
     state: &mut State,

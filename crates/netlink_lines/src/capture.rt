@@ -15,6 +15,7 @@ use netlink_input::fault::Fault;
 use netlink_input::packet::{NextPacket, read_packet};
 use netlink_input::pcap::{FILE_HEADER_LEN, Order, PcapFault};
 use netlink_input::stream::{Cause, Stop};
+use netlink_input::time::pcap_time;
 use netlink_program::write_through;
 use std::alloc::Global;
 use std::io::{Read, Write};
@@ -32,11 +33,12 @@ pub(crate) fn packets<F: Line, R: Read, W: Write>(
     alloc: Global,
     state: &mut State,
     order: Order,
+    is_nano: bool,
     reader: &mut R,
     writer: &mut W,
 ) -> Result<(), Fault>
     ensures runs { IfSome (R.remaining reader.old) (λ bytes.
-        RunsOver (packets_of (check_of F.Table) order) (memory_of state.old)
+        RunsOver (packets_of (check_of F.Table) order is_nano) (memory_of state.old)
         (24 + length bytes) bytes (R.remaining reader.new) (W.contents writer.old) (W.contents writer.new)
         (memory_of state.new) result) }
 {
@@ -52,11 +54,13 @@ pub(crate) fn packets<F: Line, R: Read, W: Write>(
             NextPacket::Packet => {}
             NextPacket::End => return end_of(is_malformed),
             NextPacket::Stop(why) => {
+                state.stamp(pcap_time(order, is_nano, torn_of(&why, &packet)));
                 write_stopped::<F, W>(alloc, state, at, &why, &packet, writer)?;
                 let cause = Cause::Pcap(why);
                 return Err(Fault::Stopped(Stop { at, cause }));
             }
         }
+        state.stamp(pcap_time(order, is_nano, &packet));
         let is_bad = packet_lines::<F>(alloc, state, at, order, &packet, &mut lines)?;
         write_through(writer, &lines)?;
         is_malformed = is_malformed || is_bad;

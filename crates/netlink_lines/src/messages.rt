@@ -16,8 +16,9 @@ use crate::line::{Line, done_line, error_line};
 use crate::options::{Options, labelled};
 use crate::requests::{asked_line, is_dump, is_request};
 use crate::state::State;
-use crate::time::{NLMSG_TSTAMP, Time, time_in, time_text};
+use crate::time::{NLMSG_TSTAMP, time_in, time_text};
 use netlink_family::{FamilyError, MessageView};
+use netlink_input::time::Time;
 use netlink_names::name_table::{NameTable, Names};
 use netlink_packet_core::{DecodeError, NetlinkBuffer};
 use netlink_replies::Reply;
@@ -55,10 +56,13 @@ pub(crate) fn next_lines<F: Line>(
         (memory_of state.old) (string_bytes s.text, s.is_malformed) (memory_of state.new)) }
 {
     let shown = message_lines::<F>(alloc, state, at, frame)?;
-    if !state.options.bytes || time_in(frame).is_some() {
+    if !state.options.bytes {
         return Ok(shown);
     }
-    with_bytes::<F>(shown, frame)
+    match time_in(frame) {
+        Some(_) => Ok(shown),
+        None => with_bytes::<F>(shown, frame),
+    }
 }
 
 /// Returns the lines of a message as `next_lines` does, without those of its bytes. Inline, since most
@@ -76,18 +80,22 @@ fn message_lines<F: Line>(
 {
     let before = state.time;
     let options = state.options;
+    let stamp = state.stamp;
     // Most messages are of the family, so this is checked first.
     if NetlinkBuffer::new(frame).message_type() >= MIN_TYPE {
         let shown = family_shown::<F>(alloc, options, &mut state.known, at, frame)?;
-        state.time = None;
+        state.time = stamp;
         let shown = marked(alloc, NetlinkBuffer::new(frame).flags(), shown)?;
         return timed(alloc, before, shown);
     }
     let time = time_in(frame);
-    state.time = time;
     match time {
-        Some(_) => Ok(well_formed(String::new(alloc))),
+        Some(_) => {
+            state.time = time;
+            Ok(well_formed(String::new(alloc)))
+        }
         None => {
+            state.time = state.stamp;
             let shown = lines_of::<F>(alloc, options, &state.known.names(), at, frame)?;
             timed(alloc, before, shown)
         }

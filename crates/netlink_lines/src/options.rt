@@ -12,6 +12,8 @@ use std::alloc::{AllocError, Global};
 pub struct Options {
     /// Whether a label, such as `[LINK]`, precedes the line of a message, as with `ip monitor label`.
     pub labels: bool,
+    /// Whether the time of a packet precedes each of its messages.
+    pub times: bool,
     /// Whether the bytes of a message follow its line, one line per field.
     pub bytes: bool,
 }

@@ -66,8 +66,8 @@ fn content_of(extent: Extent, packet: &[u8]) -> Content
     }
 }
 
-/// Returns whether the captured bytes of a packet, or what there is of them, which starts at this offset,
-/// have the header of a datagram of route netlink.
+/// Returns whether the captured bytes of a packet, or what there is of them, which starts at this
+/// offset, have the header of a datagram of route netlink.
 fn is_route(from: usize, packet: &[u8]) -> bool
     requires few { from ≤ 28 }
     ensures { result ≡ is_route from packet.now }
@@ -100,8 +100,8 @@ pub(crate) fn packet_lines<F: Line>(
 }
 
 /// Writes the lines of a packet, which starts at this offset of the input, into a vector, whose old
-/// contents it drops, and returns whether something in the packet is malformed. The messages before left
-/// this state, and it is updated.
+/// contents it drops, and returns whether something in the packet is malformed. The messages before
+/// left this state, and it is updated.
 ///
 /// The lines of a datagram of route netlink are those of its messages; what ends it before its end is
 /// one more, unless it is zeros, which are padding. If it was cut, the line about that follows. The

@@ -14,7 +14,7 @@ use crate::messages::next_lines;
 use crate::options::Options;
 use crate::state::State;
 use netlink_input::fault::Fault;
-use netlink_input::pcap::{FILE_HEADER_LEN, Layout, layout_of};
+use netlink_input::pcap::{FILE_HEADER_LEN, Layout, is_nano, layout_of};
 use netlink_input::start::read_start;
 use netlink_input::stream::{Next, Stop, read_frame, skip_padding};
 use netlink_program::write_through;
@@ -30,18 +30,18 @@ pub(crate) struct Outcome {
     pub(crate) stop: Option<Stop>,
 }
 
-/// Reads one message after another, or one packet after another if the input starts as a pcap or pcapng
-/// file, and writes the lines of each, and flushes the writer, before it reads another byte. Keeps one
-/// frame in memory, or one packet with its lines, and the names of at most 65,536 links.
+/// Reads one message after another, or one packet after another if the input starts as a pcap or
+/// pcapng file, and writes the lines of each, and flushes the writer, before it reads another byte.
+/// Keeps one frame in memory, or one packet with its lines, and the names of at most 65,536 links.
 ///
-/// Reads to the end of the input, or up to a message or packet that cannot be read, and then returns
-/// `Stopped`, after it has written the lines of the whole messages in a packet of a pcap file that the end
-/// of the input cuts; so it does at the start if the input is a pcap file that is not read. Returns
-/// `Malformed` at the end if a message or packet was malformed. Returns `Read` if the reader fails, or
-/// does not reach its end within 2^64 - 1 messages or packets, calls for one of them, or bytes (in a
-/// pcap file, within 2^64 - 2^21 bytes and one packet, and in a pcapng file, 2^64 - 2^33 and one block); `Write` if the writer or its flush fails; and
-/// `OutOfMemory` if an allocation fails. The lines of all messages or packets before the error are
-/// written.
+/// Reads to the end of the input, or up to a message or packet that cannot be read, and then
+/// returns `Stopped`, after it has written the lines of the whole messages in a packet of a pcap
+/// file that the end of the input cuts; so it does at the start if the input is a pcap file that is
+/// not read. Returns `Malformed` at the end if a message or packet was malformed. Returns `Read` if
+/// the reader fails, or does not reach its end within 2^64 - 1 messages or packets, calls for one
+/// of them, or bytes (in a pcap file, within 2^64 - 2^21 bytes and one packet, and in a pcapng
+/// file, 2^64 - 2^33 and one block); `Write` if the writer or its flush fails; and `OutOfMemory` if
+/// an allocation fails. The lines of all messages or packets before the error are written.
 pub fn run<F: Line, R: Read, W: Write>(
     alloc: Global,
     reader: &mut R,
@@ -53,6 +53,7 @@ pub fn run<F: Line, R: Read, W: Write>(
 {
     let plain = Options {
         labels: false,
+        times: false,
         bytes: false,
     };
     run_with::<F, R, W>(alloc, plain, reader, writer)
@@ -74,7 +75,10 @@ pub fn run_with<F: Line, R: Read, W: Write>(
     let mut state = State::new(alloc, options);
     match layout_of(&first) {
         Layout::Messages => messages::<F, R, W>(alloc, &mut state, 0, first, reader, writer),
-        Layout::Packets(order) => packets::<F, R, W>(alloc, &mut state, order, reader, writer),
+        Layout::Packets(order) => {
+            let is_nano = is_nano(order, &first);
+            packets::<F, R, W>(alloc, &mut state, order, is_nano, reader, writer)
+        }
         Layout::Blocks => blocks::<F, R, W>(alloc, &mut state, first, reader, writer),
         Layout::Unread(stop) => Err(Fault::Stopped(stop)),
     }

@@ -1,10 +1,10 @@
 //! What the messages so far leave to the next.
 
 ghost use Rattle.std.specs.Prelude.{◌≡◌};
-ghost use Rattle.netlink_lines.specs.Messages.{memory_of, no_memory};
+ghost use Rattle.netlink_lines.specs.Messages.{memory_of, no_memory, stamped};
 
 use crate::options::Options;
-use crate::time::Time;
+use netlink_input::time::Time;
 use netlink_names::name_table::NameTable;
 use std::alloc::Global;
 
@@ -15,6 +15,8 @@ pub struct State {
     pub options: Options,
     /// The time that precedes them.
     pub time: Option<Time>,
+    /// The time of the packet, which precedes each of its lines, if times are printed.
+    pub stamp: Option<Time>,
     /// The names of links, the oldest first.
     pub known: NameTable,
 }
@@ -27,7 +29,18 @@ impl State {
         State {
             options,
             time: None,
+            stamp: None,
             known: NameTable::new(alloc),
+        }
+    }
+
+    /// Sets the time of the packet that follows, if times are printed.
+    pub(crate) fn stamp(&mut self, time: Option<Time>)
+        ensures { memory_of self.new ≡ stamped (memory_of self.old) time }
+    {
+        if self.options.times {
+            self.time = time;
+            self.stamp = time;
         }
     }
 }

@@ -4,6 +4,7 @@ ghost use Rattle.std.specs.Prelude.{◌≡◌, IfOk, string_bytes};
 ghost use Rattle.netlink_packet_core.specs.FrameWalk.{IsWholeFrame};
 ghost use Rattle.netlink_lines.specs.Time.{time_in, time_text, zeros_before};
 
+use netlink_input::time::Time;
 use netlink_packet_core::{NetlinkBuffer, u32_at};
 use std::alloc::{AllocError, Global};
 
@@ -12,15 +13,6 @@ pub(crate) const NLMSG_TSTAMP: u16 = 15;
 
 /// The size in bytes of the payload of a time: two numbers of 32 bits.
 const TIME_LEN: usize = 8;
-
-/// A time at which messages were received.
-#[derive(Clone, Copy)]
-pub struct Time {
-    /// The seconds since 1970.
-    pub seconds: u32,
-    /// The microseconds after them.
-    pub micros: u32,
-}
 
 /// Returns the time in a frame, if it is a message of the type 15 with a payload of 8 bytes. Requires
 /// that the bytes are one frame.
@@ -38,7 +30,7 @@ pub(crate) fn time_in(frame: &[u8]) -> Option<Time>
         return None;
     }
     Some(Time {
-        seconds: u32_at(payload, 0),
+        seconds: u32_at(payload, 0) as u64,
         micros: u32_at(payload, 4),
     })
 }

@@ -8,6 +8,7 @@ mod multicast_lines;
 mod names;
 mod neighbour_lines;
 mod other_lines;
+mod packet_times;
 mod pcap_files;
 mod pcapng_files;
 mod rejected;

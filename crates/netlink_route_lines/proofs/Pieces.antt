@@ -1,5 +1,5 @@
 -- The destination of a route, piece by piece.
-use Rattle.std.proofs.Common.{◌≡◌, ◌∙◌, ◌<◌, ◌+◌, ◌++◌, ap, arith, refl, sym, ℕ, List, [], ◌∷◌, append_assoc, codes, length, length-append}
+use Rattle.std.proofs.Common.{◌≡◌, ◌∙◌, ◌<◌, ◌++◌, ap, arith, refl, sym, ℕ, List, [], ◌∷◌, append_assoc, codes, length, length-append}
 use Rattle.std.specs.Net.Text.{ipv4_text}
 use Rattle.netlink_words.specs.Parts.{prefix_end, prefix_of, prefix_text, with_part}
 use Rattle.netlink_words.specs.Pieces.{dotted_some, four_words, part_some, prefix_some}

@@ -13,8 +13,12 @@ use Rattle.netlink_input.specs.declared.fault.Fault.{Fault}
 -- options and what a word adds to them
 abbrev pub with_option : Options → List ℕ → Option Options
 with_option options word =
-    if bytes_eq word (codes "--label") && not options.labels then Some (record { labels = true; bytes = options.bytes })
-    else if bytes_eq word (codes "--bytes") && not options.bytes then Some (record { labels = options.labels; bytes = true })
+    if bytes_eq word (codes "--label") && not options.labels
+    then Some (record { labels = true; times = options.times; bytes = options.bytes })
+    else if bytes_eq word (codes "--time") && not options.times
+    then Some (record { labels = options.labels; times = true; bytes = options.bytes })
+    else if bytes_eq word (codes "--bytes") && not options.bytes
+    then Some (record { labels = options.labels; times = options.times; bytes = true })
     else None
 
 -- options and what words add to them
@@ -32,7 +36,7 @@ options_of (Some (name ∷ words)) = with_options (Some plain) words
 
 -- printed otherwise
 abbrev pub usage_text : List ℕ
-usage_text = codes "usage: netlink_show [--label] [--bytes] < FILE"
+usage_text = codes "usage: netlink_show [--label] [--time] [--bytes] < FILE"
 
 -- what a run did that ended so
 abbrev pub Ends : Check → Options → List ℕ → Option (List ℕ) → Option (List ℕ) → Option (List ℕ)

@@ -16,6 +16,7 @@ use std::io::{Read, Write};
 /// The lines alone.
 const PLAIN: Options = Options {
     labels: false,
+    times: false,
     bytes: false,
 };
 
@@ -27,13 +28,13 @@ impl fmt::Display for Usage {
     ghost output = { λ _. Some usage_text };
 
     fn fmt<W: fmt::Write>(&self, f: &mut fmt::Formatter<W>) -> fmt::Result {
-        f.write_str("usage: netlink_show [--label] [--bytes] < FILE")
+        f.write_str("usage: netlink_show [--label] [--time] [--bytes] < FILE")
     }
 }
 
 /// Returns what the arguments after the program's name ask for: nothing more than the lines, or what
-/// the words `--label` and `--bytes` add, each at most once, in any order. Returns `None` for any
-/// others, and if the arguments could not be read because one is not UTF-8 or an allocation failed.
+/// the words `--label`, `--time` and `--bytes` add, each at most once, in any order. Returns `None` for
+/// any others, and if the arguments could not be read because one is not UTF-8 or an allocation failed.
 pub fn asked(args: Option<Args>) -> Option<Options>
     ensures asks { result ≡ options_of (option_map into_iter_items args) }
 {
@@ -50,14 +51,25 @@ pub fn asked(args: Option<Args>) -> Option<Options>
 fn with_option(options: Options, word: &str) -> Option<Options>
     ensures adds { result ≡ with_option options word.now }
 {
-    let Options { labels, bytes } = options;
+    let Options {
+        labels,
+        times,
+        bytes,
+    } = options;
     match word {
         "--label" if !labels => Some(Options {
             labels: true,
+            times,
+            bytes,
+        }),
+        "--time" if !times => Some(Options {
+            labels,
+            times: true,
             bytes,
         }),
         "--bytes" if !bytes => Some(Options {
             labels,
+            times,
             bytes: true,
         }),
         _ => None,

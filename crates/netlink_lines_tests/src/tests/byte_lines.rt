@@ -8,6 +8,7 @@ use std::test::Fail;
 
 const BYTES: Options = Options {
     labels: false,
+    times: false,
     bytes: true,
 };
 

@@ -34,7 +34,8 @@ const BIG: [u8; 48] = [
 /// The header of an outgoing datagram of route netlink.
 const OF_ROUTE: [u8; 16] = [0, 4, 3, 56, 0, 0, 0, 0, 0, 0, 0, 0, 0, 0, 0, 0];
 
-/// The first bytes of a block with a packet of the first interface, of which these bytes were captured.
+/// The first bytes of a block with a packet of the first interface, of which these bytes were
+/// captured.
 fn enhanced(size: u8, captured: u8, original: u8) -> [u8; 28] {
     [
         6, 0, 0, 0, size, 0, 0, 0, 0, 0, 0, 0, 1, 0, 0, 0, 2, 0, 0, 0, //
@@ -42,8 +43,8 @@ fn enhanced(size: u8, captured: u8, original: u8) -> [u8; 28] {
     ]
 }
 
-/// Returns a section and an interface, with another block between, and a block of 108 bytes with a packet
-/// of 76.
+/// Returns a section and an interface, with another block between, and a block of 108 bytes with a
+/// packet of 76.
 fn file(alloc: Global) -> Result<Vec<u8>, AllocError> {
     let head = enhanced(108, 76, 76);
     let parts: [&[u8]; 7] = [
@@ -58,7 +59,8 @@ fn file(alloc: Global) -> Result<Vec<u8>, AllocError> {
     joined(alloc, &parts)
 }
 
-/// A new section has its own byte order, and its packet no header of its own. Other blocks have no lines.
+/// A new section has its own byte order, and its packet no header of its own. Other blocks have no
+/// lines.
 #[test]
 fn blocks_have_the_lines_of_their_packets(rt: HostRuntime) -> Result<(), Fail> {
     let alloc = rt.alloc();

@@ -191,6 +191,7 @@ fn requests_are_no_facts(rt: HostRuntime) -> Result<(), Fail> {
     assert_run(&rt, alloc, &input, &wanted, Err(Fault::Malformed));
     let labels = Options {
         labels: true,
+        times: false,
         bytes: false,
     };
     let (output, ended) = shown_with(alloc, labels, &input);

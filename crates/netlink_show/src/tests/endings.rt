@@ -23,11 +23,19 @@ fn args_of(alloc: Global, words: &[&str]) -> Result<Args, AllocError> {
 
 #[test]
 fn arguments_ask_for_options(rt: HostRuntime) -> Result<(), Fail> {
-    let rows: [(&[&str], Option<(bool, bool)>); 10] = [
-        (&["netlink_show"], Some((false, false))),
-        (&["netlink_show", "--label"], Some((true, false))),
-        (&["netlink_show", "--bytes"], Some((false, true))),
-        (&["netlink_show", "--bytes", "--label"], Some((true, true))),
+    let rows: [(&[&str], Option<(bool, bool, bool)>); 12] = [
+        (&["netlink_show"], Some((false, false, false))),
+        (&["netlink_show", "--label"], Some((true, false, false))),
+        (&["netlink_show", "--time"], Some((false, true, false))),
+        (&["netlink_show", "--bytes"], Some((false, false, true))),
+        (
+            &["netlink_show", "--bytes", "--label"],
+            Some((true, false, true)),
+        ),
+        (
+            &["netlink_show", "--label", "--time", "--bytes"],
+            Some((true, true, true)),
+        ),
         (&[], None),
         (&["netlink_show", ""], None),
         (&["netlink_show", "--labels"], None),
@@ -36,7 +44,11 @@ fn arguments_ask_for_options(rt: HostRuntime) -> Result<(), Fail> {
         (&["netlink_show", "--bytes", "--bytes"], None),
     ];
     for (words, wanted) in rows.iter() {
-        let wanted = wanted.map(|(labels, bytes)| Options { labels, bytes });
+        let wanted = wanted.map(|(labels, times, bytes)| Options {
+            labels,
+            times,
+            bytes,
+        });
         assert!(rt; asked(Some(args_of(rt.alloc(), words)?)) == wanted);
     }
     assert!(rt; asked(None) == None);
@@ -67,7 +79,7 @@ fn each_ending_has_its_status_and_its_text(rt: HostRuntime) -> Result<(), Fail> 
         (
             Ending::Usage(Usage),
             2,
-            "usage: netlink_show [--label] [--bytes] < FILE\n",
+            "usage: netlink_show [--label] [--time] [--bytes] < FILE\n",
         ),
     ];
     for (ending, status, text) in rows {
@@ -82,6 +94,7 @@ fn each_ending_has_its_status_and_its_text(rt: HostRuntime) -> Result<(), Fail> 
 fn runs_end_with_their_status(rt: HostRuntime) {
     let plain = Options {
         labels: false,
+        times: false,
         bytes: false,
     };
     for (options, status, size) in [(Some(plain), 0, 5), (None, 2, 0)] {

@@ -1,8 +1,8 @@
-use Rattle.std.proofs.Common.{rules, ◌≡◌, ◌≤◌, ◌+◌, ◌∙◌, refl, sym, arith, ℕ, List, Ok, Err, length}
+use Rattle.std.proofs.Common.{rules, ◌≡◌, ◌≤◌, ◌+◌, ◌∙◌, refl, sym, arith, ℕ, List, ◌++◌, Ok, Err, length}
 use Rattle.std.proofs.lemmas.Result.{err_from_is_err_and}
 use Rattle.std.specs.Io.KnownBytes.{prepend_known}
 use Rattle.netlink_input.specs.Block.{block_of, head_size, kept_size}
-use Rattle.netlink_input.specs.BlockLaws.{fails_block, gives_block, head_least, stops_block, stops_head}
+use Rattle.netlink_input.specs.BlockLaws.{ended_long, extent_kept, fails_block, gives_block, head_least, stops_block, stops_head}
 use Rattle.netlink_input.proofs.blocks.read_block.Goals as goal
 
 pub returns-in_err-read_rest-in-Ok-clause-fault : goal.returns-in_err-read_rest-in-Ok-clause-fault
@@ -33,6 +33,22 @@ returns-in-None-clause-next g c =
     let (more, after, less, later, stops, keeps) = rw c.in-None.is at c.in_ok-read_rest-in-Ok.ensures.ends in
     gives_block c.args.section old middle (g.R.Read.remaining c.read_rest.new.reader) head more c.read_rest.new.head.items c.in-Ok.next
     took after long whole is (omega (arith, fits)) less stops (keeps refl)
+
+pub returns-in-None-clause-extent : goal.returns-in-None-clause-extent
+returns-in-None-clause-extent g c =
+    let old = prepend_known c.args.block.now.items (g.R.Read.remaining c.args.reader.now) in
+    let middle = g.R.Read.remaining c.read_head.new.reader in
+    let head : List ℕ = c.read_head.new.block.items in
+    let (took, most, end) = c.in_ok-read_head.ensures.head in
+    let enough : head_size c.args.section.order head ≤ length head = search rules in
+    let whole : length head ≡ head_size c.args.section.order head = omega (arith, most, enough) in
+    let long : 8 ≤ length head = omega (arith, enough, head_least c.args.section.order head) in
+    let is : block_of c.args.section head ≡ Ok c.in-Ok.next = rw c.deref-2.ensures.value at (sym c.block_of.ensures.is ∙ c.in-Ok.is) in
+    let fits : kept_size c.in-Ok.next head + 4 ≤ c.in-Ok.next.size = rw c.deref-2.ensures.value at c.in-Ok.ensures.room in
+    let (more, after, less, later, stops, keeps) = rw c.in-None.is at c.in_ok-read_rest-in-Ok.ensures.ends in
+    let enough : c.in-Ok.next.size ≤ length (head ++ more) = ended_long c.in-Ok.next (head ++ more) stops in
+    extent_kept c.in-Ok.next.packet (length head) (head ++ more) c.read_rest.new.head.items (keeps refl)
+    (omega (arith, fits, enough)) c.in-Ok.ensures.short
 
 pub returns-in-Some-clause-next : goal.returns-in-Some-clause-next
 returns-in-Some-clause-next g c =

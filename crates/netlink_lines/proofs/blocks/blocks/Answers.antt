@@ -1,4 +1,4 @@
-use Rattle.std.proofs.Common.{rules, ◌≡◌, ◌+◌, refl, [], arith, length}
+use Rattle.std.proofs.Common.{rules, ◌≡◌, refl, [], arith}
 use Rattle.std.proofs.KnownBytes.{prepend_known-nil}
 use Rattle.std.proofs.lemmas.Result.{err_from_is_err_and}
 use Rattle.std.specs.Io.KnownBytes.{Appends, prepend_known}
@@ -75,9 +75,9 @@ returns-in_err-write_through g c =
     let now = prepend_known c.loop.block.items (g.R.Read.remaining c.loop.reader) in
     let (bytes, shown, size, reached) =
     block_shown check old now left c.loop.section c.loop.at c.read_block.new.block.items c.deref.result.now
-    c.in_ok-next.field-0 c.in-Block.next (memory_of c.loop.state) (c.block_lines.new.lines.items, c.in_ok-is_bad.is_bad)
+    c.in_ok-next.field-0 c.in-Block.next (memory_of c.loop.state) (memory_of c.stamp.new.self) (c.block_lines.new.lines.items, c.in_ok-is_bad.is_bad)
     (memory_of c.block_lines.new.state) c.loop.invariant.1 c.in_ok-next.ensures.next c.in-Block.is c.deref.ensures.value
-    c.in_ok-is_bad.ensures.tells in
+    c.stamp.ensures c.in_ok-is_bad.ensures.tells in
     let p = err_from_is_err_and c.from_residual-in_err-write_through.result c.from_residual-in_err-write_through.ensures.1 in
     record {
       runs =
@@ -93,9 +93,9 @@ loop-preserved g c =
     let now = prepend_known c.loop.block.items (g.R.Read.remaining c.loop.reader) in
     let (bytes, shown, size, reached) =
     block_shown check old now left c.loop.section c.loop.at c.read_block.new.block.items c.deref.result.now
-    c.in_ok-next.field-0 c.in-Block.next (memory_of c.loop.state) (c.block_lines.new.lines.items, c.in_ok-is_bad.is_bad)
+    c.in_ok-next.field-0 c.in-Block.next (memory_of c.loop.state) (memory_of c.stamp.new.self) (c.block_lines.new.lines.items, c.in_ok-is_bad.is_bad)
     (memory_of c.block_lines.new.state) c.loop.invariant.1 c.in_ok-next.ensures.next c.in-Block.is c.deref.ensures.value
-    c.in_ok-is_bad.ensures.tells in
+    c.stamp.ensures c.in_ok-is_bad.ensures.tells in
     let after : c.if-is_malformed.is_malformed ≡ (c.loop.is_malformed || c.in_ok-is_bad.is_bad) =
     elim c.if-is_malformed.branch [
       | then-is_malformed w ↦ rw (w.is_malformed-is, w.if-is_malformed.true) refl

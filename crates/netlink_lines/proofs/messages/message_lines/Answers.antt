@@ -40,7 +40,7 @@ returns-in_ok-shown-in-None g c =
     record {
       tells =
           tells_lines check c.args.at c.args.frame.now (memory_of c.args.state.now) (string_bytes shown.text, shown.is_malformed)
-          c.time_in-time.result c.args.state.now.known c.names.result c.timed-in-None.result c.time_in-time.ensures.time
+          c.args.state.now.known c.names.result c.timed-in-None.result
           (knows_other check c.args.frame.now _ less) c.in-None.ensures.time c.names.ensures
           c.in_ok-shown-in-None.ensures.lines c.timed-in-None.ensures;
     }

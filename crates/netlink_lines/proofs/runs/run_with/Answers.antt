@@ -40,8 +40,8 @@ returns-in-Packets g c =
     rw c.deref.ensures.value at (sym c.layout_of.ensures.layout ∙ c.in-Packets.is) in
     record {
       runs =
-          runs_packets check c.args.options c.in-Packets.order _ _ _ _ _ c.read_start.new.first.items (memory_of c.new-state.result)
-          (memory_of c.packets.new.state) _ c.in_ok-read_start.ensures.start is c.new-state.ensures c.packets.ensures.runs;
+          runs_packets check c.args.options c.in-Packets.order c.is_nano-is_nano.result _ _ _ _ _ c.read_start.new.first.items (memory_of c.new-state.result)
+          (memory_of c.packets.new.state) _ c.in_ok-read_start.ensures.start is (rw c.deref-in-Packets.ensures.value at c.is_nano-is_nano.ensures) c.new-state.ensures c.packets.ensures.runs;
     }
 
 pub blocks-requires : goal.blocks-requires
