@@ -1,4 +1,4 @@
-/* The allocator for the four functions of the library that allocate, over malloc.
+/* The allocator for the seven functions of the library that allocate, over malloc.
  *
  * A block of 0 bytes gets the size of its alignment, so that its address is unique. If malloc fails,
  * the result points to a byte that is never read and must not be freed. */

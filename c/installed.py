@@ -69,8 +69,8 @@ def run_packed(folder):
     shutil.copy(REQUEST, alone)
     run(["tar", "-C", alone, "-xzf", packed])
     there = {os.path.relpath(os.path.join(at, it), alone) for at, _, names in os.walk(alone) for it in names}
-    wanted = {"LICENSE", "C.md", "python/netlink_packet.py", "lib/libnetlink_packet.a", "lib/libnetlink_packet.so"}
-    wanted |= {f"include/netlink_packet{it}.h" for it in ("", "_socket")}
+    wanted = {"LICENSE", "C.md", *(f"python/netlink_packet{it}.py" for it in ("", "_route", "_tables")), "lib/libnetlink_packet.a", "lib/libnetlink_packet.so"}
+    wanted |= {f"include/netlink_packet{it}.h" for it in ("", "_socket", "_route", "_tables")}
     note("what is packed", {f"{name}/{it}" for it in wanted} <= there, f"{sorted(there)}")
     with open(os.path.join(alone, name, "C.md")) as file:
         linked = {f"{name}/{it}" for it in re.findall(r"\]\(([^)#:]+)\)", file.read())}
@@ -83,9 +83,11 @@ def run_packed(folder):
 
 
 def run_symbols(lib):
-    """Tests that both libraries define exactly the functions of the header, and the name of the shared one."""
-    with open(os.path.join(HERE, "include", "netlink_packet.h")) as file:
-        declared = set(re.findall(r"(?m)^(?:uint32_t|bool|void) (nlp_\w+)\(", file.read()))
+    """Tests that both libraries define exactly the functions of the headers, and the name of the shared one."""
+    declared = set()
+    for header in "netlink_packet.h", "netlink_packet_route.h":
+        with open(os.path.join(HERE, "include", header)) as file:
+            declared.update(re.findall(r"(?m)^(?:uint32_t|bool|void) (nlp_\w+)\(", file.read()))
     for name, option in ("libnetlink_packet.so", "-D"), ("libnetlink_packet.a", "-g"):
         listed = run(["nm", option, "--defined-only", os.path.join(lib, name)]).stdout
         defined = set(re.findall(r"(?m) [A-Z] (\w+)$", listed))

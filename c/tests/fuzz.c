@@ -10,6 +10,7 @@
 #define _DEFAULT_SOURCE
 #include "fuzz_inputs.h"
 #include "fuzz_normal.h"
+#include "fuzz_route.h"
 
 #include <signal.h>
 
@@ -18,32 +19,37 @@ static const struct call {
     enum shape shape;
     uint32_t weight; /* of 256 inputs that a seed makes */
 } calls[] = {
-    { walk_attrs, BLOCK, 14 },
-    { find_attr, BLOCK, 14 },
-    { fill_table, BLOCK, 14 },
-    { validate, BLOCK, 14 },
-    { get_value, BLOCK, 24 },
+    { walk_attrs, BLOCK, 11 },
+    { find_attr, BLOCK, 11 },
+    { fill_table, BLOCK, 11 },
+    { validate, BLOCK, 12 },
+    { get_value, BLOCK, 20 },
     { read_integers, ANY_BYTES, 2 },
-    { write_attr, BLOCK, 12 },
-    { normalize_attrs, BLOCK, 14 },
+    { write_attr, BLOCK, 9 },
+    { normalize_attrs, BLOCK, 10 },
     { walk_frames, DATAGRAM, 8 },
     { walk_batches, MESSAGES, 6 },
     { read_messages, MESSAGES, 4 },
     { find_attrs, DATAGRAM, 6 },
     { read_frame, DATAGRAM, 8 },
-    { read_replies, DATAGRAM, 18 },
-    { normalize_frame, DATAGRAM, 14 },
+    { read_replies, DATAGRAM, 14 },
+    { normalize_frame, DATAGRAM, 10 },
     { read_error, ERROR_BODY, 8 },
     { read_done, ERROR_BODY, 2 },
-    { read_ack, BLOCK, 12 },
-    { find_path, ACKNOWLEDGEMENT, 14 },
-    { put_one, ANY_BYTES, 12 },
-    { end_one, ANY_BYTES, 7 },
+    { read_ack, BLOCK, 9 },
+    { find_path, ACKNOWLEDGEMENT, 11 },
+    { put_one, ANY_BYTES, 9 },
+    { end_one, ANY_BYTES, 6 },
     { put_long, ANY_BYTES, 1 },
-    { write_all, ANY_BYTES, 12 },
+    { write_all, ANY_BYTES, 10 },
     { text_of_fault, ANY_BYTES, 6 },
     { text_of_frame, DATAGRAM, 4 },
     { text_of_attrs, DATAGRAM, 6 },
+    { view_payload, PAYLOAD, 14 },
+    { text_of_error, PAYLOAD, 3 },
+    { get_from_view, PAYLOAD, 18 },
+    { get_field, PAYLOAD, 5 },
+    { show_payload, PAYLOAD, 2 },
 };
 
 static unsigned long inputs_tried;

@@ -3,9 +3,10 @@
 #define FUZZ_INPUTS_H
 
 #include "fuzz.h"
+#include "route_model.h"
 
 /* What the bytes of a call's inputs are. */
-enum shape { BLOCK, DATAGRAM, MESSAGES, ERROR_BODY, ACKNOWLEDGEMENT, ANY_BYTES, SHAPES };
+enum shape { BLOCK, DATAGRAM, MESSAGES, ERROR_BODY, ACKNOWLEDGEMENT, PAYLOAD, ANY_BYTES, SHAPES };
 
 /* An input while it is made. */
 struct draft_input {
@@ -171,6 +172,85 @@ static void add_acknowledgement(struct draft_input *draft)
     add_block(draft, 0);
 }
 
+static void add_rows(struct draft_input *draft, uint32_t family, uint16_t policy, uint32_t depth);
+
+/* Adds a value of the form of a row. */
+static void add_value(struct draft_input *draft, const struct model_row *row, uint32_t depth)
+{
+    if (row->form <= FORM_FLAG)
+        add_any(draft, form_sizes[row->form]);
+    else if (row->form == FORM_STRING)
+        for (uint32_t left = below(6); left > 0; left--)
+            add_number(draft, 1, left == 1 && below(2) == 0 ? 0 : 'a' + below(26));
+    else if (row->form == FORM_ADDRESS)
+        add_any(draft, below(2) == 0 ? 4 : 16);
+    else if (row->form == FORM_BYTES)
+        add_any(draft, below(3) == 0 ? 6 : below(10));
+    else
+        add_any(draft, row->size + (row->form == FORM_LEAST ? below(3) : 0));
+    if (row->form >= FORM_NEST && depth < 4)
+        add_rows(draft, row->family, row->inner, depth + 1);
+}
+
+/* Adds an attribute: a length of 0, a kind, and the value of a row, whose length it then writes. */
+static void add_row(struct draft_input *draft, const struct model_row *row, uint32_t depth)
+{
+    const size_t at = draft->size;
+    add_number(draft, 2, 0);
+    add_number(draft, 2, row->kind == 0xffff ? below(4) : row->kind | (below(8) == 0 ? below(4) << 14 : 0));
+    add_value(draft, row, depth);
+    write_number(draft->bytes + at, 2, false, draft->size - at);
+}
+
+/* Adds the kind of a link and, before it or after it, its data. */
+static void add_link(struct draft_input *draft, uint32_t depth)
+{
+    const struct model_link *link = &model_links[below(LINKS)];
+    const struct model_row data = { 0, 1, NLP_IFLA_INFO_DATA, FORM_NEST, 0, link->policy };
+    const size_t size = strlen(link->name), start = draft->size;
+    const uint32_t order = below(4);
+    if (order == 0)
+        add_row(draft, &data, depth);
+    add_padding(draft, start);
+    add_number(draft, 2, 4 + size);
+    add_number(draft, 2, NLP_IFLA_INFO_KIND);
+    memcpy(draft->bytes + draft->size, link->name, size);
+    draft->size += size;
+    add_padding(draft, start);
+    if (order > 1)
+        add_row(draft, &data, depth);
+}
+
+/* Adds attributes of rows of a policy. */
+static void add_rows(struct draft_input *draft, uint32_t family, uint16_t policy, uint32_t depth)
+{
+    const size_t start = draft->size;
+    if (family == 0 && policy == 1 && below(8) != 0)
+        add_link(draft, depth);
+    for (uint32_t left = below(depth == 0 ? 7 : 4); left > 0 && draft->size < 350; left--) {
+        uint32_t count = 0, chosen = 0;
+        for (uint32_t i = 0; i < ROWS; i++)
+            if (model_rows[i].family == family && model_rows[i].policy == policy
+                && below(++count) < (model_rows[i].form >= FORM_NEST ? 4 : 1))
+                chosen = i;
+        add_padding(draft, start);
+        if (count > 0)
+            add_row(draft, &model_rows[chosen], depth);
+    }
+    if (below(4) != 0)
+        add_padding(draft, start);
+}
+
+/* Adds the payload of a message. The first two arguments are its type. */
+static void add_payload(struct draft_input *draft)
+{
+    const uint32_t family = below(2) == 0 ? 0 : below(FAMILIES);
+    draft->bytes[1] = (uint8_t)(model_families[family].type + below(4));
+    draft->bytes[2] %= 128;
+    add_any(draft, below(16) == 0 ? below(6) : model_families[family].size);
+    add_rows(draft, family, 0, 0);
+}
+
 /* Makes a mistake: in a length, in any byte, or at the end. */
 static void make_mistake(struct draft_input *draft, size_t start)
 {
@@ -204,9 +284,10 @@ static void make_input(struct draft_input *draft, uint32_t call, uint32_t shape)
     case MESSAGES: add_messages(draft); break;
     case ERROR_BODY: add_error(draft); break;
     case ACKNOWLEDGEMENT: add_acknowledgement(draft); break;
+    case PAYLOAD: add_payload(draft); break;
     default: add_any(draft, below(160));
     }
-    if (shape != ANY_BYTES)
+    if (shape != ANY_BYTES && (shape != PAYLOAD || below(4) == 0))
         for (uint32_t left = below(3); left > 0; left--)
             make_mistake(draft, 1 + ARGUMENTS);
 }

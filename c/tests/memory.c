@@ -1,6 +1,7 @@
 /* Fails each allocation of the functions that allocate, one after another: the result is NLP_NO_MEMORY, the
  * outputs are unchanged, and every block is freed. */
 #include "netlink_packet.h"
+#include "netlink_packet_route.h"
 
 #include <stdio.h>
 #include <stdlib.h>
@@ -84,6 +85,25 @@ static uint32_t prints_a_fault(void)
     return nlp_fault_text(&cut, buffer, sizeof buffer, &size);
 }
 
+static const struct nlp_route_error no_error;
+static struct nlp_route_error error;
+
+static uint32_t prints_an_error(void)
+{
+    const struct nlp_route_error short_header = { NLP_HEADER_SHORT, 0, 0, 0, 16, 9 };
+    return nlp_route_error_text(&short_header, buffer, sizeof buffer, &size);
+}
+
+static uint32_t prints_a_message(void)
+{
+    return nlp_route_show(NLP_RTM_GETLINK, frame, 1, buffer, sizeof buffer, &size, &error);
+}
+
+static uint32_t prints_a_family(void)
+{
+    return nlp_generic_show(frame, 4, buffer, sizeof buffer, &size, &error);
+}
+
 static uint32_t outcome(uint32_t (*call)(void), size_t number)
 {
     memset(buffer, 0x55, sizeof buffer);
@@ -122,6 +142,10 @@ int main(void)
     fails("a frame in canonical form", true, normalizes_a_frame);
     fails("a done message in canonical form", true, normalizes_a_done_message);
     fails("the text of a fault", false, prints_a_fault);
+    fails("the text of an error", false, prints_an_error);
+    fails("the text of a message", false, prints_a_message);
+    fails("the text of a family", false, prints_a_family);
+    expect("no error is written", 0, memcmp(&error, &no_error, sizeof error) == 0);
     printf("%d passed, %d failed\n", passed, failed);
     return failed != 0;
 }

@@ -1,4 +1,4 @@
-//! The functions that c/include/netlink_packet.h declares.
+//! The functions that c/include/netlink_packet.h and netlink_packet_route.h declare.
 
 #[repr(C)]
 #[derive(Clone, Copy, Default)]
@@ -10,7 +10,7 @@ pub struct Fault {
 }
 
 #[repr(C)]
-#[derive(Clone, Copy, Default)]
+#[derive(Clone, Copy, Debug, Default)]
 pub struct Part {
     pub offset: usize,
     pub size: usize,
@@ -66,6 +66,27 @@ pub struct Reply {
     pub frame: Part,
     pub request: Part,
     pub attributes: Part,
+}
+
+#[repr(C)]
+#[derive(Clone, Copy, Debug, Default)]
+pub struct View {
+    pub message_type: u16,
+    pub policy: u16,
+    pub missing: usize,
+    pub header: Part,
+    pub attributes: Part,
+}
+
+#[repr(C)]
+#[derive(Clone, Copy, Default)]
+pub struct RouteError {
+    pub reason: u32,
+    pub kind: u16,
+    pub policy: u16,
+    pub offset: usize,
+    pub expected: usize,
+    pub received: usize,
 }
 
 type In = *const u8;
@@ -145,4 +166,27 @@ extern "C" {
     ) -> u32;
     #[cfg(test)]
     pub fn nlp_fault_text(fault: *const Fault, buffer: Out, capacity: usize, size: *mut usize) -> u32;
+    pub fn nlp_route_view(message_type: u16, payload: In, len: usize, view: *mut View, error: *mut RouteError) -> u32;
+    pub fn nlp_generic_view(payload: In, len: usize, view: *mut View, error: *mut RouteError) -> u32;
+    pub fn nlp_route_error_text(error: *const RouteError, buffer: Out, capacity: usize, size: *mut usize) -> u32;
+    pub fn nlp_view_u8(payload: In, len: usize, view: *const View, kind: u16, number: *mut u8) -> u32;
+    pub fn nlp_view_u16(payload: In, len: usize, view: *const View, kind: u16, number: *mut u16) -> u32;
+    pub fn nlp_view_u32(payload: In, len: usize, view: *const View, kind: u16, number: *mut u32) -> u32;
+    pub fn nlp_view_u64(payload: In, len: usize, view: *const View, kind: u16, number: *mut u64) -> u32;
+    pub fn nlp_view_i32(payload: In, len: usize, view: *const View, kind: u16, number: *mut i32) -> u32;
+    pub fn nlp_view_i64(payload: In, len: usize, view: *const View, kind: u16, number: *mut i64) -> u32;
+    pub fn nlp_view_be16(payload: In, len: usize, view: *const View, kind: u16, number: *mut u16) -> u32;
+    pub fn nlp_view_be32(payload: In, len: usize, view: *const View, kind: u16, number: *mut u32) -> u32;
+    pub fn nlp_view_be64(payload: In, len: usize, view: *const View, kind: u16, number: *mut u64) -> u32;
+    pub fn nlp_view_str(payload: In, len: usize, view: *const View, kind: u16, value: *mut Part) -> u32;
+    pub fn nlp_view_ip(payload: In, len: usize, view: *const View, kind: u16, value: *mut Part) -> u32;
+    pub fn nlp_view_mac(payload: In, len: usize, view: *const View, kind: u16, address: *mut [u8; 6]) -> u32;
+    pub fn nlp_view_exact(payload: In, len: usize, view: *const View, kind: u16, value: *mut Part) -> u32;
+    pub fn nlp_view_bytes(payload: In, len: usize, view: *const View, kind: u16, value: *mut Part) -> u32;
+    pub fn nlp_view_first(payload: In, len: usize, view: *const View, kind: u16, value: *mut Part) -> u32;
+    pub fn nlp_view_nest(payload: In, len: usize, view: *const View, kind: u16, inner: *mut View) -> u32;
+    pub fn nlp_view_header_u8(payload: In, len: usize, view: *const View, field: u32, number: *mut u8) -> u32;
+    pub fn nlp_view_header_u16(payload: In, len: usize, view: *const View, field: u32, number: *mut u16) -> u32;
+    pub fn nlp_view_header_u32(payload: In, len: usize, view: *const View, field: u32, number: *mut u32) -> u32;
+    pub fn nlp_view_header_i32(payload: In, len: usize, view: *const View, field: u32, number: *mut i32) -> u32;
 }

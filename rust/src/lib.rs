@@ -14,6 +14,8 @@
 //!
 //! - To read, iterate over [`Messages`], and take the [`attributes`](Message::attributes) of each: iterate over them,
 //!   or call [`Attributes::find`] or [`Attributes::table`].
+//! - To read messages of route netlink by tables, which know the shape of each kind, call [`Message::view`]; see
+//!   [`route`].
 //! - To write, begin a [`Frame`] and its [`Nest`]s with a [`Writer`].
 //! - To send a request, and to read the answer to it, or to wait for events, open a [`Socket`], as `examples/dump.rs`
 //!   does. On a socket of your own, read the answer with [`Replies`].
@@ -26,6 +28,7 @@ mod ffi;
 mod frame;
 mod normal;
 mod replies;
+pub mod route;
 mod socket;
 mod system;
 mod walk;

@@ -1,0 +1,209 @@
+/* What netlink_packet_route.h states of payloads and views, computed in plain C by the rows of tests/kinds.txt. Nothing
+ * here calls the library. */
+#ifndef ROUTE_MODEL_H
+#define ROUTE_MODEL_H
+
+#include "model.h"
+#include "netlink_packet_route.h"
+
+#include <stdio.h>
+
+/* The forms of values, as tests/kinds.txt names them. */
+enum form { FORM_U8, FORM_U16, FORM_U32, FORM_U64, FORM_S32, FORM_S64, FORM_BE16, FORM_BE32, FORM_BE64, FORM_FLAG, FORM_STRING, FORM_ADDRESS, FORM_BYTES, FORM_EXACT, FORM_LEAST, FORM_NEST, FORM_HEADER };
+
+#include "route_rows.h"
+
+enum { FAMILIES = sizeof model_families / sizeof model_families[0], ROWS = sizeof model_rows / sizeof model_rows[0],
+       LINKS = sizeof model_links / sizeof model_links[0], NESTS = 8 };
+
+static const size_t form_sizes[] = { 1, 2, 4, 8, 4, 8, 2, 4, 8, 0 };
+
+/* Returns the family of a message type, or -1. Each type before the fourth of a family is one of its, except the second
+ * of the neighbour tables; and links have a fourth. */
+static inline int family_of(uint16_t type)
+{
+    for (int i = 0; i < FAMILIES; i++) {
+        const int at = type - model_families[i].type;
+        if (model_families[i].type == 64 ? at == 0 || at == 2 || at == 3 : at >= 0 && at < (i == 0 ? 4 : 3))
+            return i;
+    }
+    return -1;
+}
+
+/* Returns the row of a kind in a policy, or the one that the policy has for every kind, or one of any bytes. */
+static inline struct model_row row_of(int family, uint16_t policy, uint16_t kind)
+{
+    struct model_row found = { 0, policy, kind, FORM_BYTES, 0, 0 };
+    for (size_t i = 0; i < ROWS; i++)
+        if (model_rows[i].family == family && model_rows[i].policy == policy
+            && (model_rows[i].kind == kind || model_rows[i].kind == 0xffff))
+            found = model_rows[i];
+    return found;
+}
+
+/* Finds the first attribute of a kind before an error of the walk. */
+static inline bool first_of(const uint8_t *block, size_t len, uint16_t kind, struct nlp_attr *item)
+{
+    struct nlp_fault ignored;
+    size_t at = 0;
+    while (step(block, len, &at, item, &ignored) == NLP_OK)
+        if ((item->kind & NLP_KIND_MASK) == kind)
+            return true;
+    return false;
+}
+
+/* Returns the row of a kind in a block. The first IFLA_INFO_KIND chooses what IFLA_INFO_DATA is. */
+static inline struct model_row row_in(int family, uint16_t policy, const uint8_t *block, size_t len, uint16_t kind)
+{
+    struct model_row row = row_of(family, policy, kind & NLP_KIND_MASK);
+    struct nlp_attr chooser;
+    if (family != 0 || policy != 1 || row.kind != NLP_IFLA_INFO_DATA || !first_of(block, len, NLP_IFLA_INFO_KIND, &chooser))
+        return row;
+    const uint8_t *name = block + chooser.offset, *end = memchr(name, 0, chooser.size);
+    const size_t size = end == NULL ? chooser.size : (size_t)(end - name);
+    for (size_t i = 0; i < LINKS; i++)
+        if (strlen(model_links[i].name) == size && memcmp(model_links[i].name, name, size) == 0) {
+            row.form = FORM_NEST;
+            row.inner = model_links[i].policy;
+        }
+    return row;
+}
+
+static inline bool has_form(const struct model_row *row, const uint8_t *value, size_t size)
+{
+    if (row->form <= FORM_FLAG)
+        return size == form_sizes[row->form];
+    return row->form == FORM_STRING ? size == 0 || memchr(value, 0, size - 1) == NULL
+        : row->form == FORM_ADDRESS ? size == 4 || size == 16 : row->form == FORM_EXACT ? size == row->size
+        : row->form == FORM_LEAST || row->form == FORM_HEADER ? size >= row->size : true;
+}
+
+/* Returns what is wrong with a value that does not have its form. */
+static inline struct nlp_route_error form_error(const struct model_row *row, uint16_t kind, uint16_t policy, size_t offset,
+                                                size_t size)
+{
+    struct nlp_route_error error = { NLP_VALUE_SIZE, kind, policy, offset, row->form <= FORM_FLAG ? form_sizes[row->form] : row->size, size };
+    if (row->form == FORM_STRING)
+        error = (struct nlp_route_error){ NLP_INTERIOR_NUL, kind, policy, offset, 0, 0 };
+    if (row->form == FORM_ADDRESS)
+        error = (struct nlp_route_error){ NLP_ADDRESS_SIZE, kind, policy, offset, 0, size };
+    if (row->form == FORM_LEAST || row->form == FORM_HEADER)
+        error.reason = NLP_VALUE_SHORT;
+    return error;
+}
+
+/* Finds the first error of a block that starts at an offset of the payload. */
+static inline uint32_t block_error(int family, uint16_t policy, const uint8_t *block, size_t len, size_t start, int levels,
+                                   struct nlp_route_error *error)
+{
+    struct nlp_fault fault;
+    struct nlp_attr item;
+    size_t at = 0, before = 0;
+    uint32_t result;
+    for (; (result = step(block, len, &at, &item, &fault)) == NLP_OK; before = at) {
+        const struct model_row row = row_in(family, policy, block, len, item.kind);
+        const uint8_t *value = block + item.offset;
+        if (!has_form(&row, value, item.size)) {
+            *error = form_error(&row, item.kind, policy, start + before, item.size);
+            return error->reason;
+        }
+        if (row.form != FORM_NEST && row.form != FORM_HEADER)
+            continue;
+        if (levels == 0) {
+            *error = (struct nlp_route_error){ NLP_TOO_DEEP, item.kind, policy, start + before, 0, 0 };
+            return NLP_TOO_DEEP;
+        }
+        result = block_error(family, row.inner, value + row.size, item.size - row.size, start + item.offset + row.size, levels - 1, error);
+        if (result != NLP_OK)
+            return result;
+    }
+    if (result == NLP_END)
+        return NLP_OK;
+    *error = (struct nlp_route_error){ result, 0, policy, start + before, result == NLP_ATTR_CUT ? fault.wanted : 0,
+                                       result == NLP_ATTR_LENGTH ? fault.wanted : fault.size };
+    return result;
+}
+
+/* Checks a payload, and writes its view or its error. */
+static inline uint32_t model_view(uint16_t type, const uint8_t *payload, size_t len, struct nlp_view *view,
+                                  struct nlp_route_error *error)
+{
+    const int family = family_of(type);
+    if (family < 0) {
+        *error = (struct nlp_route_error){ NLP_UNKNOWN_TYPE, type, 0, 0, 0, 0 };
+        return NLP_UNKNOWN_TYPE;
+    }
+    const size_t size = model_families[family].size, head = len < size ? len : size;
+    const bool is_short = len < size && len > 0 && len <= 4 && type == model_families[family].type + 2;
+    if (len < size && !is_short) {
+        *error = (struct nlp_route_error){ NLP_HEADER_SHORT, 0, 0, 0, size, len };
+        return NLP_HEADER_SHORT;
+    }
+    const uint32_t result = len < size ? NLP_OK : block_error(family, 0, payload + size, len - size, size, NESTS, error);
+    if (result == NLP_OK)
+        *view = (struct nlp_view){ type, 0, size - head, { 0, head }, { head, len - head } };
+    return result;
+}
+
+/* Finds the first attribute of a kind in a view: its row, and where its value is. */
+static inline uint32_t model_first(const uint8_t *payload, size_t len, const struct nlp_view *view, uint16_t kind,
+                                   struct model_row *row, struct nlp_part *value)
+{
+    const struct nlp_part *block = &view->attributes;
+    struct nlp_attr item;
+    if (block->offset > len || block->size > len - block->offset || block->size == 0
+        || !first_of(payload + block->offset, block->size, kind, &item))
+        return NLP_NO_PLACE;
+    *row = row_in(family_of(view->message_type), view->policy, payload + block->offset, block->size, kind);
+    *value = (struct nlp_part){ block->offset + item.offset, item.size };
+    return has_form(row, payload + value->offset, item.size) ? NLP_OK : NLP_WRONG_SHAPE;
+}
+
+/* What the getter of a field returns. */
+static inline uint32_t model_field(size_t len, const struct nlp_view *view, uint32_t field, uint32_t shape, size_t size)
+{
+    const size_t at = field / 256, end = at + size;
+    const bool inside = view->header.offset <= len && view->header.size <= len - view->header.offset;
+    return inside && field % 256 == shape && (view->missing >= end || view->header.size >= end - view->missing) ? NLP_OK : NLP_NO_PLACE;
+}
+
+/* Returns a number of a header, whose missing bytes are 0. */
+static inline uint64_t model_number(const uint8_t *payload, const struct nlp_part *header, size_t at, size_t size)
+{
+    uint8_t bytes[8] = { 0 };
+    for (size_t i = 0; i < size && at + i < header->size; i++)
+        bytes[i] = payload[header->offset + at + i];
+    return number(bytes, size, false);
+}
+
+/* Writes the text of an error, and returns its size, or 0 if its reason is none. */
+static inline size_t model_error_text(const struct nlp_route_error *e, char *text, size_t capacity)
+{
+    const unsigned long kind = e->kind, expected = e->expected, received = e->received;
+    int size = 0;
+    switch (e->reason) {
+    case NLP_UNKNOWN_TYPE: return (size_t)snprintf(text, capacity, "message type %lu is not known", kind);
+    case NLP_HEADER_SHORT: return (size_t)snprintf(text, capacity, "the payload has %lu bytes, fewer than its header of %lu", received, expected);
+    case NLP_TOO_LONG: return (size_t)snprintf(text, capacity, "the attributes are too long");
+    case NLP_NO_MEMORY: return (size_t)snprintf(text, capacity, "out of memory");
+    }
+    size = snprintf(text, capacity, "at byte %lu, in policy %lu: ", (unsigned long)e->offset, (unsigned long)e->policy);
+    char *rest = text + size;
+    capacity -= (size_t)size;
+    switch (e->reason) {
+    case NLP_ATTR_SHORT: size += snprintf(rest, capacity, "%lu bytes are too few for an attribute", received); break;
+    case NLP_ATTR_CUT: size += snprintf(rest, capacity, "an attribute of %lu bytes is truncated to %lu", expected, received); break;
+    case NLP_ATTR_LENGTH: size += snprintf(rest, capacity, "an attribute has length %lu, less than 4", received); break;
+    case NLP_VALUE_SIZE: size += snprintf(rest, capacity, "attribute %lu has a value of %lu bytes instead of %lu", kind, received, expected); break;
+    case NLP_NOT_TERMINATED: size += snprintf(rest, capacity, "attribute %lu is not a string whose only NUL is its last byte", kind); break;
+    case NLP_INTERIOR_NUL: size += snprintf(rest, capacity, "attribute %lu is a string with a NUL before its last byte", kind); break;
+    case NLP_VALUE_SHORT: size += snprintf(rest, capacity, "attribute %lu has a value of %lu bytes instead of %lu or more", kind, received, expected); break;
+    case NLP_ADDRESS_SIZE: size += snprintf(rest, capacity, "attribute %lu has an address of %lu bytes instead of 4 or 16", kind, received); break;
+    case NLP_TOO_DEEP: size += snprintf(rest, capacity, "attribute %lu is nested too deeply", kind); break;
+    case NLP_LATE_CHOICE: size += snprintf(rest, capacity, "attribute %lu comes after an attribute whose shape it chooses", kind); break;
+    default: return 0;
+    }
+    return (size_t)size;
+}
+
+#endif

@@ -1,0 +1,3 @@
+mod Getting
+mod Places
+mod Shaped

@@ -1,0 +1,5 @@
+pub mod Errors
+pub mod Gets
+pub mod Headers
+pub mod Output
+pub mod Views

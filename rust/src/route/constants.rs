@@ -1,0 +1,961 @@
+//! The message types, the fields of fixed headers and the kinds of attributes, made by c/tables from the tables of the Rattle library.
+
+use super::{Field, Kind};
+
+// Links, and `struct ifinfomsg`.
+/// The message type `RTM_NEWLINK`.
+pub const RTM_NEWLINK: u16 = 16;
+/// The message type `RTM_DELLINK`.
+pub const RTM_DELLINK: u16 = 17;
+/// The message type `RTM_GETLINK`.
+pub const RTM_GETLINK: u16 = 18;
+/// The message type `RTM_SETLINK`.
+pub const RTM_SETLINK: u16 = 19;
+/// The field `ifi_family`.
+pub const IFI_FAMILY: Field = Field(0x001);
+/// The field `ifi_type`.
+pub const IFI_TYPE: Field = Field(0x202);
+/// The field `ifi_index`.
+pub const IFI_INDEX: Field = Field(0x404);
+/// The field `ifi_flags`.
+pub const IFI_FLAGS: Field = Field(0x803);
+/// The field `ifi_change`.
+pub const IFI_CHANGE: Field = Field(0xc03);
+/// The kind `IFLA_ADDRESS`.
+pub const IFLA_ADDRESS: Kind = Kind(1);
+/// The kind `IFLA_BROADCAST`.
+pub const IFLA_BROADCAST: Kind = Kind(2);
+/// The kind `IFLA_IFNAME`.
+pub const IFLA_IFNAME: Kind = Kind(3);
+/// The kind `IFLA_MTU`.
+pub const IFLA_MTU: Kind = Kind(4);
+/// The kind `IFLA_LINK`.
+pub const IFLA_LINK: Kind = Kind(5);
+/// The kind `IFLA_QDISC`.
+pub const IFLA_QDISC: Kind = Kind(6);
+/// The kind `IFLA_STATS`.
+pub const IFLA_STATS: Kind = Kind(7);
+/// The kind `IFLA_COST`.
+pub const IFLA_COST: Kind = Kind(8);
+/// The kind `IFLA_PRIORITY`.
+pub const IFLA_PRIORITY: Kind = Kind(9);
+/// The kind `IFLA_MASTER`.
+pub const IFLA_MASTER: Kind = Kind(10);
+/// The kind `IFLA_WIRELESS`.
+pub const IFLA_WIRELESS: Kind = Kind(11);
+/// The kind `IFLA_PROTINFO`.
+pub const IFLA_PROTINFO: Kind = Kind(12);
+/// The kind `IFLA_TXQLEN`.
+pub const IFLA_TXQLEN: Kind = Kind(13);
+/// The kind `IFLA_MAP`.
+pub const IFLA_MAP: Kind = Kind(14);
+/// The kind `IFLA_WEIGHT`.
+pub const IFLA_WEIGHT: Kind = Kind(15);
+/// The kind `IFLA_OPERSTATE`.
+pub const IFLA_OPERSTATE: Kind = Kind(16);
+/// The kind `IFLA_LINKMODE`.
+pub const IFLA_LINKMODE: Kind = Kind(17);
+/// The kind `IFLA_LINKINFO`.
+pub const IFLA_LINKINFO: Kind = Kind(18);
+/// The kind `IFLA_NET_NS_PID`.
+pub const IFLA_NET_NS_PID: Kind = Kind(19);
+/// The kind `IFLA_IFALIAS`.
+pub const IFLA_IFALIAS: Kind = Kind(20);
+/// The kind `IFLA_NUM_VF`.
+pub const IFLA_NUM_VF: Kind = Kind(21);
+/// The kind `IFLA_VFINFO_LIST`.
+pub const IFLA_VFINFO_LIST: Kind = Kind(22);
+/// The kind `IFLA_STATS64`.
+pub const IFLA_STATS64: Kind = Kind(23);
+/// The kind `IFLA_VF_PORTS`.
+pub const IFLA_VF_PORTS: Kind = Kind(24);
+/// The kind `IFLA_PORT_SELF`.
+pub const IFLA_PORT_SELF: Kind = Kind(25);
+/// The kind `IFLA_AF_SPEC`.
+pub const IFLA_AF_SPEC: Kind = Kind(26);
+/// The kind `IFLA_GROUP`.
+pub const IFLA_GROUP: Kind = Kind(27);
+/// The kind `IFLA_NET_NS_FD`.
+pub const IFLA_NET_NS_FD: Kind = Kind(28);
+/// The kind `IFLA_EXT_MASK`.
+pub const IFLA_EXT_MASK: Kind = Kind(29);
+/// The kind `IFLA_PROMISCUITY`.
+pub const IFLA_PROMISCUITY: Kind = Kind(30);
+/// The kind `IFLA_NUM_TX_QUEUES`.
+pub const IFLA_NUM_TX_QUEUES: Kind = Kind(31);
+/// The kind `IFLA_NUM_RX_QUEUES`.
+pub const IFLA_NUM_RX_QUEUES: Kind = Kind(32);
+/// The kind `IFLA_CARRIER`.
+pub const IFLA_CARRIER: Kind = Kind(33);
+/// The kind `IFLA_PHYS_PORT_ID`.
+pub const IFLA_PHYS_PORT_ID: Kind = Kind(34);
+/// The kind `IFLA_CARRIER_CHANGES`.
+pub const IFLA_CARRIER_CHANGES: Kind = Kind(35);
+/// The kind `IFLA_PHYS_SWITCH_ID`.
+pub const IFLA_PHYS_SWITCH_ID: Kind = Kind(36);
+/// The kind `IFLA_LINK_NETNSID`.
+pub const IFLA_LINK_NETNSID: Kind = Kind(37);
+/// The kind `IFLA_PHYS_PORT_NAME`.
+pub const IFLA_PHYS_PORT_NAME: Kind = Kind(38);
+/// The kind `IFLA_PROTO_DOWN`.
+pub const IFLA_PROTO_DOWN: Kind = Kind(39);
+/// The kind `IFLA_GSO_MAX_SEGS`.
+pub const IFLA_GSO_MAX_SEGS: Kind = Kind(40);
+/// The kind `IFLA_GSO_MAX_SIZE`.
+pub const IFLA_GSO_MAX_SIZE: Kind = Kind(41);
+/// The kind `IFLA_PAD`.
+pub const IFLA_PAD: Kind = Kind(42);
+/// The kind `IFLA_XDP`.
+pub const IFLA_XDP: Kind = Kind(43);
+/// The kind `IFLA_EVENT`.
+pub const IFLA_EVENT: Kind = Kind(44);
+/// The kind `IFLA_NEW_NETNSID`.
+pub const IFLA_NEW_NETNSID: Kind = Kind(45);
+/// The kind `IFLA_TARGET_NETNSID`.
+pub const IFLA_TARGET_NETNSID: Kind = Kind(46);
+/// The kind `IFLA_CARRIER_UP_COUNT`.
+pub const IFLA_CARRIER_UP_COUNT: Kind = Kind(47);
+/// The kind `IFLA_CARRIER_DOWN_COUNT`.
+pub const IFLA_CARRIER_DOWN_COUNT: Kind = Kind(48);
+/// The kind `IFLA_NEW_IFINDEX`.
+pub const IFLA_NEW_IFINDEX: Kind = Kind(49);
+/// The kind `IFLA_MIN_MTU`.
+pub const IFLA_MIN_MTU: Kind = Kind(50);
+/// The kind `IFLA_MAX_MTU`.
+pub const IFLA_MAX_MTU: Kind = Kind(51);
+/// The kind `IFLA_PROP_LIST`.
+pub const IFLA_PROP_LIST: Kind = Kind(52);
+/// The kind `IFLA_ALT_IFNAME`.
+pub const IFLA_ALT_IFNAME: Kind = Kind(53);
+/// The kind `IFLA_PERM_ADDRESS`.
+pub const IFLA_PERM_ADDRESS: Kind = Kind(54);
+/// The kind `IFLA_PROTO_DOWN_REASON`.
+pub const IFLA_PROTO_DOWN_REASON: Kind = Kind(55);
+/// The kind `IFLA_PARENT_DEV_NAME`.
+pub const IFLA_PARENT_DEV_NAME: Kind = Kind(56);
+/// The kind `IFLA_PARENT_DEV_BUS_NAME`.
+pub const IFLA_PARENT_DEV_BUS_NAME: Kind = Kind(57);
+/// The kind `IFLA_GRO_MAX_SIZE`.
+pub const IFLA_GRO_MAX_SIZE: Kind = Kind(58);
+/// The kind `IFLA_TSO_MAX_SIZE`.
+pub const IFLA_TSO_MAX_SIZE: Kind = Kind(59);
+/// The kind `IFLA_TSO_MAX_SEGS`.
+pub const IFLA_TSO_MAX_SEGS: Kind = Kind(60);
+/// The kind `IFLA_ALLMULTI`.
+pub const IFLA_ALLMULTI: Kind = Kind(61);
+/// The kind `IFLA_DEVLINK_PORT`.
+pub const IFLA_DEVLINK_PORT: Kind = Kind(62);
+/// The kind `IFLA_GSO_IPV4_MAX_SIZE`.
+pub const IFLA_GSO_IPV4_MAX_SIZE: Kind = Kind(63);
+/// The kind `IFLA_GRO_IPV4_MAX_SIZE`.
+pub const IFLA_GRO_IPV4_MAX_SIZE: Kind = Kind(64);
+/// The kind `IFLA_DPLL_PIN`.
+pub const IFLA_DPLL_PIN: Kind = Kind(65);
+/// The kind `IFLA_MAX_PACING_OFFLOAD_HORIZON`.
+pub const IFLA_MAX_PACING_OFFLOAD_HORIZON: Kind = Kind(66);
+/// The kind `IFLA_NETNS_IMMUTABLE`.
+pub const IFLA_NETNS_IMMUTABLE: Kind = Kind(67);
+/// The kind `IFLA_HEADROOM`.
+pub const IFLA_HEADROOM: Kind = Kind(68);
+/// The kind `IFLA_TAILROOM`.
+pub const IFLA_TAILROOM: Kind = Kind(69);
+/// The kind `IFLA_INFO_KIND`.
+pub const IFLA_INFO_KIND: Kind = Kind(1);
+/// The kind `IFLA_INFO_DATA`.
+pub const IFLA_INFO_DATA: Kind = Kind(2);
+/// The kind `IFLA_INFO_XSTATS`.
+pub const IFLA_INFO_XSTATS: Kind = Kind(3);
+/// The kind `IFLA_INFO_SLAVE_KIND`.
+pub const IFLA_INFO_SLAVE_KIND: Kind = Kind(4);
+/// The kind `IFLA_INFO_SLAVE_DATA`.
+pub const IFLA_INFO_SLAVE_DATA: Kind = Kind(5);
+
+// Kinds of links.
+/// The kind `IFLA_BOND_MODE`.
+pub const IFLA_BOND_MODE: Kind = Kind(1);
+/// The kind `IFLA_BOND_ACTIVE_SLAVE`.
+pub const IFLA_BOND_ACTIVE_SLAVE: Kind = Kind(2);
+/// The kind `IFLA_BOND_MIIMON`.
+pub const IFLA_BOND_MIIMON: Kind = Kind(3);
+/// The kind `IFLA_BOND_UPDELAY`.
+pub const IFLA_BOND_UPDELAY: Kind = Kind(4);
+/// The kind `IFLA_BOND_DOWNDELAY`.
+pub const IFLA_BOND_DOWNDELAY: Kind = Kind(5);
+/// The kind `IFLA_BOND_USE_CARRIER`.
+pub const IFLA_BOND_USE_CARRIER: Kind = Kind(6);
+/// The kind `IFLA_BOND_ARP_INTERVAL`.
+pub const IFLA_BOND_ARP_INTERVAL: Kind = Kind(7);
+/// The kind `IFLA_BOND_ARP_IP_TARGET`.
+pub const IFLA_BOND_ARP_IP_TARGET: Kind = Kind(8);
+/// The kind `IFLA_BOND_ARP_VALIDATE`.
+pub const IFLA_BOND_ARP_VALIDATE: Kind = Kind(9);
+/// The kind `IFLA_BOND_ARP_ALL_TARGETS`.
+pub const IFLA_BOND_ARP_ALL_TARGETS: Kind = Kind(10);
+/// The kind `IFLA_BOND_PRIMARY`.
+pub const IFLA_BOND_PRIMARY: Kind = Kind(11);
+/// The kind `IFLA_BOND_PRIMARY_RESELECT`.
+pub const IFLA_BOND_PRIMARY_RESELECT: Kind = Kind(12);
+/// The kind `IFLA_BOND_FAIL_OVER_MAC`.
+pub const IFLA_BOND_FAIL_OVER_MAC: Kind = Kind(13);
+/// The kind `IFLA_BOND_XMIT_HASH_POLICY`.
+pub const IFLA_BOND_XMIT_HASH_POLICY: Kind = Kind(14);
+/// The kind `IFLA_BOND_RESEND_IGMP`.
+pub const IFLA_BOND_RESEND_IGMP: Kind = Kind(15);
+/// The kind `IFLA_BOND_NUM_PEER_NOTIF`.
+pub const IFLA_BOND_NUM_PEER_NOTIF: Kind = Kind(16);
+/// The kind `IFLA_BOND_ALL_SLAVES_ACTIVE`.
+pub const IFLA_BOND_ALL_SLAVES_ACTIVE: Kind = Kind(17);
+/// The kind `IFLA_BOND_MIN_LINKS`.
+pub const IFLA_BOND_MIN_LINKS: Kind = Kind(18);
+/// The kind `IFLA_BOND_LP_INTERVAL`.
+pub const IFLA_BOND_LP_INTERVAL: Kind = Kind(19);
+/// The kind `IFLA_BOND_PACKETS_PER_SLAVE`.
+pub const IFLA_BOND_PACKETS_PER_SLAVE: Kind = Kind(20);
+/// The kind `IFLA_BOND_AD_LACP_RATE`.
+pub const IFLA_BOND_AD_LACP_RATE: Kind = Kind(21);
+/// The kind `IFLA_BOND_AD_SELECT`.
+pub const IFLA_BOND_AD_SELECT: Kind = Kind(22);
+/// The kind `IFLA_BOND_AD_INFO`.
+pub const IFLA_BOND_AD_INFO: Kind = Kind(23);
+/// The kind `IFLA_BOND_AD_ACTOR_SYS_PRIO`.
+pub const IFLA_BOND_AD_ACTOR_SYS_PRIO: Kind = Kind(24);
+/// The kind `IFLA_BOND_AD_USER_PORT_KEY`.
+pub const IFLA_BOND_AD_USER_PORT_KEY: Kind = Kind(25);
+/// The kind `IFLA_BOND_AD_ACTOR_SYSTEM`.
+pub const IFLA_BOND_AD_ACTOR_SYSTEM: Kind = Kind(26);
+/// The kind `IFLA_BOND_TLB_DYNAMIC_LB`.
+pub const IFLA_BOND_TLB_DYNAMIC_LB: Kind = Kind(27);
+/// The kind `IFLA_BOND_PEER_NOTIF_DELAY`.
+pub const IFLA_BOND_PEER_NOTIF_DELAY: Kind = Kind(28);
+/// The kind `IFLA_BOND_AD_LACP_ACTIVE`.
+pub const IFLA_BOND_AD_LACP_ACTIVE: Kind = Kind(29);
+/// The kind `IFLA_BOND_MISSED_MAX`.
+pub const IFLA_BOND_MISSED_MAX: Kind = Kind(30);
+/// The kind `IFLA_BOND_NS_IP6_TARGET`.
+pub const IFLA_BOND_NS_IP6_TARGET: Kind = Kind(31);
+/// The kind `IFLA_BOND_COUPLED_CONTROL`.
+pub const IFLA_BOND_COUPLED_CONTROL: Kind = Kind(32);
+/// The kind `IFLA_BR_FORWARD_DELAY`.
+pub const IFLA_BR_FORWARD_DELAY: Kind = Kind(1);
+/// The kind `IFLA_BR_HELLO_TIME`.
+pub const IFLA_BR_HELLO_TIME: Kind = Kind(2);
+/// The kind `IFLA_BR_MAX_AGE`.
+pub const IFLA_BR_MAX_AGE: Kind = Kind(3);
+/// The kind `IFLA_BR_AGEING_TIME`.
+pub const IFLA_BR_AGEING_TIME: Kind = Kind(4);
+/// The kind `IFLA_BR_STP_STATE`.
+pub const IFLA_BR_STP_STATE: Kind = Kind(5);
+/// The kind `IFLA_BR_PRIORITY`.
+pub const IFLA_BR_PRIORITY: Kind = Kind(6);
+/// The kind `IFLA_BR_VLAN_FILTERING`.
+pub const IFLA_BR_VLAN_FILTERING: Kind = Kind(7);
+/// The kind `IFLA_BR_VLAN_PROTOCOL`.
+pub const IFLA_BR_VLAN_PROTOCOL: Kind = Kind(8);
+/// The kind `IFLA_BR_GROUP_FWD_MASK`.
+pub const IFLA_BR_GROUP_FWD_MASK: Kind = Kind(9);
+/// The kind `IFLA_BR_ROOT_ID`.
+pub const IFLA_BR_ROOT_ID: Kind = Kind(10);
+/// The kind `IFLA_BR_BRIDGE_ID`.
+pub const IFLA_BR_BRIDGE_ID: Kind = Kind(11);
+/// The kind `IFLA_BR_ROOT_PORT`.
+pub const IFLA_BR_ROOT_PORT: Kind = Kind(12);
+/// The kind `IFLA_BR_ROOT_PATH_COST`.
+pub const IFLA_BR_ROOT_PATH_COST: Kind = Kind(13);
+/// The kind `IFLA_BR_TOPOLOGY_CHANGE`.
+pub const IFLA_BR_TOPOLOGY_CHANGE: Kind = Kind(14);
+/// The kind `IFLA_BR_TOPOLOGY_CHANGE_DETECTED`.
+pub const IFLA_BR_TOPOLOGY_CHANGE_DETECTED: Kind = Kind(15);
+/// The kind `IFLA_BR_HELLO_TIMER`.
+pub const IFLA_BR_HELLO_TIMER: Kind = Kind(16);
+/// The kind `IFLA_BR_TCN_TIMER`.
+pub const IFLA_BR_TCN_TIMER: Kind = Kind(17);
+/// The kind `IFLA_BR_TOPOLOGY_CHANGE_TIMER`.
+pub const IFLA_BR_TOPOLOGY_CHANGE_TIMER: Kind = Kind(18);
+/// The kind `IFLA_BR_GC_TIMER`.
+pub const IFLA_BR_GC_TIMER: Kind = Kind(19);
+/// The kind `IFLA_BR_GROUP_ADDR`.
+pub const IFLA_BR_GROUP_ADDR: Kind = Kind(20);
+/// The kind `IFLA_BR_FDB_FLUSH`.
+pub const IFLA_BR_FDB_FLUSH: Kind = Kind(21);
+/// The kind `IFLA_BR_MCAST_ROUTER`.
+pub const IFLA_BR_MCAST_ROUTER: Kind = Kind(22);
+/// The kind `IFLA_BR_MCAST_SNOOPING`.
+pub const IFLA_BR_MCAST_SNOOPING: Kind = Kind(23);
+/// The kind `IFLA_BR_MCAST_QUERY_USE_IFADDR`.
+pub const IFLA_BR_MCAST_QUERY_USE_IFADDR: Kind = Kind(24);
+/// The kind `IFLA_BR_MCAST_QUERIER`.
+pub const IFLA_BR_MCAST_QUERIER: Kind = Kind(25);
+/// The kind `IFLA_BR_MCAST_HASH_ELASTICITY`.
+pub const IFLA_BR_MCAST_HASH_ELASTICITY: Kind = Kind(26);
+/// The kind `IFLA_BR_MCAST_HASH_MAX`.
+pub const IFLA_BR_MCAST_HASH_MAX: Kind = Kind(27);
+/// The kind `IFLA_BR_MCAST_LAST_MEMBER_CNT`.
+pub const IFLA_BR_MCAST_LAST_MEMBER_CNT: Kind = Kind(28);
+/// The kind `IFLA_BR_MCAST_STARTUP_QUERY_CNT`.
+pub const IFLA_BR_MCAST_STARTUP_QUERY_CNT: Kind = Kind(29);
+/// The kind `IFLA_BR_MCAST_LAST_MEMBER_INTVL`.
+pub const IFLA_BR_MCAST_LAST_MEMBER_INTVL: Kind = Kind(30);
+/// The kind `IFLA_BR_MCAST_MEMBERSHIP_INTVL`.
+pub const IFLA_BR_MCAST_MEMBERSHIP_INTVL: Kind = Kind(31);
+/// The kind `IFLA_BR_MCAST_QUERIER_INTVL`.
+pub const IFLA_BR_MCAST_QUERIER_INTVL: Kind = Kind(32);
+/// The kind `IFLA_BR_MCAST_QUERY_INTVL`.
+pub const IFLA_BR_MCAST_QUERY_INTVL: Kind = Kind(33);
+/// The kind `IFLA_BR_MCAST_QUERY_RESPONSE_INTVL`.
+pub const IFLA_BR_MCAST_QUERY_RESPONSE_INTVL: Kind = Kind(34);
+/// The kind `IFLA_BR_MCAST_STARTUP_QUERY_INTVL`.
+pub const IFLA_BR_MCAST_STARTUP_QUERY_INTVL: Kind = Kind(35);
+/// The kind `IFLA_BR_NF_CALL_IPTABLES`.
+pub const IFLA_BR_NF_CALL_IPTABLES: Kind = Kind(36);
+/// The kind `IFLA_BR_NF_CALL_IP6TABLES`.
+pub const IFLA_BR_NF_CALL_IP6TABLES: Kind = Kind(37);
+/// The kind `IFLA_BR_NF_CALL_ARPTABLES`.
+pub const IFLA_BR_NF_CALL_ARPTABLES: Kind = Kind(38);
+/// The kind `IFLA_BR_VLAN_DEFAULT_PVID`.
+pub const IFLA_BR_VLAN_DEFAULT_PVID: Kind = Kind(39);
+/// The kind `IFLA_BR_VLAN_STATS_ENABLED`.
+pub const IFLA_BR_VLAN_STATS_ENABLED: Kind = Kind(41);
+/// The kind `IFLA_BR_MCAST_STATS_ENABLED`.
+pub const IFLA_BR_MCAST_STATS_ENABLED: Kind = Kind(42);
+/// The kind `IFLA_BR_MCAST_IGMP_VERSION`.
+pub const IFLA_BR_MCAST_IGMP_VERSION: Kind = Kind(43);
+/// The kind `IFLA_BR_MCAST_MLD_VERSION`.
+pub const IFLA_BR_MCAST_MLD_VERSION: Kind = Kind(44);
+/// The kind `IFLA_BR_VLAN_STATS_PER_PORT`.
+pub const IFLA_BR_VLAN_STATS_PER_PORT: Kind = Kind(45);
+/// The kind `IFLA_BR_MULTI_BOOLOPT`.
+pub const IFLA_BR_MULTI_BOOLOPT: Kind = Kind(46);
+/// The kind `IFLA_BR_MCAST_QUERIER_STATE`.
+pub const IFLA_BR_MCAST_QUERIER_STATE: Kind = Kind(47);
+/// The kind `IFLA_BR_FDB_N_LEARNED`.
+pub const IFLA_BR_FDB_N_LEARNED: Kind = Kind(48);
+/// The kind `IFLA_BR_FDB_MAX_LEARNED`.
+pub const IFLA_BR_FDB_MAX_LEARNED: Kind = Kind(49);
+/// The kind `IFLA_GRE_LINK`.
+pub const IFLA_GRE_LINK: Kind = Kind(1);
+/// The kind `IFLA_GRE_IFLAGS`.
+pub const IFLA_GRE_IFLAGS: Kind = Kind(2);
+/// The kind `IFLA_GRE_OFLAGS`.
+pub const IFLA_GRE_OFLAGS: Kind = Kind(3);
+/// The kind `IFLA_GRE_IKEY`.
+pub const IFLA_GRE_IKEY: Kind = Kind(4);
+/// The kind `IFLA_GRE_OKEY`.
+pub const IFLA_GRE_OKEY: Kind = Kind(5);
+/// The kind `IFLA_GRE_LOCAL`.
+pub const IFLA_GRE_LOCAL: Kind = Kind(6);
+/// The kind `IFLA_GRE_REMOTE`.
+pub const IFLA_GRE_REMOTE: Kind = Kind(7);
+/// The kind `IFLA_GRE_TTL`.
+pub const IFLA_GRE_TTL: Kind = Kind(8);
+/// The kind `IFLA_GRE_TOS`.
+pub const IFLA_GRE_TOS: Kind = Kind(9);
+/// The kind `IFLA_GRE_PMTUDISC`.
+pub const IFLA_GRE_PMTUDISC: Kind = Kind(10);
+/// The kind `IFLA_GRE_ENCAP_TYPE`.
+pub const IFLA_GRE_ENCAP_TYPE: Kind = Kind(14);
+/// The kind `IFLA_GRE_ENCAP_FLAGS`.
+pub const IFLA_GRE_ENCAP_FLAGS: Kind = Kind(15);
+/// The kind `IFLA_GRE_ENCAP_SPORT`.
+pub const IFLA_GRE_ENCAP_SPORT: Kind = Kind(16);
+/// The kind `IFLA_GRE_ENCAP_DPORT`.
+pub const IFLA_GRE_ENCAP_DPORT: Kind = Kind(17);
+/// The kind `IFLA_GRE_COLLECT_METADATA`.
+pub const IFLA_GRE_COLLECT_METADATA: Kind = Kind(18);
+/// The kind `IFLA_GRE_IGNORE_DF`.
+pub const IFLA_GRE_IGNORE_DF: Kind = Kind(19);
+/// The kind `IFLA_GRE_FWMARK`.
+pub const IFLA_GRE_FWMARK: Kind = Kind(20);
+/// The kind `IFLA_IPTUN_LINK`.
+pub const IFLA_IPTUN_LINK: Kind = Kind(1);
+/// The kind `IFLA_IPTUN_LOCAL`.
+pub const IFLA_IPTUN_LOCAL: Kind = Kind(2);
+/// The kind `IFLA_IPTUN_REMOTE`.
+pub const IFLA_IPTUN_REMOTE: Kind = Kind(3);
+/// The kind `IFLA_IPTUN_TTL`.
+pub const IFLA_IPTUN_TTL: Kind = Kind(4);
+/// The kind `IFLA_IPTUN_TOS`.
+pub const IFLA_IPTUN_TOS: Kind = Kind(5);
+/// The kind `IFLA_IPTUN_FLAGS`.
+pub const IFLA_IPTUN_FLAGS: Kind = Kind(8);
+/// The kind `IFLA_IPTUN_PROTO`.
+pub const IFLA_IPTUN_PROTO: Kind = Kind(9);
+/// The kind `IFLA_IPTUN_PMTUDISC`.
+pub const IFLA_IPTUN_PMTUDISC: Kind = Kind(10);
+/// The kind `IFLA_IPTUN_6RD_PREFIX`.
+pub const IFLA_IPTUN_6RD_PREFIX: Kind = Kind(11);
+/// The kind `IFLA_IPTUN_6RD_RELAY_PREFIX`.
+pub const IFLA_IPTUN_6RD_RELAY_PREFIX: Kind = Kind(12);
+/// The kind `IFLA_IPTUN_6RD_PREFIXLEN`.
+pub const IFLA_IPTUN_6RD_PREFIXLEN: Kind = Kind(13);
+/// The kind `IFLA_IPTUN_6RD_RELAY_PREFIXLEN`.
+pub const IFLA_IPTUN_6RD_RELAY_PREFIXLEN: Kind = Kind(14);
+/// The kind `IFLA_IPTUN_ENCAP_TYPE`.
+pub const IFLA_IPTUN_ENCAP_TYPE: Kind = Kind(15);
+/// The kind `IFLA_IPTUN_ENCAP_FLAGS`.
+pub const IFLA_IPTUN_ENCAP_FLAGS: Kind = Kind(16);
+/// The kind `IFLA_IPTUN_ENCAP_SPORT`.
+pub const IFLA_IPTUN_ENCAP_SPORT: Kind = Kind(17);
+/// The kind `IFLA_IPTUN_ENCAP_DPORT`.
+pub const IFLA_IPTUN_ENCAP_DPORT: Kind = Kind(18);
+/// The kind `IFLA_IPTUN_COLLECT_METADATA`.
+pub const IFLA_IPTUN_COLLECT_METADATA: Kind = Kind(19);
+/// The kind `IFLA_IPTUN_FWMARK`.
+pub const IFLA_IPTUN_FWMARK: Kind = Kind(20);
+/// The kind `IFLA_MACVLAN_MODE`.
+pub const IFLA_MACVLAN_MODE: Kind = Kind(1);
+/// The kind `IFLA_MACVLAN_FLAGS`.
+pub const IFLA_MACVLAN_FLAGS: Kind = Kind(2);
+/// The kind `IFLA_MACVLAN_MACADDR_MODE`.
+pub const IFLA_MACVLAN_MACADDR_MODE: Kind = Kind(3);
+/// The kind `IFLA_MACVLAN_MACADDR`.
+pub const IFLA_MACVLAN_MACADDR: Kind = Kind(4);
+/// The kind `IFLA_MACVLAN_MACADDR_DATA`.
+pub const IFLA_MACVLAN_MACADDR_DATA: Kind = Kind(5);
+/// The kind `IFLA_MACVLAN_MACADDR_COUNT`.
+pub const IFLA_MACVLAN_MACADDR_COUNT: Kind = Kind(6);
+/// The kind `IFLA_MACVLAN_BC_QUEUE_LEN`.
+pub const IFLA_MACVLAN_BC_QUEUE_LEN: Kind = Kind(7);
+/// The kind `IFLA_MACVLAN_BC_QUEUE_LEN_USED`.
+pub const IFLA_MACVLAN_BC_QUEUE_LEN_USED: Kind = Kind(8);
+/// The kind `IFLA_MACVLAN_BC_CUTOFF`.
+pub const IFLA_MACVLAN_BC_CUTOFF: Kind = Kind(9);
+/// The kind `VETH_INFO_PEER`.
+pub const VETH_INFO_PEER: Kind = Kind(1);
+/// The kind `IFLA_VLAN_ID`.
+pub const IFLA_VLAN_ID: Kind = Kind(1);
+/// The kind `IFLA_VLAN_FLAGS`.
+pub const IFLA_VLAN_FLAGS: Kind = Kind(2);
+/// The kind `IFLA_VLAN_EGRESS_QOS`.
+pub const IFLA_VLAN_EGRESS_QOS: Kind = Kind(3);
+/// The kind `IFLA_VLAN_INGRESS_QOS`.
+pub const IFLA_VLAN_INGRESS_QOS: Kind = Kind(4);
+/// The kind `IFLA_VLAN_PROTOCOL`.
+pub const IFLA_VLAN_PROTOCOL: Kind = Kind(5);
+/// The kind `IFLA_VXLAN_ID`.
+pub const IFLA_VXLAN_ID: Kind = Kind(1);
+/// The kind `IFLA_VXLAN_GROUP`.
+pub const IFLA_VXLAN_GROUP: Kind = Kind(2);
+/// The kind `IFLA_VXLAN_LINK`.
+pub const IFLA_VXLAN_LINK: Kind = Kind(3);
+/// The kind `IFLA_VXLAN_LOCAL`.
+pub const IFLA_VXLAN_LOCAL: Kind = Kind(4);
+/// The kind `IFLA_VXLAN_TTL`.
+pub const IFLA_VXLAN_TTL: Kind = Kind(5);
+/// The kind `IFLA_VXLAN_TOS`.
+pub const IFLA_VXLAN_TOS: Kind = Kind(6);
+/// The kind `IFLA_VXLAN_LEARNING`.
+pub const IFLA_VXLAN_LEARNING: Kind = Kind(7);
+/// The kind `IFLA_VXLAN_AGEING`.
+pub const IFLA_VXLAN_AGEING: Kind = Kind(8);
+/// The kind `IFLA_VXLAN_LIMIT`.
+pub const IFLA_VXLAN_LIMIT: Kind = Kind(9);
+/// The kind `IFLA_VXLAN_PORT_RANGE`.
+pub const IFLA_VXLAN_PORT_RANGE: Kind = Kind(10);
+/// The kind `IFLA_VXLAN_PROXY`.
+pub const IFLA_VXLAN_PROXY: Kind = Kind(11);
+/// The kind `IFLA_VXLAN_RSC`.
+pub const IFLA_VXLAN_RSC: Kind = Kind(12);
+/// The kind `IFLA_VXLAN_L2MISS`.
+pub const IFLA_VXLAN_L2MISS: Kind = Kind(13);
+/// The kind `IFLA_VXLAN_L3MISS`.
+pub const IFLA_VXLAN_L3MISS: Kind = Kind(14);
+/// The kind `IFLA_VXLAN_PORT`.
+pub const IFLA_VXLAN_PORT: Kind = Kind(15);
+/// The kind `IFLA_VXLAN_GROUP6`.
+pub const IFLA_VXLAN_GROUP6: Kind = Kind(16);
+/// The kind `IFLA_VXLAN_LOCAL6`.
+pub const IFLA_VXLAN_LOCAL6: Kind = Kind(17);
+/// The kind `IFLA_VXLAN_UDP_CSUM`.
+pub const IFLA_VXLAN_UDP_CSUM: Kind = Kind(18);
+/// The kind `IFLA_VXLAN_UDP_ZERO_CSUM6_TX`.
+pub const IFLA_VXLAN_UDP_ZERO_CSUM6_TX: Kind = Kind(19);
+/// The kind `IFLA_VXLAN_UDP_ZERO_CSUM6_RX`.
+pub const IFLA_VXLAN_UDP_ZERO_CSUM6_RX: Kind = Kind(20);
+/// The kind `IFLA_VXLAN_REMCSUM_TX`.
+pub const IFLA_VXLAN_REMCSUM_TX: Kind = Kind(21);
+/// The kind `IFLA_VXLAN_REMCSUM_RX`.
+pub const IFLA_VXLAN_REMCSUM_RX: Kind = Kind(22);
+/// The kind `IFLA_VXLAN_GBP`.
+pub const IFLA_VXLAN_GBP: Kind = Kind(23);
+/// The kind `IFLA_VXLAN_REMCSUM_NOPARTIAL`.
+pub const IFLA_VXLAN_REMCSUM_NOPARTIAL: Kind = Kind(24);
+/// The kind `IFLA_VXLAN_COLLECT_METADATA`.
+pub const IFLA_VXLAN_COLLECT_METADATA: Kind = Kind(25);
+/// The kind `IFLA_VXLAN_LABEL`.
+pub const IFLA_VXLAN_LABEL: Kind = Kind(26);
+/// The kind `IFLA_VXLAN_GPE`.
+pub const IFLA_VXLAN_GPE: Kind = Kind(27);
+/// The kind `IFLA_VXLAN_TTL_INHERIT`.
+pub const IFLA_VXLAN_TTL_INHERIT: Kind = Kind(28);
+/// The kind `IFLA_VXLAN_DF`.
+pub const IFLA_VXLAN_DF: Kind = Kind(29);
+/// The kind `IFLA_VXLAN_VNIFILTER`.
+pub const IFLA_VXLAN_VNIFILTER: Kind = Kind(30);
+/// The kind `IFLA_VXLAN_LOCALBYPASS`.
+pub const IFLA_VXLAN_LOCALBYPASS: Kind = Kind(31);
+/// The kind `IFLA_VXLAN_LABEL_POLICY`.
+pub const IFLA_VXLAN_LABEL_POLICY: Kind = Kind(32);
+/// The kind `IFLA_VXLAN_RESERVED_BITS`.
+pub const IFLA_VXLAN_RESERVED_BITS: Kind = Kind(33);
+/// The kind `IFLA_TUN_OWNER`.
+pub const IFLA_TUN_OWNER: Kind = Kind(1);
+/// The kind `IFLA_TUN_GROUP`.
+pub const IFLA_TUN_GROUP: Kind = Kind(2);
+/// The kind `IFLA_TUN_TYPE`.
+pub const IFLA_TUN_TYPE: Kind = Kind(3);
+/// The kind `IFLA_TUN_PI`.
+pub const IFLA_TUN_PI: Kind = Kind(4);
+/// The kind `IFLA_TUN_VNET_HDR`.
+pub const IFLA_TUN_VNET_HDR: Kind = Kind(5);
+/// The kind `IFLA_TUN_PERSIST`.
+pub const IFLA_TUN_PERSIST: Kind = Kind(6);
+/// The kind `IFLA_TUN_MULTI_QUEUE`.
+pub const IFLA_TUN_MULTI_QUEUE: Kind = Kind(7);
+/// The kind `IFLA_TUN_NUM_QUEUES`.
+pub const IFLA_TUN_NUM_QUEUES: Kind = Kind(8);
+/// The kind `IFLA_TUN_NUM_DISABLED_QUEUES`.
+pub const IFLA_TUN_NUM_DISABLED_QUEUES: Kind = Kind(9);
+
+// Addresses, and `struct ifaddrmsg`.
+/// The message type `RTM_NEWADDR`.
+pub const RTM_NEWADDR: u16 = 20;
+/// The message type `RTM_DELADDR`.
+pub const RTM_DELADDR: u16 = 21;
+/// The message type `RTM_GETADDR`.
+pub const RTM_GETADDR: u16 = 22;
+/// The field `ifa_family`.
+pub const IFA_FAMILY: Field = Field(0x001);
+/// The field `ifa_prefixlen`.
+pub const IFA_PREFIXLEN: Field = Field(0x101);
+/// The field `ifa_flags`.
+pub const IFA_LOW_FLAGS: Field = Field(0x201);
+/// The field `ifa_scope`.
+pub const IFA_SCOPE: Field = Field(0x301);
+/// The field `ifa_index`.
+pub const IFA_INDEX: Field = Field(0x403);
+/// The kind `IFA_ADDRESS`.
+pub const IFA_ADDRESS: Kind = Kind(1);
+/// The kind `IFA_LOCAL`.
+pub const IFA_LOCAL: Kind = Kind(2);
+/// The kind `IFA_LABEL`.
+pub const IFA_LABEL: Kind = Kind(3);
+/// The kind `IFA_BROADCAST`.
+pub const IFA_BROADCAST: Kind = Kind(4);
+/// The kind `IFA_ANYCAST`.
+pub const IFA_ANYCAST: Kind = Kind(5);
+/// The kind `IFA_CACHEINFO`.
+pub const IFA_CACHEINFO: Kind = Kind(6);
+/// The kind `IFA_MULTICAST`.
+pub const IFA_MULTICAST: Kind = Kind(7);
+/// The kind `IFA_FLAGS`.
+pub const IFA_FLAGS: Kind = Kind(8);
+/// The kind `IFA_RT_PRIORITY`.
+pub const IFA_RT_PRIORITY: Kind = Kind(9);
+/// The kind `IFA_TARGET_NETNSID`.
+pub const IFA_TARGET_NETNSID: Kind = Kind(10);
+/// The kind `IFA_PROTO`.
+pub const IFA_PROTO: Kind = Kind(11);
+
+// Neighbours, and `struct ndmsg`.
+/// The message type `RTM_NEWNEIGH`.
+pub const RTM_NEWNEIGH: u16 = 28;
+/// The message type `RTM_DELNEIGH`.
+pub const RTM_DELNEIGH: u16 = 29;
+/// The message type `RTM_GETNEIGH`.
+pub const RTM_GETNEIGH: u16 = 30;
+/// The field `ndm_family`.
+pub const NDM_FAMILY: Field = Field(0x001);
+/// The field `ndm_ifindex`.
+pub const NDM_IFINDEX: Field = Field(0x404);
+/// The field `ndm_state`.
+pub const NDM_STATE: Field = Field(0x802);
+/// The field `ndm_flags`.
+pub const NDM_FLAGS: Field = Field(0xa01);
+/// The field `ndm_type`.
+pub const NDM_TYPE: Field = Field(0xb01);
+/// The kind `NDA_DST`.
+pub const NDA_DST: Kind = Kind(1);
+/// The kind `NDA_LLADDR`.
+pub const NDA_LLADDR: Kind = Kind(2);
+/// The kind `NDA_CACHEINFO`.
+pub const NDA_CACHEINFO: Kind = Kind(3);
+/// The kind `NDA_PROBES`.
+pub const NDA_PROBES: Kind = Kind(4);
+/// The kind `NDA_VLAN`.
+pub const NDA_VLAN: Kind = Kind(5);
+/// The kind `NDA_PORT`.
+pub const NDA_PORT: Kind = Kind(6);
+/// The kind `NDA_VNI`.
+pub const NDA_VNI: Kind = Kind(7);
+/// The kind `NDA_IFINDEX`.
+pub const NDA_IFINDEX: Kind = Kind(8);
+/// The kind `NDA_MASTER`.
+pub const NDA_MASTER: Kind = Kind(9);
+/// The kind `NDA_LINK_NETNSID`.
+pub const NDA_LINK_NETNSID: Kind = Kind(10);
+/// The kind `NDA_SRC_VNI`.
+pub const NDA_SRC_VNI: Kind = Kind(11);
+/// The kind `NDA_PROTOCOL`.
+pub const NDA_PROTOCOL: Kind = Kind(12);
+/// The kind `NDA_NH_ID`.
+pub const NDA_NH_ID: Kind = Kind(13);
+/// The kind `NDA_FDB_EXT_ATTRS`.
+pub const NDA_FDB_EXT_ATTRS: Kind = Kind(14);
+/// The kind `NDA_FLAGS_EXT`.
+pub const NDA_FLAGS_EXT: Kind = Kind(15);
+/// The kind `NDA_NDM_STATE_MASK`.
+pub const NDA_NDM_STATE_MASK: Kind = Kind(16);
+/// The kind `NDA_NDM_FLAGS_MASK`.
+pub const NDA_NDM_FLAGS_MASK: Kind = Kind(17);
+
+// Neighbour tables, and `struct ndtmsg`.
+/// The message type `RTM_NEWNEIGHTBL`.
+pub const RTM_NEWNEIGHTBL: u16 = 64;
+/// The message type `RTM_GETNEIGHTBL`.
+pub const RTM_GETNEIGHTBL: u16 = 66;
+/// The message type `RTM_SETNEIGHTBL`.
+pub const RTM_SETNEIGHTBL: u16 = 67;
+/// The field `ndtm_family`.
+pub const NDTM_FAMILY: Field = Field(0x001);
+/// The kind `NDTA_NAME`.
+pub const NDTA_NAME: Kind = Kind(1);
+/// The kind `NDTA_THRESH1`.
+pub const NDTA_THRESH1: Kind = Kind(2);
+/// The kind `NDTA_THRESH2`.
+pub const NDTA_THRESH2: Kind = Kind(3);
+/// The kind `NDTA_THRESH3`.
+pub const NDTA_THRESH3: Kind = Kind(4);
+/// The kind `NDTA_CONFIG`.
+pub const NDTA_CONFIG: Kind = Kind(5);
+/// The kind `NDTA_PARMS`.
+pub const NDTA_PARMS: Kind = Kind(6);
+/// The kind `NDTA_STATS`.
+pub const NDTA_STATS: Kind = Kind(7);
+/// The kind `NDTA_GC_INTERVAL`.
+pub const NDTA_GC_INTERVAL: Kind = Kind(8);
+/// The kind `NDTPA_IFINDEX`.
+pub const NDTPA_IFINDEX: Kind = Kind(1);
+/// The kind `NDTPA_REFCNT`.
+pub const NDTPA_REFCNT: Kind = Kind(2);
+/// The kind `NDTPA_REACHABLE_TIME`.
+pub const NDTPA_REACHABLE_TIME: Kind = Kind(3);
+/// The kind `NDTPA_BASE_REACHABLE_TIME`.
+pub const NDTPA_BASE_REACHABLE_TIME: Kind = Kind(4);
+/// The kind `NDTPA_RETRANS_TIME`.
+pub const NDTPA_RETRANS_TIME: Kind = Kind(5);
+/// The kind `NDTPA_GC_STALETIME`.
+pub const NDTPA_GC_STALETIME: Kind = Kind(6);
+/// The kind `NDTPA_DELAY_PROBE_TIME`.
+pub const NDTPA_DELAY_PROBE_TIME: Kind = Kind(7);
+/// The kind `NDTPA_QUEUE_LEN`.
+pub const NDTPA_QUEUE_LEN: Kind = Kind(8);
+/// The kind `NDTPA_APP_PROBES`.
+pub const NDTPA_APP_PROBES: Kind = Kind(9);
+/// The kind `NDTPA_UCAST_PROBES`.
+pub const NDTPA_UCAST_PROBES: Kind = Kind(10);
+/// The kind `NDTPA_MCAST_PROBES`.
+pub const NDTPA_MCAST_PROBES: Kind = Kind(11);
+/// The kind `NDTPA_ANYCAST_DELAY`.
+pub const NDTPA_ANYCAST_DELAY: Kind = Kind(12);
+/// The kind `NDTPA_PROXY_DELAY`.
+pub const NDTPA_PROXY_DELAY: Kind = Kind(13);
+/// The kind `NDTPA_PROXY_QLEN`.
+pub const NDTPA_PROXY_QLEN: Kind = Kind(14);
+/// The kind `NDTPA_LOCKTIME`.
+pub const NDTPA_LOCKTIME: Kind = Kind(15);
+/// The kind `NDTPA_QUEUE_LENBYTES`.
+pub const NDTPA_QUEUE_LENBYTES: Kind = Kind(16);
+/// The kind `NDTPA_MCAST_REPROBES`.
+pub const NDTPA_MCAST_REPROBES: Kind = Kind(17);
+/// The kind `NDTPA_INTERVAL_PROBE_TIME_MS`.
+pub const NDTPA_INTERVAL_PROBE_TIME_MS: Kind = Kind(19);
+
+// Routes, and `struct rtmsg`.
+/// The message type `RTM_NEWROUTE`.
+pub const RTM_NEWROUTE: u16 = 24;
+/// The message type `RTM_DELROUTE`.
+pub const RTM_DELROUTE: u16 = 25;
+/// The message type `RTM_GETROUTE`.
+pub const RTM_GETROUTE: u16 = 26;
+/// The field `rtm_family`.
+pub const RTM_FAMILY: Field = Field(0x001);
+/// The field `rtm_dst_len`.
+pub const RTM_DST_LEN: Field = Field(0x101);
+/// The field `rtm_src_len`.
+pub const RTM_SRC_LEN: Field = Field(0x201);
+/// The field `rtm_tos`.
+pub const RTM_TOS: Field = Field(0x301);
+/// The field `rtm_table`.
+pub const RTM_TABLE: Field = Field(0x401);
+/// The field `rtm_protocol`.
+pub const RTM_PROTOCOL: Field = Field(0x501);
+/// The field `rtm_scope`.
+pub const RTM_SCOPE: Field = Field(0x601);
+/// The field `rtm_type`.
+pub const RTM_TYPE: Field = Field(0x701);
+/// The field `rtm_flags`.
+pub const RTM_FLAGS: Field = Field(0x803);
+/// The field `rtnh_ifindex`.
+pub const RTNH_IFINDEX: Field = Field(0x004);
+/// The kind `RTA_DST`.
+pub const RTA_DST: Kind = Kind(1);
+/// The kind `RTA_SRC`.
+pub const RTA_SRC: Kind = Kind(2);
+/// The kind `RTA_IIF`.
+pub const RTA_IIF: Kind = Kind(3);
+/// The kind `RTA_OIF`.
+pub const RTA_OIF: Kind = Kind(4);
+/// The kind `RTA_GATEWAY`.
+pub const RTA_GATEWAY: Kind = Kind(5);
+/// The kind `RTA_PRIORITY`.
+pub const RTA_PRIORITY: Kind = Kind(6);
+/// The kind `RTA_PREFSRC`.
+pub const RTA_PREFSRC: Kind = Kind(7);
+/// The kind `RTA_METRICS`.
+pub const RTA_METRICS: Kind = Kind(8);
+/// The kind `RTA_MULTIPATH`.
+pub const RTA_MULTIPATH: Kind = Kind(9);
+/// The kind `RTA_FLOW`.
+pub const RTA_FLOW: Kind = Kind(11);
+/// The kind `RTA_CACHEINFO`.
+pub const RTA_CACHEINFO: Kind = Kind(12);
+/// The kind `RTA_TABLE`.
+pub const RTA_TABLE: Kind = Kind(15);
+/// The kind `RTA_MARK`.
+pub const RTA_MARK: Kind = Kind(16);
+/// The kind `RTA_MFC_STATS`.
+pub const RTA_MFC_STATS: Kind = Kind(17);
+/// The kind `RTA_VIA`.
+pub const RTA_VIA: Kind = Kind(18);
+/// The kind `RTA_NEWDST`.
+pub const RTA_NEWDST: Kind = Kind(19);
+/// The kind `RTA_PREF`.
+pub const RTA_PREF: Kind = Kind(20);
+/// The kind `RTA_ENCAP_TYPE`.
+pub const RTA_ENCAP_TYPE: Kind = Kind(21);
+/// The kind `RTA_ENCAP`.
+pub const RTA_ENCAP: Kind = Kind(22);
+/// The kind `RTA_EXPIRES`.
+pub const RTA_EXPIRES: Kind = Kind(23);
+/// The kind `RTA_UID`.
+pub const RTA_UID: Kind = Kind(25);
+/// The kind `RTA_TTL_PROPAGATE`.
+pub const RTA_TTL_PROPAGATE: Kind = Kind(26);
+/// The kind `RTA_IP_PROTO`.
+pub const RTA_IP_PROTO: Kind = Kind(27);
+/// The kind `RTA_SPORT`.
+pub const RTA_SPORT: Kind = Kind(28);
+/// The kind `RTA_DPORT`.
+pub const RTA_DPORT: Kind = Kind(29);
+/// The kind `RTA_NH_ID`.
+pub const RTA_NH_ID: Kind = Kind(30);
+/// The kind `RTAX_LOCK`.
+pub const RTAX_LOCK: Kind = Kind(1);
+/// The kind `RTAX_MTU`.
+pub const RTAX_MTU: Kind = Kind(2);
+/// The kind `RTAX_WINDOW`.
+pub const RTAX_WINDOW: Kind = Kind(3);
+/// The kind `RTAX_RTT`.
+pub const RTAX_RTT: Kind = Kind(4);
+/// The kind `RTAX_RTTVAR`.
+pub const RTAX_RTTVAR: Kind = Kind(5);
+/// The kind `RTAX_SSTHRESH`.
+pub const RTAX_SSTHRESH: Kind = Kind(6);
+/// The kind `RTAX_CWND`.
+pub const RTAX_CWND: Kind = Kind(7);
+/// The kind `RTAX_ADVMSS`.
+pub const RTAX_ADVMSS: Kind = Kind(8);
+/// The kind `RTAX_REORDERING`.
+pub const RTAX_REORDERING: Kind = Kind(9);
+/// The kind `RTAX_HOPLIMIT`.
+pub const RTAX_HOPLIMIT: Kind = Kind(10);
+/// The kind `RTAX_INITCWND`.
+pub const RTAX_INITCWND: Kind = Kind(11);
+/// The kind `RTAX_FEATURES`.
+pub const RTAX_FEATURES: Kind = Kind(12);
+/// The kind `RTAX_RTO_MIN`.
+pub const RTAX_RTO_MIN: Kind = Kind(13);
+/// The kind `RTAX_INITRWND`.
+pub const RTAX_INITRWND: Kind = Kind(14);
+/// The kind `RTAX_QUICKACK`.
+pub const RTAX_QUICKACK: Kind = Kind(15);
+/// The kind `RTAX_CC_ALGO`.
+pub const RTAX_CC_ALGO: Kind = Kind(16);
+/// The kind `RTAX_FASTOPEN_NO_COOKIE`.
+pub const RTAX_FASTOPEN_NO_COOKIE: Kind = Kind(17);
+
+// Rules, and `struct fib_rule_hdr`.
+/// The message type `RTM_NEWRULE`.
+pub const RTM_NEWRULE: u16 = 32;
+/// The message type `RTM_DELRULE`.
+pub const RTM_DELRULE: u16 = 33;
+/// The message type `RTM_GETRULE`.
+pub const RTM_GETRULE: u16 = 34;
+/// The field `family`.
+pub const FRH_FAMILY: Field = Field(0x001);
+/// The field `dst_len`.
+pub const FRH_DST_LEN: Field = Field(0x101);
+/// The field `src_len`.
+pub const FRH_SRC_LEN: Field = Field(0x201);
+/// The field `tos`.
+pub const FRH_TOS: Field = Field(0x301);
+/// The field `table`.
+pub const FRH_TABLE: Field = Field(0x401);
+/// The field `action`.
+pub const FRH_ACTION: Field = Field(0x701);
+/// The field `flags`.
+pub const FRH_FLAGS: Field = Field(0x803);
+/// The kind `FRA_DST`.
+pub const FRA_DST: Kind = Kind(1);
+/// The kind `FRA_SRC`.
+pub const FRA_SRC: Kind = Kind(2);
+/// The kind `FRA_IIFNAME`.
+pub const FRA_IIFNAME: Kind = Kind(3);
+/// The kind `FRA_GOTO`.
+pub const FRA_GOTO: Kind = Kind(4);
+/// The kind `FRA_PRIORITY`.
+pub const FRA_PRIORITY: Kind = Kind(6);
+/// The kind `FRA_FWMARK`.
+pub const FRA_FWMARK: Kind = Kind(10);
+/// The kind `FRA_FLOW`.
+pub const FRA_FLOW: Kind = Kind(11);
+/// The kind `FRA_TUN_ID`.
+pub const FRA_TUN_ID: Kind = Kind(12);
+/// The kind `FRA_SUPPRESS_IFGROUP`.
+pub const FRA_SUPPRESS_IFGROUP: Kind = Kind(13);
+/// The kind `FRA_SUPPRESS_PREFIXLEN`.
+pub const FRA_SUPPRESS_PREFIXLEN: Kind = Kind(14);
+/// The kind `FRA_TABLE`.
+pub const FRA_TABLE: Kind = Kind(15);
+/// The kind `FRA_FWMASK`.
+pub const FRA_FWMASK: Kind = Kind(16);
+/// The kind `FRA_OIFNAME`.
+pub const FRA_OIFNAME: Kind = Kind(17);
+/// The kind `FRA_L3MDEV`.
+pub const FRA_L3MDEV: Kind = Kind(19);
+/// The kind `FRA_UID_RANGE`.
+pub const FRA_UID_RANGE: Kind = Kind(20);
+/// The kind `FRA_PROTOCOL`.
+pub const FRA_PROTOCOL: Kind = Kind(21);
+/// The kind `FRA_IP_PROTO`.
+pub const FRA_IP_PROTO: Kind = Kind(22);
+/// The kind `FRA_SPORT_RANGE`.
+pub const FRA_SPORT_RANGE: Kind = Kind(23);
+/// The kind `FRA_DPORT_RANGE`.
+pub const FRA_DPORT_RANGE: Kind = Kind(24);
+/// The kind `FRA_DSCP`.
+pub const FRA_DSCP: Kind = Kind(25);
+/// The kind `FRA_FLOWLABEL`.
+pub const FRA_FLOWLABEL: Kind = Kind(26);
+/// The kind `FRA_FLOWLABEL_MASK`.
+pub const FRA_FLOWLABEL_MASK: Kind = Kind(27);
+/// The kind `FRA_SPORT_MASK`.
+pub const FRA_SPORT_MASK: Kind = Kind(28);
+/// The kind `FRA_DPORT_MASK`.
+pub const FRA_DPORT_MASK: Kind = Kind(29);
+/// The kind `FRA_DSCP_MASK`.
+pub const FRA_DSCP_MASK: Kind = Kind(30);
+
+// Ids of network namespaces, and `struct rtgenmsg`.
+/// The message type `RTM_NEWNSID`.
+pub const RTM_NEWNSID: u16 = 88;
+/// The message type `RTM_DELNSID`.
+pub const RTM_DELNSID: u16 = 89;
+/// The message type `RTM_GETNSID`.
+pub const RTM_GETNSID: u16 = 90;
+/// The field `rtgen_family`.
+pub const RTGEN_FAMILY: Field = Field(0x001);
+/// The kind `NETNSA_NSID`.
+pub const NETNSA_NSID: Kind = Kind(1);
+/// The kind `NETNSA_PID`.
+pub const NETNSA_PID: Kind = Kind(2);
+/// The kind `NETNSA_FD`.
+pub const NETNSA_FD: Kind = Kind(3);
+/// The kind `NETNSA_TARGET_NSID`.
+pub const NETNSA_TARGET_NSID: Kind = Kind(4);
+/// The kind `NETNSA_CURRENT_NSID`.
+pub const NETNSA_CURRENT_NSID: Kind = Kind(5);
+
+// Generic netlink's controller, and `struct genlmsghdr`.
+/// The message type `GENL_ID_CTRL`.
+pub const GENL_ID_CTRL: u16 = 16;
+/// The field `cmd`.
+pub const GENL_CMD: Field = Field(0x001);
+/// The field `version`.
+pub const GENL_VERSION: Field = Field(0x101);
+/// The number `CTRL_CMD_NEWFAMILY`.
+pub const CTRL_CMD_NEWFAMILY: u8 = 1;
+/// The number `CTRL_CMD_DELFAMILY`.
+pub const CTRL_CMD_DELFAMILY: u8 = 2;
+/// The number `CTRL_CMD_GETFAMILY`.
+pub const CTRL_CMD_GETFAMILY: u8 = 3;
+/// The number `CTRL_CMD_NEWOPS`.
+pub const CTRL_CMD_NEWOPS: u8 = 4;
+/// The number `CTRL_CMD_DELOPS`.
+pub const CTRL_CMD_DELOPS: u8 = 5;
+/// The number `CTRL_CMD_GETOPS`.
+pub const CTRL_CMD_GETOPS: u8 = 6;
+/// The number `CTRL_CMD_NEWMCAST_GRP`.
+pub const CTRL_CMD_NEWMCAST_GRP: u8 = 7;
+/// The number `CTRL_CMD_DELMCAST_GRP`.
+pub const CTRL_CMD_DELMCAST_GRP: u8 = 8;
+/// The number `CTRL_CMD_GETMCAST_GRP`.
+pub const CTRL_CMD_GETMCAST_GRP: u8 = 9;
+/// The number `CTRL_CMD_GETPOLICY`.
+pub const CTRL_CMD_GETPOLICY: u8 = 10;
+/// The kind `CTRL_ATTR_FAMILY_ID`.
+pub const CTRL_ATTR_FAMILY_ID: Kind = Kind(1);
+/// The kind `CTRL_ATTR_FAMILY_NAME`.
+pub const CTRL_ATTR_FAMILY_NAME: Kind = Kind(2);
+/// The kind `CTRL_ATTR_VERSION`.
+pub const CTRL_ATTR_VERSION: Kind = Kind(3);
+/// The kind `CTRL_ATTR_HDRSIZE`.
+pub const CTRL_ATTR_HDRSIZE: Kind = Kind(4);
+/// The kind `CTRL_ATTR_MAXATTR`.
+pub const CTRL_ATTR_MAXATTR: Kind = Kind(5);
+/// The kind `CTRL_ATTR_OPS`.
+pub const CTRL_ATTR_OPS: Kind = Kind(6);
+/// The kind `CTRL_ATTR_MCAST_GROUPS`.
+pub const CTRL_ATTR_MCAST_GROUPS: Kind = Kind(7);
+/// The kind `CTRL_ATTR_POLICY`.
+pub const CTRL_ATTR_POLICY: Kind = Kind(8);
+/// The kind `CTRL_ATTR_OP_POLICY`.
+pub const CTRL_ATTR_OP_POLICY: Kind = Kind(9);
+/// The kind `CTRL_ATTR_OP`.
+pub const CTRL_ATTR_OP: Kind = Kind(10);
+/// The kind `CTRL_ATTR_OP_ID`.
+pub const CTRL_ATTR_OP_ID: Kind = Kind(1);
+/// The kind `CTRL_ATTR_OP_FLAGS`.
+pub const CTRL_ATTR_OP_FLAGS: Kind = Kind(2);
+/// The kind `CTRL_ATTR_MCAST_GRP_NAME`.
+pub const CTRL_ATTR_MCAST_GRP_NAME: Kind = Kind(1);
+/// The kind `CTRL_ATTR_MCAST_GRP_ID`.
+pub const CTRL_ATTR_MCAST_GRP_ID: Kind = Kind(2);
+/// The kind `NL_POLICY_TYPE_ATTR_TYPE`.
+pub const NL_POLICY_TYPE_ATTR_TYPE: Kind = Kind(1);
+/// The kind `NL_POLICY_TYPE_ATTR_MIN_VALUE_S`.
+pub const NL_POLICY_TYPE_ATTR_MIN_VALUE_S: Kind = Kind(2);
+/// The kind `NL_POLICY_TYPE_ATTR_MAX_VALUE_S`.
+pub const NL_POLICY_TYPE_ATTR_MAX_VALUE_S: Kind = Kind(3);
+/// The kind `NL_POLICY_TYPE_ATTR_MIN_VALUE_U`.
+pub const NL_POLICY_TYPE_ATTR_MIN_VALUE_U: Kind = Kind(4);
+/// The kind `NL_POLICY_TYPE_ATTR_MAX_VALUE_U`.
+pub const NL_POLICY_TYPE_ATTR_MAX_VALUE_U: Kind = Kind(5);
+/// The kind `NL_POLICY_TYPE_ATTR_MIN_LENGTH`.
+pub const NL_POLICY_TYPE_ATTR_MIN_LENGTH: Kind = Kind(6);
+/// The kind `NL_POLICY_TYPE_ATTR_MAX_LENGTH`.
+pub const NL_POLICY_TYPE_ATTR_MAX_LENGTH: Kind = Kind(7);
+/// The kind `NL_POLICY_TYPE_ATTR_POLICY_IDX`.
+pub const NL_POLICY_TYPE_ATTR_POLICY_IDX: Kind = Kind(8);
+/// The kind `NL_POLICY_TYPE_ATTR_POLICY_MAXTYPE`.
+pub const NL_POLICY_TYPE_ATTR_POLICY_MAXTYPE: Kind = Kind(9);
+/// The kind `NL_POLICY_TYPE_ATTR_BITFIELD32_MASK`.
+pub const NL_POLICY_TYPE_ATTR_BITFIELD32_MASK: Kind = Kind(10);
+/// The kind `NL_POLICY_TYPE_ATTR_PAD`.
+pub const NL_POLICY_TYPE_ATTR_PAD: Kind = Kind(11);
+/// The kind `NL_POLICY_TYPE_ATTR_MASK`.
+pub const NL_POLICY_TYPE_ATTR_MASK: Kind = Kind(12);
+/// The kind `CTRL_ATTR_POLICY_DO`.
+pub const CTRL_ATTR_POLICY_DO: Kind = Kind(1);
+/// The kind `CTRL_ATTR_POLICY_DUMP`.
+pub const CTRL_ATTR_POLICY_DUMP: Kind = Kind(2);
