@@ -75,3 +75,6 @@ returns-in-Err-clause-next g c =
     let long : 8 ≤ length head = omega (arith, enough, head_least c.args.section.order head) in
     let is : block_of c.args.section head ≡ Err c.in-Err.why = rw c.deref-2.ensures.value at (sym c.block_of.ensures.is ∙ c.in-Err.is) in
     stops_head c.args.section old middle head c.in-Err.why took long whole is
+
+pub returns-then-size-least-clause-next : goal.returns-then-size-least-clause-next
+returns-then-size-least-clause-next g c = search rules

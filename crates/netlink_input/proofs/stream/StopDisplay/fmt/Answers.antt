@@ -1,4 +1,4 @@
-use Rattle.std.proofs.Common.{subst, sym, ◌++◌}
+use Rattle.std.proofs.Common.{rules, subst, sym, ◌++◌}
 use Rattle.std.specs.Fmt.{HasWritten}
 use Rattle.std.specs.Prelude.{codes, decimal}
 use Rattle.netlink_input.specs.Stream.{why_text}
@@ -8,3 +8,6 @@ pub returns-in-TooLong-clause-writes : goal.returns-in-TooLong-clause-writes
 returns-in-TooLong-clause-writes g c = λ plain ok.
     subst (λ why. HasWritten g.W.Write.write_str_gives c.args.f.now (codes "byte " ++ (decimal c.args.self.now.at ++ (codes ": " ++ why_text why))) c.write-in-TooLong.new.self)
     (sym c.in-TooLong.is) (c.write-in-TooLong.ensures.writes plain ok)
+
+pub returns-in-Damaged-clause-writes : goal.returns-in-Damaged-clause-writes
+returns-in-Damaged-clause-writes g c = search rules
