@@ -171,7 +171,7 @@ static inline uint32_t model_first(const uint8_t *payload, size_t len, const str
 }
 
 /* Returns the attributes of a view, or NULL if they are not inside the payload. A block without bytes is not read. */
-static inline const uint8_t *model_block(const uint8_t *payload, size_t len, const struct nlp_view *view)
+static inline const uint8_t *view_block(const uint8_t *payload, size_t len, const struct nlp_view *view)
 {
     static const uint8_t nothing;
     const struct nlp_part *block = &view->attributes;
@@ -195,7 +195,7 @@ static inline struct nlp_shape shape_by(const struct model_row *row)
 static inline uint32_t model_shape(const uint8_t *payload, size_t len, const struct nlp_view *view, uint16_t kind,
                                    struct nlp_shape *shape)
 {
-    const uint8_t *block = model_block(payload, len, view);
+    const uint8_t *block = view_block(payload, len, view);
     if (block == NULL)
         return NLP_NO_PLACE;
     const struct model_row row = row_in(family_of(view->message_type), view->policy, block, view->attributes.size, kind);
@@ -206,7 +206,7 @@ static inline uint32_t model_shape(const uint8_t *payload, size_t len, const str
 /* The attribute at an offset of a view, and where the next one is. */
 static inline uint32_t model_next(const uint8_t *payload, size_t len, const struct nlp_view *view, size_t *at, struct nlp_item *item)
 {
-    const uint8_t *block = model_block(payload, len, view);
+    const uint8_t *block = view_block(payload, len, view);
     const size_t start = view->attributes.offset, size = view->attributes.size;
     struct nlp_fault ignored;
     struct nlp_attr one;
@@ -232,7 +232,7 @@ static inline uint32_t model_next(const uint8_t *payload, size_t len, const stru
 static inline uint32_t model_check(const uint8_t *payload, size_t len, const struct nlp_view *view, uint16_t shape, uint16_t kind,
                                    const uint8_t *value, size_t size, struct nlp_route_error *error)
 {
-    const uint8_t *block = model_block(payload, len, view);
+    const uint8_t *block = view_block(payload, len, view);
     const int family = family_of(view->message_type);
     const size_t end = view->attributes.offset + view->attributes.size;
     if (block == NULL)
