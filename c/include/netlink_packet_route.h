@@ -181,7 +181,7 @@ enum {
     NLP_SHAPE_MIN_LEN = 15,       /* at least `size` bytes */
     NLP_SHAPE_NESTED = 16,        /* a nest, whose attributes have the shapes of `policy` */
     NLP_SHAPE_HEADER_NESTED = 17, /* the same, after a header of `size` bytes */
-    NLP_SHAPE_CHOSEN = 18,        /* that of IFLA_INFO_DATA in the table. The chosen shape always takes its place */
+    NLP_SHAPE_CHOSEN = 18,        /* of the table alone: the functions write the shape that was chosen instead */
     NLP_SHAPE_ANY = 0xffff        /* of nlp_view_check: any shape */
 };
 
@@ -242,7 +242,8 @@ uint32_t nlp_view_next(const uint8_t *payload, size_t len, const struct nlp_view
  * whether the value has it, in a nest all of its attributes. NLP_OK; NLP_NO_PLACE if the view is not inside the payload;
  * NLP_WRONG_SHAPE if the table gives the kind another shape, which is then `expected`, and `shape` is `received`;
  * NLP_TOO_LONG if the value is longer than 65,531 bytes; or the reason of its error, as of nlp_route_view. The offset is
- * that of the attribute, at the end of the view; offsets are from the start of the payload.
+ * that of the attribute, at the end of the view; offsets are from the start of the payload. nlp_route_error_text has no
+ * text for NLP_WRONG_SHAPE.
  * Proved: which result, and the numbers; NLP_OK and NLP_NO_PLACE leave the error unchanged. */
 uint32_t nlp_view_check(const uint8_t *payload, size_t len, const struct nlp_view *view, uint16_t shape, uint16_t kind,
                         const uint8_t *value, size_t size, struct nlp_route_error *error) NLP_CHECKED(3, 8);
