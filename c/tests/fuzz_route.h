@@ -220,7 +220,8 @@ static void walk_view(const struct input *in)
     const struct nlp_view before = *view;
     struct nlp_view_walk *walk = place(EXTRA, sizeof *walk), old;
     struct nlp_item *item = place(BUFFER, sizeof *item), expected;
-    size_t at = in->args[9] % 4 == 0 ? near(in->args[10], view->attributes.size) : 0;
+    const size_t size = view->attributes.size;
+    size_t at = in->args[9] % 4 == 0 ? near(in->args[10], size < in->len ? size : in->len) : 0;
     uint32_t result;
     *walk = (struct nlp_view_walk){ at, none[in->args[9] / 4 % 2], none[in->args[9] / 8 % 2] };
     do {
