@@ -229,7 +229,6 @@ static inline void nlp_route_nest_end(struct nlp_writer *writer, struct nlp_rout
     if (outer->error.reason == NLP_OK)
         outer->error = inner->error;
     nlp_writer_nest_end(writer, mark);
-    outer->view.attributes.size = inner->start - outer->view.attributes.offset;
     if (writer->failed == NLP_OK && outer->view.policy == 0)
         writer->failed = nlp_view_check(writer->buffer, writer->at, &outer->view, NLP_SHAPE_ANY, inner->kind,
                                         writer->buffer + at, writer->at - at, &outer->error);

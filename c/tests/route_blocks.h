@@ -36,4 +36,11 @@ static inline struct nlp_route_block block_of(const struct nlp_writer *writer, u
     return block;
 }
 
+static inline bool is_error(const struct nlp_route_error *error, uint32_t reason, uint16_t kind, uint16_t policy, size_t offset,
+                     size_t expected, size_t received)
+{
+    return error->reason == reason && error->kind == kind && error->policy == policy && error->offset == offset
+        && error->expected == expected && error->received == received;
+}
+
 #endif

@@ -2,13 +2,6 @@
  * after the kernel's headers. */
 #include "route_blocks.h"
 
-static bool is_error(const struct nlp_route_error *error, uint32_t reason, uint16_t kind, uint16_t policy, size_t offset,
-                     size_t expected, size_t received)
-{
-    return error->reason == reason && error->kind == kind && error->policy == policy && error->offset == offset
-        && error->expected == expected && error->received == received;
-}
-
 /* Puts into a block of links, of a policy, a kind for which the table has the shape `own`. */
 #define REFUSES(policy, kind, own, number, call) do { \
         struct nlp_writer writer = begin(); \
@@ -98,15 +91,16 @@ static void errors_in_nests(void)
     struct nlp_route_block info = nlp_route_nest(&writer, &link, NLP_IFLA_LINKINFO);
     nlp_route_put_str(&writer, &info, NLP_IFLA_INFO_KIND, "vlan");
     struct nlp_route_block data = nlp_route_nest(&writer, &info, NLP_IFLA_INFO_DATA);
-    nlp_route_put_be16(&writer, &data, NLP_IFLA_VLAN_ID, 5);
+    nlp_route_put_u16(&writer, &data, NLP_IFLA_VLAN_ID, 5);
+    nlp_route_put_u16(&writer, &data, NLP_IFLA_VLAN_PROTOCOL, 0x88a8);
     const size_t at = writer.at;
     nlp_route_nest_end(&writer, &info, &data);
     nlp_route_nest_end(&writer, &link, &info);
     expect("the error of a nest", writer.failed == NLP_WRONG_SHAPE && writer.at == at && buffer[0] == 4 && buffer[16] == 4
-        && is_error(&link.error, NLP_WRONG_SHAPE, 1, 11, 20, 2, 7) && is_error(&info.error, NLP_WRONG_SHAPE, 1, 11, 20, 2, 7));
+        && is_error(&link.error, NLP_WRONG_SHAPE, 5, 11, 28, 7, 2) && is_error(&info.error, NLP_WRONG_SHAPE, 5, 11, 28, 7, 2));
     data.error.kind = 99;
     nlp_route_nest_end(&writer, &link, &data);
-    expect("the first error stays", link.error.kind == 1);
+    expect("the first error stays", link.error.kind == 5);
 }
 
 /* Peers of peers, each of which is in three nests. */
@@ -154,7 +148,8 @@ static void failures(void)
     nlp_route_put_u32(&writer, &paths, NLP_RTA_OIF, 1);
     expect("a block that was taken back", writer.failed == NLP_NO_PLACE && writer.at == 0 && paths.error.reason == NLP_OK);
     writer.failed = NLP_OK;
-    expect("its shapes", nlp_route_shape(&writer, &paths, NLP_RTA_OIF).shape == 0 && writer.failed == NLP_NO_PLACE);
+    const struct nlp_shape shape = nlp_route_shape(&writer, &paths, NLP_RTA_OIF);
+    expect("its shapes", shape.shape == 0 && shape.size == 0 && shape.policy == 0 && writer.failed == NLP_NO_PLACE);
     writer.failed = NLP_OK;
     nlp_route_nest_end(&writer, &route, &paths);
     expect("no nest to end", writer.failed == NLP_NO_PLACE && route.error.reason == NLP_OK);

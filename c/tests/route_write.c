@@ -187,11 +187,13 @@ static void nests(void)
     const struct nlp_frame_mark frame = nlp_route_request(&writer, NLP_RTM_NEWLINK, 0x600);
     struct nlp_route_block link = nlp_route_attrs(&writer, NLP_RTM_NEWLINK);
     expect("a block", link.view.message_type == 16 && link.view.policy == 0 && link.view.missing == 0 && link.start == 32
-        && link.view.attributes.offset == 32 && link.view.header.offset == 32 && link.view.header.size == 0 && link.kind == 0);
+        && link.view.attributes.offset == 32 && link.view.header.offset == 32 && link.view.header.size == 0 && link.kind == 0
+        && is_error(&link.error, 0, 0, 0, 0, 0, 0));
     nlp_route_put_str(&writer, &link, NLP_IFLA_IFNAME, "v5");
     struct nlp_route_block info = nlp_route_nest(&writer, &link, NLP_IFLA_LINKINFO);
     expect("a nest", info.view.message_type == 16 && info.view.policy == 1 && info.view.attributes.offset == 44 && info.start == 40
-        && info.view.header.offset == 44 && info.view.header.size == 0 && info.kind == 18 && info.error.reason == NLP_OK);
+        && info.view.header.offset == 44 && info.view.header.size == 0 && info.view.missing == 0 && info.view.attributes.size == 0
+        && info.kind == 18 && is_error(&info.error, 0, 0, 0, 0, 0, 0));
     nlp_route_put_str(&writer, &info, NLP_IFLA_INFO_KIND, "vlan");
     struct nlp_route_block data = nlp_route_nest(&writer, &info, NLP_IFLA_INFO_DATA);
     nlp_route_put_u16(&writer, &data, NLP_IFLA_VLAN_ID, 5);
