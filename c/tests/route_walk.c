@@ -233,6 +233,22 @@ static void walks(void)
     walk_of("no payload", NULL, 0, &view, NULL, 0);
 }
 
+/* The view of the second message of a datagram. Its offsets are from the start of its payload. */
+static void messages(void)
+{
+    static const uint8_t datagram[] = {
+        16, 0, 0, 0, 3, 0, 0, 0, 0, 0, 0, 0, 0, 0, 0, 0,
+        32, 0, 0, 0, 20, 0, 0, 0, 0, 0, 0, 0, 0, 0, 0, 0, 2, 24, 0, 0, 4, 0, 0, 0, 8, 0, 2, 0, 10, 0, 0, 1 /* IFA_LOCAL */
+    };
+    static const struct wanted_item local = { NLP_IFA_LOCAL, { 11, 0, 0 }, { 12, 4 }, { 12, 0 }, { 12, 0 } };
+    const struct nlp_message message = { { 32, 20, 0, 0, 0 }, { 32, 16 } };
+    struct nlp_view view = block_at(0, 0, 0, 0);
+    struct nlp_route_error error;
+    expect("a message", nlp_message_view(datagram, &message, &view, &error) == NLP_OK && view.message_type == NLP_RTM_NEWADDR
+        && is_part(&view.attributes, 8, 8));
+    walk_of("the items of a message", datagram + 32, 16, &view, &local, 1);
+}
+
 /* A route with two hops: struct rtnexthop has a length, flags and hops, which are the kind, and an index. */
 static void hops(void)
 {
@@ -307,6 +323,7 @@ int main(void)
     shapes();
     chosen_shapes();
     walks();
+    messages();
     hops();
     stray_walks();
     printf("%d passed, %d failed\n", passed, failed);
