@@ -27,10 +27,12 @@ size_t message_rewrite(const uint8_t *frame, size_t len, uint8_t *buffer, size_t
 output attributes_walk_output, attributes_append_output, attributes_normalize_output;
 output raw_read_output, frames_append_output, trees_output, route_output;
 
-/* The cases of calls_libmnl.c, calls_libnl.c and route/. */
+/* The cases of calls_c.c, calls_libmnl.c, calls_libnl.c and route/. */
 #define WEAK __attribute__((weak))
 WEAK call libmnl_look, libmnl_walk, libmnl_append, libnl_read;
 WEAK output libmnl_walk_output, libmnl_append_output;
+WEAK call c_five, libmnl_five, libnl_five, netlink_packet_route_five;
+WEAK output c_five_output, libmnl_five_output, libnl_five_output, netlink_packet_route_five_output;
 WEAK call netlink_packet_route_read, netlink_packet_route_look;
 WEAK call rust_read, rust_normalize, rust_append_frames, rust_read_tree, rust_rewrite_tree;
 WEAK output netlink_packet_route_output;
@@ -81,6 +83,10 @@ static const struct {
     { "route_indexed", route_indexed, NULL },
     { "route_hops", route_hops, NULL },
     { "link_push", link_push, NULL },
+    { "c_five", c_five, c_five_output },
+    { "libmnl_five", libmnl_five, libmnl_five_output },
+    { "libnl_five", libnl_five, libnl_five_output },
+    { "netlink_packet_route_five", netlink_packet_route_five, netlink_packet_route_five_output },
     { "libmnl_look", libmnl_look, NULL },
     { "libmnl_walk", libmnl_walk, libmnl_walk_output },
     { "libmnl_append", libmnl_append, libmnl_append_output },

@@ -1,4 +1,6 @@
-/* Links, addresses and routes read by libmnl: attributes validated into a table of pointers by kind, then each read once. */
+/* Links, addresses and routes read by libmnl: attributes validated into a table of pointers by kind, then each read once,
+ * or five of a link. */
+#include "five.h"
 #include <libmnl/libmnl.h>
 #include <linux/if_addr.h>
 #include <linux/if_link.h>
@@ -100,6 +102,45 @@ size_t libmnl_look(const uint8_t *bytes, size_t len)
             sum += route_sum(message);
     }
     return sum;
+}
+
+static bool read_five(const uint8_t *bytes, size_t len, struct five *five)
+{
+    const struct nlmsghdr *message = (const void *)bytes;
+    const struct nlattr *at[IFLA_MAX + 1] = { 0 };
+    struct table table = { at, link_types, IFLA_MAX };
+    if (!mnl_nlmsg_ok(message, (int)len))
+        return false;
+    if (mnl_attr_parse(message, sizeof(struct ifinfomsg), enter, &table) != MNL_CB_OK)
+        return false;
+    if (at[IFLA_IFNAME])
+        five->name = mnl_attr_get_str(at[IFLA_IFNAME]);
+    if (at[IFLA_MTU])
+        five->mtu = mnl_attr_get_u32(at[IFLA_MTU]);
+    if (at[IFLA_OPERSTATE])
+        five->state = mnl_attr_get_u8(at[IFLA_OPERSTATE]);
+    if (at[IFLA_TXQLEN])
+        five->queue = mnl_attr_get_u32(at[IFLA_TXQLEN]);
+    if (at[IFLA_ADDRESS]) {
+        five->address = mnl_attr_get_payload(at[IFLA_ADDRESS]);
+        five->address_size = mnl_attr_get_payload_len(at[IFLA_ADDRESS]);
+    }
+    return true;
+}
+
+size_t libmnl_five(const uint8_t *bytes, size_t len)
+{
+    struct five five = { .name = "", .address = "" };
+    return read_five(bytes, len, &five) ? five_sum(&five) : 0;
+}
+
+size_t libmnl_five_output(const uint8_t *bytes, size_t len, uint8_t *out, size_t room)
+{
+    struct five five = { .name = "", .address = "" };
+    if (!read_five(bytes, len, &five))
+        return 0;
+    five.name_size = strlen(five.name);
+    return five_bytes(&five, out, room);
 }
 
 /* Walks a block of attributes. Returns the sum of the sizes of the values. */

@@ -20,6 +20,11 @@ def frame(message_type, payload):
     return pack("<IHHII", 16 + len(payload), message_type, 0, 0, 0) + payload + bytes(-len(payload) % 4)
 
 
+def second(datagram):
+    """Returns the second frame of two; the first has no padding."""
+    return datagram[int.from_bytes(datagram[:4], "little") :]
+
+
 def attribute(kind, value, padding=b"\0"):
     return pack("<HH", 4 + len(value), kind) + value + padding * (-len(value) % 4)
 
@@ -60,6 +65,7 @@ MESSAGES = [
     ("16 links", captured("link-by-name-0.bin") * 16),
     ("7 addresses", captured("addresses-0.bin")),
 ]
+FIVE = [("a veth", second(captured("links-0.bin"))), ("a bridge", captured("link-by-name-0.bin"))]
 BLOCK, DATAGRAM = attributes(1000, (4, 5, 6, 7)), b"".join(frame(18, bytes(4 + i % 4)) for i in range(1000))
 ROWS = [
     ("a message of 4 bytes decoded", "message_read", generic(4)),

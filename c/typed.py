@@ -1,5 +1,5 @@
-"""Runs the examples of messages by tables for c/test, in C, Rust and Python, in a network namespace of its own: they print
-what `ip -j` prints there.
+"""Runs the examples of messages by tables for c/test, in C, Rust and Python, and the programs over libmnl that do the same,
+in a network namespace of its own: they print what `ip -j` prints there.
 
     c/typed.py LANGUAGE=FOLDER ..    in that namespace: runs the examples in these folders
 

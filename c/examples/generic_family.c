@@ -28,6 +28,7 @@ static int print_family(const uint8_t *bytes, const struct nlp_message *message,
 
 int main(int count, char **words)
 {
+    char *name = count == 2 ? words[1] : "nlctrl";
     const struct nlp_header header = { 0, NLP_GENL_ID_CTRL, 0, 0, 0 };
     const uint8_t fixed[4] = { NLP_CTRL_CMD_GETFAMILY, 1, 0, 0 };
     uint8_t request[64];
@@ -35,11 +36,11 @@ int main(int count, char **words)
     struct nlp_answer answer;
     struct nlp_writer writer = nlp_writer_begin(request, sizeof request);
     const struct nlp_frame_mark frame = nlp_writer_frame(&writer, &header, fixed, sizeof fixed);
-    nlp_writer_put_str(&writer, NLP_CTRL_ATTR_FAMILY_NAME, count == 2 ? words[1] : "nlctrl");
+    nlp_writer_put_str(&writer, NLP_CTRL_ATTR_FAMILY_NAME, name);
     nlp_writer_frame_end(&writer, frame);
     if (nlp_socket_open(&socket, NETLINK_GENERIC) != 0)
         return 2;
-    if (nlp_socket_request(&socket, &writer, print_family, count == 2 ? words[1] : "nlctrl", &answer) != NLP_ANSWER_DONE)
+    if (nlp_socket_request(&socket, &writer, print_family, name, &answer) != NLP_ANSWER_DONE)
         fprintf(stderr, "%s\n", nlp_answer_text(&answer));
     nlp_socket_close(&socket);
     return answer.what != NLP_ANSWER_DONE;

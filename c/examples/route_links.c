@@ -1,4 +1,4 @@
-/* Prints index, name, MTU, state and kind of each link of the kernel, and then the addresses by the index of their link. */
+/* Prints index, name, MTU, state and kind of each link, and then the addresses by the index of their link. */
 #include <arpa/inet.h>
 #include <netlink_packet_route.h>
 #include <netlink_packet_socket.h>
@@ -37,12 +37,16 @@ static void print_address(const uint8_t *payload, size_t len, const struct nlp_v
 
 static int print(const uint8_t *bytes, const struct nlp_message *message, void *context)
 {
+    const uint8_t *payload = bytes + message->payload.offset;
     struct nlp_view view;
     struct nlp_route_error error;
     (void)context;
     if (nlp_message_view(bytes, message, &view, &error) != NLP_OK)
         return 1;
-    (view.message_type == NLP_RTM_NEWLINK ? print_link : print_address)(bytes + message->payload.offset, message->payload.size, &view);
+    if (view.message_type == NLP_RTM_NEWLINK)
+        print_link(payload, message->payload.size, &view);
+    else
+        print_address(payload, message->payload.size, &view);
     return 0;
 }
 

@@ -1,4 +1,4 @@
-"""Prints index, name, MTU, state and kind of each link of the kernel, and then the addresses by the index of their link."""
+"""Prints index, name, MTU, state and kind of each link, and then the addresses by the index of their link."""
 
 import ipaddress
 import os
@@ -22,8 +22,9 @@ with netlink.Socket(0, limit=5) as kernel:  # NETLINK_ROUTE
     for link in dump(kernel, RTM_GETLINK):
         info = link.nest(IFLA_LINKINFO)
         kind = info and info.text(IFLA_INFO_KIND)
+        mtu = link.u32(IFLA_MTU)
         state = link.u8(IFLA_OPERSTATE)
-        print(f"{link.header_i32(IFI_INDEX)} {link.text(IFLA_IFNAME)} mtu {link.u32(IFLA_MTU)} state {state} kind {kind or ''}")
+        print(f"{link.header_i32(IFI_INDEX)} {link.text(IFLA_IFNAME)} mtu {mtu} state {state} kind {kind or ''}")
     for address in dump(kernel, RTM_GETADDR):
         ip = ipaddress.ip_address(address.ip(IFA_LOCAL) or address.ip(IFA_ADDRESS))
         print(f"{address.header_u32(IFA_INDEX)} {ip}/{address.header_u8(IFA_PREFIXLEN)}")

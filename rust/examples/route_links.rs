@@ -1,4 +1,4 @@
-//! Prints index, name, MTU, state and kind of each link of the kernel, and then the addresses by the index of their link.
+//! Prints index, name, MTU, state and kind of each link, and then the addresses by the index of their link.
 
 use netlink_packet::route::*;
 use netlink_packet::{Header, Protocol, Socket, Writer};

@@ -47,6 +47,66 @@ pub unsafe extern "C" fn netlink_packet_route_look(bytes: *const u8, len: usize)
     })
 }
 
+/// Five kinds of a link.
+#[derive(Default)]
+struct Five<'a> {
+    name: &'a [u8],
+    address: &'a [u8],
+    mtu: u32,
+    queue: u32,
+    state: u8,
+}
+
+/// Calls `visit` with five kinds of each link of a datagram, and adds up what it returns.
+fn each_five(bytes: &[u8], mut visit: impl FnMut(Five<'_>) -> usize) -> usize {
+    use link::nlas::Nla;
+    each(bytes, |message| {
+        let NetlinkPayload::InnerMessage(RtnlMessage::NewLink(link)) = &message.payload else { return 0 };
+        let mut five = Five::default();
+        for attribute in &link.nlas {
+            match attribute {
+                Nla::IfName(name) => five.name = name.as_bytes(),
+                Nla::Mtu(mtu) => five.mtu = *mtu,
+                Nla::OperState(state) => five.state = u8::from(*state),
+                Nla::TxQueueLen(queue) => five.queue = *queue,
+                Nla::Address(address) => five.address = address,
+                _ => {}
+            }
+        }
+        visit(five)
+    })
+}
+
+/// Returns the sum of the numbers, and of the first bytes of the name and of the address.
+///
+/// # Safety
+/// `bytes` must point to `len` bytes.
+#[no_mangle]
+pub unsafe extern "C" fn netlink_packet_route_five(bytes: *const u8, len: usize) -> usize {
+    each_five(std::slice::from_raw_parts(bytes, len), |it| {
+        let first = |bytes: &[u8]| bytes.first().map_or(0, |it| *it as usize);
+        it.mtu as usize + it.queue as usize + it.state as usize + first(it.name) + first(it.address)
+    })
+}
+
+/// Writes the numbers, the name and the address. Returns the size, or 0 if `out` is too small.
+///
+/// # Safety
+/// `bytes` must point to `len` bytes, and `out` to `room` bytes.
+#[no_mangle]
+pub unsafe extern "C" fn netlink_packet_route_five_output(
+    bytes: *const u8, len: usize, out: *mut u8, room: usize,
+) -> usize {
+    let mut found = Vec::new();
+    each_five(std::slice::from_raw_parts(bytes, len), |it| {
+        found.extend([it.mtu, it.queue, u32::from(it.state)].into_iter().flat_map(u32::to_ne_bytes));
+        found.extend(it.name);
+        found.extend(it.address);
+        1
+    });
+    plain::hand_out(Some(found), out, room)
+}
+
 fn link_number(attribute: &link::nlas::Nla) -> usize {
     use link::nlas::Nla;
     match attribute {

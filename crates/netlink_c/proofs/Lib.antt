@@ -11,4 +11,5 @@ mod ReplyLemmas
 mod StateLemmas
 mod WalkLemmas
 mod BodyLemmas
+mod AttributeLemmas
 mod AttributeTexts

@@ -1,4 +1,5 @@
 pub mod Any
+pub mod Attributes
 pub mod Bodies
 pub mod Describe
 pub mod Ends

@@ -7,7 +7,8 @@ ghost use Rattle.netlink_c.specs.Any.{any_decoding, any_encoding, error_text, wa
 
 use crate::protocol_type::ProtocolType;
 use netlink_packet_core::{
-    NetlinkDeserializable, NetlinkHeader, NetlinkProtocol, NetlinkSerializable, copy_of,
+    NETLINK_HEADER_LEN, NetlinkDeserializable, NetlinkHeader, NetlinkProtocol, NetlinkSerializable,
+    copy_of,
 };
 use std::alloc::{AllocError, Global};
 use std::error::Error;
@@ -101,6 +102,22 @@ impl NetlinkDeserializable for AnyMessage {
 
     fn is_out_of_memory(error: &AnyError) -> bool {
         matches!(error, AnyError::OutOfMemory)
+    }
+
+    /// Writes the frame without the message, so that the payload is copied once. Leaves a type less
+    /// than 16 to `deserialize`.
+    fn normal_frame(
+        alloc: Global,
+        header: &NetlinkHeader,
+        payload: &[u8],
+    ) -> Result<Option<Vec<u8>>, AnyError> {
+        let Some(_kind) = ProtocolType::new(header.message_type) else {
+            return Ok(None);
+        };
+        let mut frame = Vec::with_capacity(alloc, NETLINK_HEADER_LEN + payload.len())?;
+        frame.extend_from_slice(&[0; NETLINK_HEADER_LEN])?;
+        frame.extend_from_slice(payload)?;
+        Ok(Some(frame))
     }
 }
 

@@ -13,8 +13,8 @@ use crate::results::{END, OK};
 use crate::walk::after;
 use netlink_packet_core::{NETLINK_HEADER_LEN, NetlinkBuffer, nla_align};
 
-/// The largest number of messages that one call reads.
-const BATCH: usize = 16;
+/// The largest number of messages, or of attributes, that one call reads.
+pub(crate) const BATCH: usize = 16;
 
 /// Several messages of a datagram (`struct nlp_message_batch`), and where the next one starts.
 #[derive(Clone, Copy, Debug, PartialEq, Eq)]

@@ -10,6 +10,7 @@
 #![tactic(auto)]
 
 pub mod any;
+pub mod attribute_batch;
 pub mod batch;
 pub mod describe;
 pub mod describe_attributes;

@@ -100,7 +100,8 @@ pub extern "C" fn nlp_frame_is_canonical(
 /// `NetlinkMessage::deserialize` if that rejects the bytes, `TooLong` if the length of the message
 /// does not fit in 32 bits, and `OutOfMemory` if an allocation fails. Returns `NO_ROOM`, and sets
 /// `size` to the size that is needed, if the frame does not fit in `buffer`. Changes `buffer` only
-/// if it returns 0. Wraps `normalize`, which allocates for the payload and for the frame.
+/// if it returns 0. Wraps `normalize`, which allocates for the frame, and for what it decodes of a
+/// message with a type less than 16.
 #[unsafe(no_mangle)]
 pub extern "C" fn nlp_frame_normalize(
     alloc: Global,

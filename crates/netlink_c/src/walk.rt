@@ -138,7 +138,7 @@ pub(crate) fn attribute_size(bytes: &[u8]) -> Option<usize>
 /// Writes the error of bytes that do not begin with a complete attribute, and returns its number.
 #[cold]
 #[inline(never)]
-fn attribute_fault(bytes: &[u8], fault: &mut FaultNumbers) -> u32
+pub(crate) fn attribute_fault(bytes: &[u8], fault: &mut FaultNumbers) -> u32
     requires none { HoldsAttribute bytes.now → ⊥ }
     ensures refuses { Refuses (IsFault bytes.now) result fault.new }
     ensures some { 0 < result }

@@ -1,5 +1,5 @@
 -- What the getters of parts and of nests write.
-use Rattle.std.proofs.Common.{◌≡◌, ℕ, ◌+◌, ◌-◌, ◌≤◌, Bool, true, List, length, take, refl, ap, sym, subst, ◌∙◌, arith, Option, Some}
+use Rattle.std.proofs.Common.{◌≡◌, ℕ, ◌+◌, ◌≤◌, Bool, true, List, length, take, refl, ap, sym, subst, ◌∙◌, arith, Option, Some}
 use Rattle.std.proofs.lemmas.Bool.{leb-true}
 use Rattle.std.specs.Prelude.{if◌then◌else◌}
 use Rattle.netlink_family.specs.Finding.{nest_by, policy_by, str_by}
@@ -72,7 +72,7 @@ nest_here (Chosen by p) policy value is = absurd (cc)
 nest_here Bytes policy value is = absurd (cc)
 
 -- a value that has its shape has the header of its nest
-start_fits : (shape : Shape) (value : List ℕ) → has_shape shape value ≡ true → nest_start shape ≤ length value
+pub start_fits : (shape : Shape) (value : List ℕ) → has_shape shape value ≡ true → nest_start shape ≤ length value
 start_fits (HeaderNested size p) value fits = leb-true size (length value) fits
 start_fits Flag value fits = omega arith
 start_fits U8 value fits = omega arith

@@ -1,3 +1,4 @@
 mod Getting
+mod Items
 mod Places
 mod Shaped

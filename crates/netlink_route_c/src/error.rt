@@ -82,7 +82,7 @@ pub(crate) fn refused(numbers: &mut ErrorNumbers, error: FamilyError) -> u32
 }
 
 /// Returns the numbers of an error.
-fn numbers_of(error: FamilyError) -> ErrorNumbers
+pub(crate) fn numbers_of(error: FamilyError) -> ErrorNumbers
     ensures numbers { result ≡ numbers_of error }
     ensures some { 0 < result.reason }
 {

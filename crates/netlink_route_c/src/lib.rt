@@ -7,12 +7,15 @@
 //! In C, a slice is a pointer and the number of its elements.
 #![tactic(auto)]
 
+pub mod check;
 pub mod error;
 pub mod find;
 pub mod get;
 pub mod get_part;
 pub mod header;
+pub mod item;
 pub mod output;
 pub mod results;
+pub mod shape;
 pub mod show;
 pub mod view;

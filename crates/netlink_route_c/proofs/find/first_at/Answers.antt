@@ -1,4 +1,4 @@
-use Rattle.std.proofs.Common.{ℕ, ◌+◌, ◌-◌, ◌≤◌, ◌<◌, ◌%◌, List, ◌∷◌, ◌≡◌, ◌≢◌, ap, arith, drop, length-drop, subst, sym, ◌∙◌, Some, Bor}
+use Rattle.std.proofs.Common.{ℕ, ◌+◌, ◌≤◌, ◌<◌, ◌%◌, List, ◌∷◌, ◌≡◌, ◌≢◌, ap, arith, drop, length-drop, subst, sym, ◌∙◌, Some, Bor}
 use Rattle.std.proofs.lemmas.List.{drop-drop, drop_all, take_rest}
 use Rattle.netlink_family.specs.Listing.{first_of, listed}
 use Rattle.netlink_family.specs.ListingLaws.{before_malformed, before_nothing, before_step, first_here, first_later}
