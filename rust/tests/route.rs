@@ -92,6 +92,10 @@ fn numbers_of_other_sizes_are_read() {
     let view = View::generic(&nested).unwrap().nest(CTRL_ATTR_POLICY).unwrap();
     let row = view.nest(Kind(1)).and_then(|it| it.nest(Kind(1))).unwrap();
     assert_eq!(row.i64(NL_POLICY_TYPE_ATTR_MIN_VALUE_S), Some(-1));
+    let rule = [vec![0; 12], vec![12, 0, 12, 0, 1, 2, 3, 4, 5, 6, 7, 8, 8, 0, 26, 0, 1, 2, 3, 4]].concat();
+    let view = View::new(32, &rule).unwrap();
+    assert_eq!(view.be64(FRA_TUN_ID), Some(0x0102030405060708));
+    assert_eq!(view.be32(FRA_FLOWLABEL), Some(0x01020304));
 }
 
 #[test]
@@ -153,6 +157,7 @@ fn other_shapes_are_read() {
     let view = view.nest(IFLA_LINKINFO).and_then(|it| it.nest(IFLA_INFO_DATA)).unwrap();
     let found: Vec<_> = view.items().map(|it| it.shape).collect();
     assert_eq!(found, [Shape::ExactLen(4), Shape::Flag]);
+    assert_eq!(view.exact(IFLA_GRE_LOCAL), Some(&[10, 0, 0, 1][..]));
     let policy = [10, 2, 0, 0, 24, 0, 8, 0, 20, 0, 1, 0, 16, 0, 1, 0, 12, 0, 2, 0, 0, 0, 0, 0, 0, 0, 0, 0];
     let view = View::generic(&policy).unwrap();
     let nests = [CTRL_ATTR_POLICY, Kind(1), Kind(1)].into_iter().fold(Some(view), |it, kind| it?.nest(kind));
