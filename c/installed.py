@@ -70,7 +70,7 @@ def run_packed(folder):
     run(["tar", "-C", alone, "-xzf", packed])
     there = {os.path.relpath(os.path.join(at, it), alone) for at, _, names in os.walk(alone) for it in names}
     wanted = {"LICENSE", "C.md", *(f"python/netlink_packet{it}.py" for it in ("", "_route", "_tables")), "lib/libnetlink_packet.a", "lib/libnetlink_packet.so"}
-    wanted |= {f"include/netlink_packet{it}.h" for it in ("", "_socket", "_route", "_tables")}
+    wanted |= {f"include/netlink_packet{it}.h" for it in ("", "_socket", "_route", "_route_write", "_tables")}
     note("what is packed", {f"{name}/{it}" for it in wanted} <= there, f"{sorted(there)}")
     with open(os.path.join(alone, name, "C.md")) as file:
         linked = {f"{name}/{it}" for it in re.findall(r"\]\(([^)#:]+)\)", file.read())}

@@ -6,7 +6,7 @@ from collections import namedtuple
 
 from kit import HERE, TOP
 
-HEADER, SOCKET, ROUTE = (f"c/include/netlink_packet{it}.h" for it in ("", "_socket", "_route"))
+HEADER, SOCKET, ROUTE, WRITE = (f"c/include/netlink_packet{it}.h" for it in ("", "_socket", "_route", "_route_write"))
 LIST = os.path.join(HERE, "mutants.txt")
 
 # A file, its text with the mistake, and a line that shows the mistake.
@@ -140,7 +140,7 @@ def mutants_of(file):
     with open(os.path.join(TOP, file), encoding="utf-8") as source:
         text = source.read()
     lines, made = text.split("\n"), {}
-    for at, new in header_lines(lines) if file in (HEADER, SOCKET, ROUTE) else rust_lines(lines):
+    for at, new in header_lines(lines) if file in (HEADER, SOCKET, ROUTE, WRITE) else rust_lines(lines):
         after = lines[at + 2 :] if new.endswith(TWO) else lines[at + 1 :]
         mutated = "\n".join([*lines[:at], new.removesuffix(TWO), *after])
         shown = f"{file}:{at + 1}: {lines[at].strip()} ==> {' '.join(new.split()) or 'nothing'}"

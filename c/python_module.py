@@ -22,6 +22,7 @@ from unittest.mock import patch
 
 from kit import HERE, has_route_socket, lines_of
 from python_fed import DUMP, MTU, attribute, error_of, frame, is_error, outcome, run_fed_python, u32
+from python_views import run_views
 from tally import add, end, note, skip
 from wrapper import run_dump
 
@@ -124,6 +125,7 @@ def run_bytes(netlink):
     run_written(netlink)
     run_read(netlink)
     run_fed_python(netlink)
+    run_views(loaded("python", "netlink_packet_route"))
     run_reason(netlink)
 
 

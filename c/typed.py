@@ -1,5 +1,5 @@
 """Runs the examples of messages by tables for c/test, in C, Rust and Python, and the programs over libmnl that do the same,
-in a network namespace of its own: they print what `ip -j` prints there.
+in a network namespace of its own: they print what `ip -j` prints there. So it does with what tests/route_kernel.c writes.
 
     c/typed.py LANGUAGE=FOLDER ..    in that namespace: runs the examples in these folders
 
@@ -99,7 +99,21 @@ def check_family(program, name):
     note(f"no such family: {name}", run(*program, "no-such").returncode == 1, "")
 
 
-CHECKS = dict(zip(EXAMPLES, [check_links, check_added, check_watched, check_family]))
+def check_kernel(program, name):
+    """Tests that the kernel accepts the requests of tests/route_kernel.c, and what `ip` prints then."""
+    made = run(*program)
+    pair = next((it for it in ip("link") if it["ifname"] == "pair"), {})
+    found = pair.get("link"), pair.get("mtu"), pair.get("address"), pair.get("linkinfo", {}).get("info_kind")
+    holds = made.returncode == 0 and found == ("other", 1300, "02:00:00:00:00:07", "veth")
+    note(f"links are made: {name}", holds, f"{made.stderr}{pair}")
+    routes = [(it["metrics"], it["nexthops"]) for it in ip("route", "show", "198.18.0.0/15")]
+    hops = [("10.1.0.9", "pair", 3, []), ("10.2.0.9", "other", 200, ["onlink"])]
+    wanted = [dict(zip(["gateway", "dev", "weight", "flags"], it)) for it in hops]
+    note(f"a route of two hops is added: {name}", routes == [([{"mtu": 1200}], wanted)], f"{made.stderr}{routes}")
+    run("ip", "link", "del", "pair")
+
+
+CHECKS = dict(zip([*EXAMPLES, "route_kernel"], [check_links, check_added, check_watched, check_family, check_kernel]))
 
 
 def run_typed(folders):

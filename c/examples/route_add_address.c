@@ -17,8 +17,9 @@ static void write_request(struct nlp_writer *writer, const char *link, const cha
     nlp_route_set(writer, frame, NLP_IFA_FAMILY, is_four ? AF_INET : AF_INET6);
     nlp_route_set(writer, frame, NLP_IFA_PREFIXLEN, prefix);
     nlp_route_set(writer, frame, NLP_IFA_INDEX, if_nametoindex(link));
-    nlp_writer_put(writer, NLP_IFA_LOCAL, bytes, is_four ? 4 : 16);
-    nlp_writer_put(writer, NLP_IFA_ADDRESS, bytes, is_four ? 4 : 16);
+    struct nlp_route_block attributes = nlp_route_attrs(writer, NLP_RTM_NEWADDR);
+    nlp_route_put_ip(writer, &attributes, NLP_IFA_LOCAL, bytes, is_four ? 4 : 16);
+    nlp_route_put_ip(writer, &attributes, NLP_IFA_ADDRESS, bytes, is_four ? 4 : 16);
     nlp_writer_frame_end(writer, frame);
 }
 

@@ -5,7 +5,8 @@
  * A table states, for each message type, the fixed header and the shape of each kind of attribute, as the kernel's
  * headers and policies do: links, addresses, neighbours, routes, rules, neighbour tables, ids of network
  * namespaces; and families of generic netlink. A kind without a row may have any value. This header has the
- * functions, and netlink_packet_tables.h the constants: NLP_IFLA_MTU is the kind IFLA_MTU.
+ * functions, netlink_packet_tables.h the constants (NLP_IFLA_MTU is the kind IFLA_MTU), and
+ * netlink_packet_route_write.h, which this header includes, the functions that write requests.
  *
  *     struct nlp_view view, info;
  *     struct nlp_route_error error;
@@ -158,6 +159,95 @@ uint32_t nlp_view_header_u32(const uint8_t *payload, size_t len, const struct nl
 uint32_t nlp_view_header_i32(const uint8_t *payload, size_t len, const struct nlp_view *view, uint32_t field,
                              int32_t *number) NLP_NONNULL(3, 5);
 
+/* ---- shapes and walks ------------------------------------------------------------------------ */
+
+/* The shapes of values. That of a field of a fixed header is the lowest byte of its number. */
+enum {
+    NLP_SHAPE_BYTES = 0,          /* any bytes; also the shape of a kind without a row */
+    NLP_SHAPE_U8 = 1,             /* this and the next five: an integer in native byte order */
+    NLP_SHAPE_U16 = 2,
+    NLP_SHAPE_U32 = 3,
+    NLP_SHAPE_I32 = 4,
+    NLP_SHAPE_U64 = 5,
+    NLP_SHAPE_I64 = 6,
+    NLP_SHAPE_BE16 = 7,           /* this and the next two: an integer in big-endian byte order */
+    NLP_SHAPE_BE32 = 8,
+    NLP_SHAPE_BE64 = 9,
+    NLP_SHAPE_FLAG = 10,          /* no bytes */
+    NLP_SHAPE_IP = 11,            /* an IP address, 4 or 16 bytes */
+    NLP_SHAPE_NUL_STR = 12,       /* a string whose last byte is its only zero */
+    NLP_SHAPE_STR = 13,           /* the same, or a string without a zero */
+    NLP_SHAPE_EXACT_LEN = 14,     /* `size` bytes */
+    NLP_SHAPE_MIN_LEN = 15,       /* at least `size` bytes */
+    NLP_SHAPE_NESTED = 16,        /* a nest, whose attributes have the shapes of `policy` */
+    NLP_SHAPE_HEADER_NESTED = 17, /* the same, after a header of `size` bytes */
+    NLP_SHAPE_CHOSEN = 18,        /* of the table alone: the functions write the shape that was chosen instead */
+    NLP_SHAPE_ANY = 0xffff        /* of nlp_view_check: any shape */
+};
+
+/* The shape that the table gives a kind. */
+struct nlp_shape {
+    uint16_t shape;
+    uint16_t size;   /* 0 if the shape does not use it */
+    uint16_t policy; /* the same */
+};
+
+/* Writes the shape of a kind among the attributes of a view; flag bits are ignored. The first IFLA_INFO_KIND chooses the
+ * shape of IFLA_INFO_DATA. NLP_OK; or NLP_NO_PLACE if the view is not inside the payload.
+ * Proved: which of the two, and the shape; NLP_NO_PLACE leaves it unchanged. */
+uint32_t nlp_view_shape(const uint8_t *payload, size_t len, const struct nlp_view *view, uint16_t kind,
+                        struct nlp_shape *shape) NLP_NONNULL(3, 5);
+
+/* A shape that an attribute chose, if `kept` is 1. */
+struct nlp_kept_shape {
+    uint16_t kept;
+    uint16_t by;
+    uint16_t policy;
+    struct nlp_shape shape;
+};
+
+/* A walk over the attributes of a view. All zeros begin one. */
+struct nlp_view_walk {
+    size_t at; /* the offset of the next attribute, from the first one */
+    struct nlp_kept_shape last;
+    struct nlp_kept_shape before;
+};
+
+/* An attribute of a view. */
+struct nlp_item {
+    uint16_t kind; /* with its two flag bits: compare kind & NLP_KIND_MASK */
+    struct nlp_shape shape;
+    struct nlp_part value;
+    struct nlp_view nest; /* a view of the nest; one without attributes if the value is no nest */
+};
+
+/* Reads the next attribute of a view, with its shape:
+ *
+ *     struct nlp_view_walk walk = { 0 };
+ *     struct nlp_item item;
+ *     while (nlp_view_next(payload, len, &view, &walk, &item) == NLP_OK)
+ *         use(payload + item.value.offset, item.value.size, &item.shape);
+ *
+ * NLP_OK; NLP_END; NLP_NO_PLACE if the view is not inside the payload; or NLP_WRONG_SHAPE if there is no attribute, or its
+ * value does not have the shape of its kind, so that the view or the walk is not of this payload. In RTA_MULTIPATH, the
+ * kind of an item is rtnh_flags | rtnh_hops << 8, and the header of its nest is rtnh_ifindex. The walk keeps chosen shapes,
+ * so a whole walk takes time in proportion to the block.
+ * Proved: which result, the attribute, its shape and where the next one is; and, of a walk that zeros began and only this
+ * function moved, over a view that a function of this library wrote for this payload: NLP_WRONG_SHAPE is never returned,
+ * and the nest is such a view too. Any result but NLP_OK changes nothing. */
+uint32_t nlp_view_next(const uint8_t *payload, size_t len, const struct nlp_view *view, struct nlp_view_walk *walk,
+                       struct nlp_item *item) NLP_CHECKED(3, 4, 5);
+
+/* Checks a value before it is appended to the attributes of a view: whether the table gives its kind this shape, and
+ * whether the value has it, in a nest all of its attributes. NLP_OK; NLP_NO_PLACE if the view is not inside the payload;
+ * NLP_WRONG_SHAPE if the table gives the kind another shape, which is then `expected`, and `shape` is `received`;
+ * NLP_TOO_LONG if the value is longer than 65,531 bytes; or the reason of its error, as of nlp_route_view. The offset is
+ * that of the attribute, at the end of the view; offsets are from the start of the payload. nlp_route_error_text has no
+ * text for NLP_WRONG_SHAPE.
+ * Proved: which result, and the numbers; NLP_OK and NLP_NO_PLACE leave the error unchanged. */
+uint32_t nlp_view_check(const uint8_t *payload, size_t len, const struct nlp_view *view, uint16_t shape, uint16_t kind,
+                        const uint8_t *value, size_t size, struct nlp_route_error *error) NLP_CHECKED(3, 8);
+
 /* ---- text ------------------------------------------------------------------------------------ */
 
 /* Writes the payload of a message as text, without a zero at its end: its type, one line per field of its header, and one
@@ -190,35 +280,19 @@ static inline NLP_RESULT uint32_t nlp_message_view(const uint8_t *bytes, const s
                           error);
 }
 
-/* Begins a frame of a message type, whose fixed header is zeros, as nlp_writer_frame does. The writer fails with
- * NLP_UNKNOWN_TYPE if no table has the message type. */
-NLP_NONNULL(1)
-static inline NLP_RESULT struct nlp_frame_mark nlp_route_request(struct nlp_writer *writer, uint16_t message_type,
-                                                                 uint16_t flags)
+/* Returns the name of a shape, such as `u32`; `any` for a number that is none of the table's. */
+static inline const char *nlp_shape_name(uint16_t shape)
 {
-    static const uint8_t zeros[16] = { 0 };
-    const struct nlp_header header = { 0, message_type, flags, 0, 0 };
-    size_t size = 0;
-    if (writer->failed == NLP_OK)
-        writer->failed = nlp_route_header_size(message_type, &size);
-    return nlp_writer_frame(writer, &header, zeros, size <= sizeof zeros ? size : 0);
-}
-
-/* Writes a field of the fixed header of a frame, such as NLP_IFA_INDEX. The writer fails with NLP_NO_PLACE if what was
- * written after the mark ends before the field. */
-NLP_NONNULL(1)
-static inline void nlp_route_set(struct nlp_writer *writer, struct nlp_frame_mark mark, uint32_t field, uint32_t value)
-{
-    const uint32_t shape = field % 256;
-    const size_t at = mark.start + 16 + field / 256, size = shape > 2 ? 4 : shape;
-    if (writer->failed == NLP_OK && (at < mark.start || at + size > writer->at))
-        writer->failed = NLP_NO_PLACE;
-    for (size_t i = 0; writer->failed == NLP_OK && i < size; i++)
-        writer->buffer[at + i] = (uint8_t)(value >> 8 * i);
+    static const char *const names[] = { "bytes", "u8", "u16", "u32", "i32", "u64", "i64", "be16", "be32", "be64",
+                                         "flag", "ip", "nul_str", "str", "exact", "min", "nest", "header nest",
+                                         "chosen" };
+    return shape < sizeof names / sizeof names[0] ? names[shape] : "any";
 }
 
 #ifdef __cplusplus
 }
 #endif
+
+#include "netlink_packet_route_write.h"
 
 #endif

@@ -6,19 +6,28 @@
 
     link = View(message.type, message.payload)
     print(link.header_i32(IFI_INDEX), link.text(IFLA_IFNAME), link.u32(IFLA_MTU))
+    for item in link.items():
+        print(item.kind, item.shape, item.value.hex())
 
 netlink_packet_tables has the constants, with the kernel's names.
 """
 
 from ctypes import POINTER, byref, c_char_p, c_int32, c_int64, c_size_t, c_uint8, c_uint16, c_uint32, c_uint64, create_string_buffer
 
-from netlink_packet import NLP_OK, Malformed, Part, library, slice_of, struct
+from netlink_packet import NLP_KIND_MASK, NLP_OK, Malformed, Part, library, slice_of, struct
 
-__all__ = ["View", "request_header"]
+__all__ = ["Item", "View", "request_header"]
 
 Place = struct("Place", ("message_type", c_uint16), ("policy", c_uint16), ("missing", c_size_t), ("header", Part), ("attributes", Part))
 SIZES = ("offset", c_size_t), ("expected", c_size_t), ("received", c_size_t)
 Error = struct("Error", ("reason", c_uint32), ("kind", c_uint16), ("policy", c_uint16), *SIZES)
+Shape = struct("Shape", ("shape", c_uint16), ("size", c_uint16), ("policy", c_uint16))
+Kept = struct("Kept", ("kept", c_uint16), ("by", c_uint16), ("policy", c_uint16), ("shape", Shape))
+Walk = struct("Walk", ("at", c_size_t), ("last", Kept), ("before", Kept))
+Found = struct("Found", ("kind", c_uint16), ("shape", Shape), ("value", Part), ("nest", Place))
+# The names of the shapes by their numbers.
+SHAPES = ["bytes", "u8", "u16", "u32", "i32", "u64", "i64", "be16", "be32", "be64", "flag", "ip", "nul_str", "str", "exact", "min"]
+SHAPES += ["nest", "header nest", "chosen"]
 
 PAYLOAD = (c_char_p, c_size_t)
 NUMBERS = {"u8": c_uint8, "u16": c_uint16, "u32": c_uint32, "u64": c_uint64, "i32": c_int32, "i64": c_int64}
@@ -30,6 +39,7 @@ CALLS = {
     "nlp_generic_view": (*PAYLOAD, POINTER(Place), POINTER(Error)),
     "nlp_route_error_text": (POINTER(Error), *PAYLOAD, POINTER(c_size_t)),
     "nlp_route_header_size": (c_uint16, POINTER(c_size_t)),
+    "nlp_view_next": (*PAYLOAD, POINTER(Place), POINTER(Walk), POINTER(Found)),
     **{f"nlp_view_{name}": (*PAYLOAD, POINTER(Place), c_uint16, POINTER(value)) for name, value in VALUES.items()},
     **{f"nlp_view_header_{name}": (*PAYLOAD, POINTER(Place), c_uint32, POINTER(value)) for name, value in FIELDS.items()},
 }
@@ -51,6 +61,16 @@ def request_header(message_type):
     size = c_size_t()
     checked(library.nlp_route_header_size(message_type, byref(size)), Error(40, message_type))
     return bytes(size.value)
+
+
+class Item:
+    """An attribute of a view: its `kind` without flag bits, `raw_kind` with them, the name of its `shape` in the table,
+    such as `u32` or `nest`, the bytes of its `value`, and, if the shape is a nest, a view of its `nest`, else None."""
+
+    def __init__(self, payload, found):
+        self.kind, self.raw_kind, self.shape = found.kind & NLP_KIND_MASK, found.kind, SHAPES[found.shape.shape]
+        self.value = slice_of(payload, found.value)
+        self.nest = View._of(payload, found.nest) if self.shape.endswith("nest") else None
 
 
 class View:
@@ -107,6 +127,13 @@ class View:
     def first(self, kind):
         """Returns the value of any shape."""
         return self._bytes("first", kind)
+
+    def items(self):
+        """Yields the attributes in order."""
+        walk, found = Walk(), Found()
+        while library.nlp_view_next(self.payload, len(self.payload), self.place, walk, found) == NLP_OK:
+            yield Item(self.payload, found)
+            found = Found()
 
     def nest(self, kind):
         """Returns a view of a nest."""

@@ -186,6 +186,102 @@ static void get_from_view(const struct input *in)
     CHECK(same_view(view, &before));
 }
 
+static bool same_shape(const struct nlp_shape *a, const struct nlp_shape *b)
+{
+    return a->shape == b->shape && a->size == b->size && a->policy == b->policy;
+}
+
+static void shape_of_kind(const struct input *in)
+{
+    struct nlp_view *view = chosen_view(in);
+    const struct nlp_view before = *view;
+    struct nlp_shape *shape = place(OUT, sizeof *shape), expected = *shape = (struct nlp_shape){ 70, 69, 68 };
+    const uint16_t kind = (uint16_t)(chosen_kind(in, view, in->args[9]) | (in->args[10] % 4 << 14));
+    RESULT(nlp_view_shape(in->bytes, in->len, view, kind, shape), model_shape(in->bytes, in->len, view, kind, &expected));
+    CHECK(same_shape(shape, &expected) && same_view(view, &before));
+}
+
+/* Returns whether a shape that is kept is the one of IFLA_INFO_DATA, which is chosen from the policy 4. */
+static bool is_chosen(const struct input *in, const struct nlp_view *view, const struct nlp_kept_shape *kept)
+{
+    struct nlp_view info = *view;
+    struct nlp_shape shape = { 0, 0, 0 };
+    info.policy = 1;
+    model_shape(in->bytes, in->len, &info, NLP_IFLA_INFO_DATA, &shape);
+    return kept->kept != 1 || (kept->by == NLP_IFLA_INFO_KIND && kept->policy == 4 && same_shape(&kept->shape, &shape));
+}
+
+/* Walks a view from its start or from anywhere, with nothing kept. */
+static void walk_view(const struct input *in)
+{
+    static const struct nlp_item no_item = { 67, { 66, 65, 64 }, { 63, 62 }, { 61, 60, 59, { 58, 57 }, { 56, 55 } } };
+    static const struct nlp_kept_shape none[2] = { { 0, 0, 0, { 0, 0, 0 } }, { 2, NLP_IFLA_INFO_KIND, 4, { 1, 2, 3 } } };
+    struct nlp_view *view = chosen_view(in);
+    const struct nlp_view before = *view;
+    struct nlp_view_walk *walk = place(EXTRA, sizeof *walk), old;
+    struct nlp_item *item = place(BUFFER, sizeof *item), expected;
+    const size_t size = view->attributes.size;
+    size_t at = in->args[9] % 4 == 0 ? near(in->args[10], size < in->len ? size : in->len) : 0;
+    uint32_t result;
+    *walk = (struct nlp_view_walk){ at, none[in->args[9] / 4 % 2], none[in->args[9] / 8 % 2] };
+    do {
+        expected = *item = no_item;
+        old = *walk;
+        result = model_next(in->bytes, in->len, view, &at, &expected);
+        RESULT(nlp_view_next(in->bytes, in->len, view, walk, item), result);
+        CHECK(item->kind == expected.kind && same_shape(&item->shape, &expected.shape) && same_part(&item->value, &expected.value));
+        CHECK(same_view(&item->nest, &expected.nest) && walk->at == at);
+        CHECK(result == NLP_OK ? is_chosen(in, view, &walk->last) && is_chosen(in, view, &walk->before)
+            : memcmp(walk, &old, sizeof old) == 0);
+    } while (result == NLP_OK);
+    CHECK(same_view(view, &before));
+}
+
+/* Returns a value: that of one of the attributes of a view, which then ends before it; or bytes; or one that may be too
+ * long. */
+static const uint8_t *chosen_value(const struct input *in, struct nlp_view *view, uint16_t *kind, size_t *size)
+{
+    const uint8_t *block = view_block(in->bytes, in->len, view), *value = in->bytes;
+    const size_t end = view->attributes.size;
+    struct nlp_fault ignored;
+    struct nlp_attr item;
+    size_t at = 0, start = 0;
+    *kind = kind_of(in->args[9], in->args[2]);
+    *size = in->len < in->args[10] ? in->len : in->args[10];
+    if (in->args[10] >= 252) {
+        *size = 65531 + in->args[10] % 2;
+        return memset(place(BUFFER, *size), 0, *size);
+    }
+    if (in->args[10] >= 224 || block == NULL)
+        return value;
+    for (uint32_t left = in->args[9] % 6; step(block, end, &at, &item, &ignored) == NLP_OK; left--, start = at) {
+        view->attributes.size = start;
+        value = block + item.offset;
+        *kind = item.kind;
+        *size = item.size;
+        if (left == 0)
+            break;
+    }
+    return value;
+}
+
+/* Checks a value before it is put. */
+static void check_value(const struct input *in)
+{
+    struct nlp_view *view = chosen_view(in);
+    uint16_t kind;
+    size_t size;
+    const uint8_t *value = chosen_value(in, view, &kind, &size);
+    const struct nlp_view before = *view;
+    struct nlp_shape own = { 0, 0, 0 };
+    struct nlp_route_error *error = place(FAULT, sizeof *error), wanted = *error = no_error;
+    model_shape(in->bytes, in->len, view, kind, &own);
+    const uint16_t shape = in->args[2] % 4 > 1 ? own.shape : in->args[2] % 4 == 1 ? NLP_SHAPE_ANY : in->args[2] / 4 % 20;
+    RESULT(nlp_view_check(in->bytes, in->len, view, shape, kind, value, size, error),
+           model_check(in->bytes, in->len, view, shape, kind, value, size, &wanted));
+    CHECK(same_error(error, &wanted) && same_view(view, &before));
+}
+
 #define GETS_FIELD(name, type, shape) do { \
         type *to = place(OUT, sizeof *to), expected = *to = 72; \
         const uint32_t result = model_field(in->len, view, field, shape, sizeof *to); \

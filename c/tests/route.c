@@ -69,9 +69,8 @@ IS_FIELD(nlp_view_header_u16, uint16_t);
 IS_FIELD(nlp_view_header_u32, uint32_t);
 IS_FIELD(nlp_view_header_i32, int32_t);
 IS_CALL(nlp_route_header_size, uint16_t, size_t *);
+IS_CALL(nlp_view_check, in, size_t, view_in, uint16_t, uint16_t, in, size_t, error_out);
 IS_CALL(nlp_message_view, in, const struct nlp_message *, struct nlp_view *, error_out);
-_Static_assert(_Generic(&nlp_route_request, struct nlp_frame_mark (*)(struct nlp_writer *, uint16_t, uint16_t): 1, default: 0), "nlp_route_request");
-_Static_assert(_Generic(&nlp_route_set, void (*)(struct nlp_writer *, struct nlp_frame_mark, uint32_t, uint32_t): 1, default: 0), "nlp_route_set");
 IS_CALL(nlp_route_show, uint16_t, in, size_t, out, size_t, size_t *, error_out);
 IS_CALL(nlp_generic_show, in, size_t, out, size_t, size_t *, error_out);
 
@@ -283,55 +282,111 @@ static void shows(void)
     expect("no text of an unknown type", nlp_route_show(99, dump, 1, text, sizeof text, &size, &error) == NLP_UNKNOWN_TYPE && error.kind == 99);
 }
 
-/* A request of two frames, whose fixed headers have their own sizes, and fields that are set. */
-static void requests(void)
-{
-    static const uint8_t wanted[] = { 32, 0, 0, 0, 18, 0, 0, 3, 0, 0, 0, 0, 0, 0, 0, 0, 0, 0, 0, 0, 0, 0, 0, 0, 0, 0, 0, 0, 0, 0, 0, 0,
-        32, 0, 0, 0, 20, 0, 0, 6, 0, 0, 0, 0, 0, 0, 0, 0, 2, 24, 0, 0, 4, 3, 2, 1, 8, 0, 2, 0, 10, 0, 0, 1 };
-    static const uint8_t address[4] = { 10, 0, 0, 1 };
-    uint8_t buffer[80];
-    size_t size = 7, at = 0;
-    struct nlp_message message;
-    struct nlp_fault fault;
+static const struct nlp_route_error no_error = { 1, 2, 3, 4, 5, 6 };
+
+/* Values that are to be put after attributes of the link, and what is wrong with them. */
+static const struct {
+    const char *what;
     struct nlp_view view;
-    struct nlp_route_error error;
-    struct nlp_writer writer = nlp_writer_begin(buffer, sizeof buffer);
-    nlp_writer_frame_end(&writer, nlp_route_request(&writer, NLP_RTM_GETLINK, 0x300));
-    const struct nlp_frame_mark frame = nlp_route_request(&writer, NLP_RTM_NEWADDR, 0x600);
-    nlp_route_set(&writer, frame, NLP_IFA_FAMILY, 2);
-    nlp_route_set(&writer, frame, NLP_IFA_PREFIXLEN, 24);
-    nlp_route_set(&writer, frame, NLP_IFA_INDEX, 0x01020304);
-    nlp_writer_put(&writer, NLP_IFA_LOCAL, address, sizeof address);
-    nlp_writer_frame_end(&writer, frame);
-    expect("two requests", writer.failed == NLP_OK && writer.at == sizeof wanted && memcmp(buffer, wanted, sizeof wanted) == 0);
-    nlp_route_set(&writer, frame, NLP_IFI_TYPE, 0xabcd);
-    expect("a field of 2 bytes", writer.failed == NLP_OK && buffer[50] == 0xcd && buffer[51] == 0xab && buffer[52] == 4);
-    expect("the second message", nlp_message_read(buffer, writer.at, &at, &message, &fault) == NLP_OK
-        && nlp_message_read(buffer, writer.at, &at, &message, &fault) == NLP_OK
-        && nlp_message_view(buffer, &message, &view, &error) == NLP_OK && view.message_type == NLP_RTM_NEWADDR && view.attributes.size == 8);
-    nlp_route_set(&writer, frame, 15 * 256 + 1, 7);
-    expect("the last byte", writer.failed == NLP_OK && buffer[63] == 7);
-    nlp_route_set(&writer, frame, 16 * 256 + 1, 7);
-    expect("a field after the end", writer.failed == NLP_NO_PLACE);
-    nlp_route_set(&writer, frame, NLP_IFA_FAMILY, 9);
-    expect("nothing after a failure", buffer[48] == 2);
-    writer = nlp_writer_begin(buffer, sizeof buffer);
-    nlp_writer_frame_end(&writer, nlp_route_request(&writer, 99, 0));
-    expect("no request of an unknown type", writer.failed == NLP_UNKNOWN_TYPE && writer.at == 0);
-    expect("no header of an unknown type", nlp_route_header_size(0, &size) == NLP_UNKNOWN_TYPE && size == 7);
-    expect("the header of a route", nlp_route_header_size(NLP_RTM_GETROUTE, &size) == NLP_OK && size == 12);
+    uint16_t shape, kind;
+    uint8_t size, value[24];
+    struct nlp_route_error error; /* reason 0 if there is none */
+} check_rows[] = {
+    { "a number", { 16, 0, 0, { 0, 0 }, { 28, 8 } }, 3, 4, 4, { 1 }, { 0, 0, 0, 0, 0, 0 } },
+    { "any shape", { 16, 0, 0, { 0, 0 }, { 28, 8 } }, 65535, 4, 4, { 1 }, { 0, 0, 0, 0, 0, 0 } },
+    { "flag bits", { 16, 0, 0, { 0, 0 }, { 28, 8 } }, 3, 0xc004, 4, { 1 }, { 0, 0, 0, 0, 0, 0 } },
+    { "no payload before it", { 16, 0, 0, { 0, 0 }, { 0, 0 } }, 3, 4, 4, { 1 }, { 0, 0, 0, 0, 0, 0 } },
+    { "another size", { 16, 0, 0, { 0, 0 }, { 28, 8 } }, 3, 4, 2, { 1 }, { 42, 4, 0, 36, 4, 2 } },
+    { "another size for any shape", { 16, 0, 0, { 0, 0 }, { 16, 0 } }, 65535, 4, 5, { 1 }, { 42, 4, 0, 16, 4, 5 } },
+    { "a u32 for a be32", { 16, 7, 0, { 0, 0 }, { 28, 8 } }, 3, 4, 4, { 1 }, { 36, 4, 7, 36, 8, 3 } },
+    { "a shape that is none", { 16, 0, 0, { 0, 0 }, { 28, 8 } }, 99, 4, 4, { 1 }, { 36, 4, 0, 36, 3, 99 } },
+    { "another shape before another size", { 16, 0, 0, { 0, 0 }, { 28, 8 } }, 1, 4, 2, { 1 }, { 36, 4, 0, 36, 3, 1 } },
+    { "a kind without a row", { 16, 0, 0, { 0, 0 }, { 28, 8 } }, 0, 1000, 3, { 1 }, { 0, 0, 0, 0, 0, 0 } },
+    { "a u8 for a kind without a row", { 16, 0, 0, { 0, 0 }, { 28, 8 } }, 1, 1000, 1, { 1 }, { 36, 1000, 0, 36, 0, 1 } },
+    { "a string", { 16, 0, 0, { 0, 0 }, { 28, 8 } }, 13, 3, 2, "a", { 0, 0, 0, 0, 0, 0 } },
+    { "a zero inside", { 16, 0, 0, { 0, 0 }, { 28, 8 } }, 13, 3, 3, { 'a', 0, 'b' }, { 44, 3, 0, 36, 0, 0 } },
+    { "an address of 5 bytes", { 20, 0, 0, { 0, 0 }, { 28, 8 } }, 11, 2, 5, { 1 }, { 46, 2, 0, 36, 0, 5 } },
+    { "too few bytes", { 24, 0, 0, { 0, 0 }, { 28, 8 } }, 15, 23, 3, { 1 }, { 45, 23, 0, 36, 4, 3 } },
+    { "a nest", { 16, 0, 0, { 0, 0 }, { 28, 8 } }, 16, 18, 8, { 8, 0, 1, 0, 'v', 'l', 'a', 'n' }, { 0, 0, 0, 0, 0, 0 } },
+    { "a nest with an error", { 16, 0, 0, { 0, 0 }, { 28, 8 } }, 16, 18, 24,
+      { 8, 0, 1, 0, 'v', 'l', 'a', 'n', 16, 0, 2, 0, 12, 0, 1, 0, 1 }, { 42, 1, 11, 52, 2, 8 } },
+    { "a nest that is cut", { 16, 0, 0, { 0, 0 }, { 28, 8 } }, 16, 18, 5, { 9, 0, 1, 0, 'v' }, { 6, 0, 1, 40, 9, 5 } },
+    { "data before its kind", { 16, 1, 0, { 0, 0 }, { 76, 0 } }, 16, 2, 0, { 0 }, { 36, 2, 1, 76, 0, 16 } },
+    { "data after its kind", { 16, 1, 0, { 0, 0 }, { 76, 8 } }, 16, 2, 0, { 0 }, { 0, 0, 0, 0, 0, 0 } },
+    { "data after its kind that is cut", { 16, 1, 0, { 0, 0 }, { 76, 8 } }, 16, 2, 5, { 8, 0, 1, 0, 1 }, { 6, 0, 10, 88, 8, 5 } },
+    { "the end of the payload", { 16, 0, 0, { 0, 0 }, { 16, 108 } }, 3, 4, 1, { 1 }, { 42, 4, 0, 124, 4, 1 } },
+    { "after the payload", { 16, 0, 0, { 0, 0 }, { 16, 109 } }, 3, 4, 4, { 1 }, { 34, 0, 0, 0, 0, 0 } },
+    { "an offset that overflows", { 16, 0, 0, { 0, 0 }, { 17, SIZE_MAX } }, 3, 4, 4, { 1 }, { 34, 0, 0, 0, 0, 0 } },
+};
+
+static void checks(void)
+{
+    for (size_t at = 0; at < sizeof check_rows / sizeof check_rows[0]; at++) {
+        const uint8_t *value = check_rows[at].size == 0 ? NULL : check_rows[at].value;
+        const uint32_t wanted = check_rows[at].error.reason;
+        const struct nlp_route_error *numbers = wanted == 0 || wanted == NLP_NO_PLACE ? &no_error : &check_rows[at].error;
+        struct nlp_route_error error = no_error;
+        expect(check_rows[at].what, nlp_view_check(link_payload, sizeof link_payload, &check_rows[at].view, check_rows[at].shape,
+                                                   check_rows[at].kind, value, check_rows[at].size, &error) == wanted);
+        expect("its numbers", memcmp(&error, numbers, sizeof error) == 0);
+    }
+}
+
+/* The longest value, and one that is longer. */
+static void long_values(void)
+{
+    static uint8_t bytes[65532];
+    const struct nlp_view view = { NLP_RTM_NEWLINK, 0, 0, { 0, 0 }, { 0, 0 } };
+    const struct nlp_route_error too_long = { 33, 0, 0, 0, 0, 0 };
+    struct nlp_route_error error = no_error;
+    expect("the longest value", nlp_view_check(NULL, 0, &view, 0, 1, bytes, 65531, &error) == NLP_OK && error.reason == 1);
+    expect("a value that is longer", nlp_view_check(NULL, 0, &view, 0, 1, bytes, 65532, &error) == NLP_TOO_LONG
+        && memcmp(&error, &too_long, sizeof error) == 0);
+    expect("another shape comes first", nlp_view_check(NULL, 0, &view, 1, 1, bytes, 65532, &error) == NLP_WRONG_SHAPE);
+}
+
+/* Writes the nests of peers of peers up to a size: IFLA_LINKINFO, IFLA_INFO_KIND, IFLA_INFO_DATA, and VETH_INFO_PEER with
+ * its struct ifinfomsg, are 4, 8, 4 and 20 bytes. All but the second are nests. */
+static void write_peers(uint8_t *nests, size_t size)
+{
+    static const uint8_t kind[8] = { 8, 0, 1, 0, 'v', 'e', 't', 'h' };
+    memset(nests, 0, 108);
+    for (size_t at = 0; at < size; at += 36) {
+        const size_t left = size - at;
+        const size_t heads[3][3] = { { at, left, 18 }, { at + 12, left - 12, 2 }, { at + 16, left - 16, 1 } };
+        memcpy(nests + at + 4, kind, sizeof kind);
+        for (int i = 0; i < 3; i++) {
+            nests[heads[i][0]] = (uint8_t)heads[i][1];
+            nests[heads[i][0] + 2] = (uint8_t)heads[i][2];
+        }
+    }
+}
+
+static void deep_nests(void)
+{
+    const struct nlp_view view = { NLP_RTM_NEWLINK, 0, 0, { 0, 0 }, { 0, 0 } };
+    const struct nlp_route_error too_deep = { 47, 1, 10, 88, 0, 0 };
+    struct nlp_route_error error = no_error;
+    uint8_t nests[108];
+    write_peers(nests, 88);
+    expect("eight nests, one inside the other", nlp_view_check(NULL, 0, &view, 16, 18, nests + 4, 84, &error) == NLP_OK && error.reason == 1);
+    write_peers(nests, 108);
+    expect("nine nests", nlp_view_check(NULL, 0, &view, 16, 18, nests + 4, 104, &error) == NLP_TOO_DEEP
+        && memcmp(&error, &too_deep, sizeof error) == 0);
 }
 
 int main(void)
 {
     constants();
-    requests();
     links();
     others();
     values();
     errors();
     texts();
     shows();
+    checks();
+    long_values();
+    deep_nests();
     printf("%d passed, %d failed\n", passed, failed);
     return failed != 0;
 }

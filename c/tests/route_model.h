@@ -92,6 +92,28 @@ static inline struct nlp_route_error form_error(const struct model_row *row, uin
     return error;
 }
 
+static inline uint32_t block_error(int family, uint16_t policy, const uint8_t *block, size_t len, size_t start, int levels,
+                                   struct nlp_route_error *error);
+
+/* Finds the first error of a value of a row, by its kind and the offset of its attribute in the payload. */
+static inline uint32_t value_error(const struct model_row *row, int family, uint16_t policy, uint16_t kind, const uint8_t *value,
+                                   size_t size, size_t at, int levels, struct nlp_route_error *error)
+{
+    if (!has_form(row, value, size)) {
+        *error = form_error(row, kind, policy, at, size);
+        return error->reason;
+    }
+    if (row->form != FORM_NEST && row->form != FORM_HEADER)
+        return NLP_OK;
+    if (levels == 0) {
+        *error = (struct nlp_route_error){ NLP_TOO_DEEP, kind, policy, at, 0, 0 };
+        return NLP_TOO_DEEP;
+    }
+    if (size == row->size)
+        return NLP_OK;
+    return block_error(family, row->inner, value + row->size, size - row->size, at + 4 + row->size, levels - 1, error);
+}
+
 /* Finds the first error of a block that starts at an offset of the payload. */
 static inline uint32_t block_error(int family, uint16_t policy, const uint8_t *block, size_t len, size_t start, int levels,
                                    struct nlp_route_error *error)
@@ -102,18 +124,7 @@ static inline uint32_t block_error(int family, uint16_t policy, const uint8_t *b
     uint32_t result;
     for (; (result = step(block, len, &at, &item, &fault)) == NLP_OK; before = at) {
         const struct model_row row = row_in(family, policy, block, len, item.kind);
-        const uint8_t *value = block + item.offset;
-        if (!has_form(&row, value, item.size)) {
-            *error = form_error(&row, item.kind, policy, start + before, item.size);
-            return error->reason;
-        }
-        if (row.form != FORM_NEST && row.form != FORM_HEADER)
-            continue;
-        if (levels == 0) {
-            *error = (struct nlp_route_error){ NLP_TOO_DEEP, item.kind, policy, start + before, 0, 0 };
-            return NLP_TOO_DEEP;
-        }
-        result = block_error(family, row.inner, value + row.size, item.size - row.size, start + item.offset + row.size, levels - 1, error);
+        result = value_error(&row, family, policy, item.kind, block + item.offset, item.size, start + before, levels, error);
         if (result != NLP_OK)
             return result;
     }
@@ -157,6 +168,84 @@ static inline uint32_t model_first(const uint8_t *payload, size_t len, const str
     *row = row_in(family_of(view->message_type), view->policy, payload + block->offset, block->size, kind);
     *value = (struct nlp_part){ block->offset + item.offset, item.size };
     return has_form(row, payload + value->offset, item.size) ? NLP_OK : NLP_WRONG_SHAPE;
+}
+
+/* Returns the attributes of a view, or NULL if they are not inside the payload. A block without bytes is not read. */
+static inline const uint8_t *view_block(const uint8_t *payload, size_t len, const struct nlp_view *view)
+{
+    static const uint8_t nothing;
+    const struct nlp_part *block = &view->attributes;
+    if (block->offset > len || block->size > len - block->offset)
+        return NULL;
+    return block->size == 0 ? &nothing : payload + block->offset;
+}
+
+/* Returns the shape of a row. kinds.txt has strings whose zero may be missing, as the tables do. */
+static inline struct nlp_shape shape_by(const struct model_row *row)
+{
+    static const uint8_t shapes[] = {
+        NLP_SHAPE_U8, NLP_SHAPE_U16, NLP_SHAPE_U32, NLP_SHAPE_U64, NLP_SHAPE_I32, NLP_SHAPE_I64, NLP_SHAPE_BE16, NLP_SHAPE_BE32,
+        NLP_SHAPE_BE64, NLP_SHAPE_FLAG, NLP_SHAPE_STR, NLP_SHAPE_IP, NLP_SHAPE_BYTES, NLP_SHAPE_EXACT_LEN, NLP_SHAPE_MIN_LEN,
+        NLP_SHAPE_NESTED, NLP_SHAPE_HEADER_NESTED
+    };
+    return (struct nlp_shape){ shapes[row->form], row->size, row->inner };
+}
+
+/* The shape of a kind in a view. */
+static inline uint32_t model_shape(const uint8_t *payload, size_t len, const struct nlp_view *view, uint16_t kind,
+                                   struct nlp_shape *shape)
+{
+    const uint8_t *block = view_block(payload, len, view);
+    if (block == NULL)
+        return NLP_NO_PLACE;
+    const struct model_row row = row_in(family_of(view->message_type), view->policy, block, view->attributes.size, kind);
+    *shape = shape_by(&row);
+    return NLP_OK;
+}
+
+/* The attribute at an offset of a view, and where the next one is. */
+static inline uint32_t model_next(const uint8_t *payload, size_t len, const struct nlp_view *view, size_t *at, struct nlp_item *item)
+{
+    const uint8_t *block = view_block(payload, len, view);
+    const size_t start = view->attributes.offset, size = view->attributes.size;
+    struct nlp_fault ignored;
+    struct nlp_attr one;
+    size_t next = *at;
+    if (block == NULL)
+        return NLP_NO_PLACE;
+    const uint32_t result = step(block, size, &next, &one, &ignored);
+    if (result != NLP_OK)
+        return result == NLP_END ? NLP_END : NLP_WRONG_SHAPE;
+    const struct model_row row = row_in(family_of(view->message_type), view->policy, block, size, one.kind);
+    if (!has_form(&row, block + one.offset, one.size))
+        return NLP_WRONG_SHAPE;
+    const struct nlp_part value = { start + one.offset, one.size };
+    *item = (struct nlp_item){ one.kind, shape_by(&row), value, { view->message_type, 0, 0, { value.offset, 0 }, { value.offset, 0 } } };
+    if (row.form >= FORM_NEST)
+        item->nest = (struct nlp_view){ view->message_type, row.inner, 0, { value.offset, row.size },
+                                        { value.offset + row.size, value.size - row.size } };
+    *at = next;
+    return NLP_OK;
+}
+
+/* What is wrong with a value that is to be put at the end of a view. */
+static inline uint32_t model_check(const uint8_t *payload, size_t len, const struct nlp_view *view, uint16_t shape, uint16_t kind,
+                                   const uint8_t *value, size_t size, struct nlp_route_error *error)
+{
+    const uint8_t *block = view_block(payload, len, view);
+    const int family = family_of(view->message_type);
+    const size_t end = view->attributes.offset + view->attributes.size;
+    if (block == NULL)
+        return NLP_NO_PLACE;
+    const struct model_row row = row_in(family, view->policy, block, view->attributes.size, kind);
+    const uint16_t own = shape_by(&row).shape;
+    if (shape != NLP_SHAPE_ANY && shape != own)
+        *error = (struct nlp_route_error){ NLP_WRONG_SHAPE, kind, view->policy, end, own, shape };
+    else if (size > 65531)
+        *error = (struct nlp_route_error){ NLP_TOO_LONG, 0, 0, 0, 0, 0 };
+    else
+        return value_error(&row, family, view->policy, kind, value, size, end, NESTS, error);
+    return error->reason;
 }
 
 /* What the getter of a field returns. */

@@ -89,6 +89,40 @@ pub struct RouteError {
     pub received: usize,
 }
 
+#[repr(C)]
+#[derive(Clone, Copy, Debug, Default)]
+pub struct Shape {
+    pub shape: u16,
+    pub size: u16,
+    pub policy: u16,
+}
+
+#[repr(C)]
+#[derive(Clone, Copy, Debug, Default)]
+pub struct KeptShape {
+    pub kept: u16,
+    pub by: u16,
+    pub policy: u16,
+    pub shape: Shape,
+}
+
+#[repr(C)]
+#[derive(Clone, Copy, Debug, Default)]
+pub struct ViewWalk {
+    pub at: usize,
+    pub last: KeptShape,
+    pub before: KeptShape,
+}
+
+#[repr(C)]
+#[derive(Clone, Copy, Default)]
+pub struct Item {
+    pub kind: u16,
+    pub shape: Shape,
+    pub value: Part,
+    pub nest: View,
+}
+
 type In = *const u8;
 type Out = *mut u8;
 
@@ -185,6 +219,7 @@ extern "C" {
     pub fn nlp_view_bytes(payload: In, len: usize, view: *const View, kind: u16, value: *mut Part) -> u32;
     pub fn nlp_view_first(payload: In, len: usize, view: *const View, kind: u16, value: *mut Part) -> u32;
     pub fn nlp_view_nest(payload: In, len: usize, view: *const View, kind: u16, inner: *mut View) -> u32;
+    pub fn nlp_view_next(payload: In, len: usize, view: *const View, walk: *mut ViewWalk, item: *mut Item) -> u32;
     pub fn nlp_view_header_u8(payload: In, len: usize, view: *const View, field: u32, number: *mut u8) -> u32;
     pub fn nlp_view_header_u16(payload: In, len: usize, view: *const View, field: u32, number: *mut u16) -> u32;
     pub fn nlp_view_header_u32(payload: In, len: usize, view: *const View, field: u32, number: *mut u32) -> u32;

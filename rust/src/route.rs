@@ -18,9 +18,11 @@
 
 mod constants;
 mod error;
+mod items;
 
 pub use constants::*;
 pub use error::Error;
+pub use items::{Item, Items, Shape};
 
 use crate::fault::OK;
 use crate::ffi;
@@ -192,6 +194,20 @@ impl<'a> View<'a> {
     /// Returns a field of the fixed header, as [`header_u8`](View::header_u8) does.
     pub fn header_i32(&self, field: Field) -> Option<i32> {
         self.field(ffi::nlp_view_header_i32, field)
+    }
+
+    /// Iterates over the attributes, each with its shape.
+    ///
+    /// ```
+    /// use netlink_packet::route::{Shape, View, IFLA_MTU, RTM_NEWLINK};
+    ///
+    /// let payload = [0, 0, 1, 0, 7, 0, 0, 0, 0, 0, 0, 0, 0, 0, 0, 0, 8, 0, 4, 0, 0, 0, 1, 0];
+    /// let item = View::new(RTM_NEWLINK, &payload)?.items().next().unwrap();
+    /// assert_eq!((item.number(), item.shape, item.value), (IFLA_MTU, Shape::U32, &[0, 0, 1, 0][..]));
+    /// # Ok::<(), netlink_packet::route::Error>(())
+    /// ```
+    pub fn items(&self) -> Items<'a> {
+        Items::new(*self)
     }
 
     /// Iterates over the attributes, as they were received.

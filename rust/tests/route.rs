@@ -92,6 +92,76 @@ fn numbers_of_other_sizes_are_read() {
     let view = View::generic(&nested).unwrap().nest(CTRL_ATTR_POLICY).unwrap();
     let row = view.nest(Kind(1)).and_then(|it| it.nest(Kind(1))).unwrap();
     assert_eq!(row.i64(NL_POLICY_TYPE_ATTR_MIN_VALUE_S), Some(-1));
+    let rule = [vec![0; 12], vec![12, 0, 12, 0, 1, 2, 3, 4, 5, 6, 7, 8, 8, 0, 26, 0, 1, 2, 3, 4]].concat();
+    let view = View::new(32, &rule).unwrap();
+    assert_eq!(view.be64(FRA_TUN_ID), Some(0x0102030405060708));
+    assert_eq!(view.be32(FRA_FLOWLABEL), Some(0x01020304));
+}
+
+#[test]
+fn items_have_their_shape() {
+    let link = link();
+    let items: Vec<_> = link.items().collect();
+    let shapes: Vec<_> = items.iter().map(|it| (it.number(), it.shape)).collect();
+    let wanted = [
+        (IFLA_IFNAME, Shape::Str),
+        (IFLA_MTU, Shape::U32),
+        (IFLA_ADDRESS, Shape::Bytes),
+        (IFLA_OPERSTATE, Shape::U8),
+        (IFLA_LINK_NETNSID, Shape::I32),
+        (IFLA_LINKINFO, Shape::Nested { policy: 1 }),
+    ];
+    assert_eq!(shapes, wanted);
+    assert_eq!(items[1].value, [0xdc, 5, 0, 0]);
+    assert!(items[1].nest.is_none());
+    let info: Vec<_> = items[5].nest.unwrap().items().collect();
+    assert_eq!((info[0].value, info[1].shape), (&b"veth"[..], Shape::Nested { policy: 10 }));
+    let peer = info[1].nest.unwrap().items().next().unwrap();
+    assert_eq!(peer.shape, Shape::HeaderNested { size: 16, policy: 0 });
+    let peer = peer.nest.unwrap();
+    assert_eq!((peer.header_i32(IFI_INDEX), peer.items().count()), (Some(9), 1));
+}
+
+#[test]
+fn hops_are_items() {
+    let route = [2, 24, 0, 0, 254, 4, 0, 1, 0, 0, 0, 0, 12, 0, 9, 0, 8, 0, 4, 0xc1, 3, 0, 0, 0, 5, 0, 20, 0, 1];
+    let items: Vec<_> = View::new(24, &route).unwrap().items().collect();
+    assert_eq!((items.len(), items[1].shape), (2, Shape::U8));
+    let hop = items[0].nest.unwrap().items().next().unwrap();
+    assert_eq!((hop.kind, hop.number()), (0xc104, Kind(0x104)));
+    assert_eq!(hop.nest.unwrap().header_i32(RTNH_IFINDEX), Some(3));
+}
+
+/// Returns the shapes of attributes without values, after a header of zeros.
+fn shapes(message_type: u16, header: usize, values: &[(u16, usize)]) -> Vec<Shape> {
+    let mut payload = vec![0; header];
+    for (kind, size) in values {
+        payload.extend([4 + *size as u8, 0, *kind as u8, (*kind >> 8) as u8]);
+        payload.resize(payload.len() + size.next_multiple_of(4), 0);
+    }
+    View::new(message_type, &payload).unwrap().items().map(|it| it.shape).collect()
+}
+
+#[test]
+fn other_shapes_are_read() {
+    assert_eq!(
+        shapes(28, 12, &[(1, 4), (5, 2), (6, 2), (3, 16)]),
+        [Shape::Ip, Shape::U16, Shape::Be16, Shape::MinLen(16)]
+    );
+    assert_eq!(shapes(32, 12, &[(12, 8), (26, 4), (1000, 0)]), [Shape::Be64, Shape::Be32, Shape::Bytes]);
+    assert_eq!(shapes(64, 4, &[(8, 8)]), [Shape::U64]);
+    let gre =
+        [0, 0, 0, 0, 0, 0, 0, 0, 0, 0, 0, 0, 0, 0, 0, 0, 28, 0, 18, 0, 7, 0, 1, 0, b'g', b'r', b'e', 0, 16, 0, 2, 0];
+    let data = [gre.as_slice(), &[8, 0, 6, 0, 10, 0, 0, 1, 4, 0, 18, 0]].concat();
+    let view = View::new(RTM_NEWLINK, &data).unwrap();
+    let view = view.nest(IFLA_LINKINFO).and_then(|it| it.nest(IFLA_INFO_DATA)).unwrap();
+    let found: Vec<_> = view.items().map(|it| it.shape).collect();
+    assert_eq!(found, [Shape::ExactLen(4), Shape::Flag]);
+    assert_eq!(view.exact(IFLA_GRE_LOCAL), Some(&[10, 0, 0, 1][..]));
+    let policy = [10, 2, 0, 0, 24, 0, 8, 0, 20, 0, 1, 0, 16, 0, 1, 0, 12, 0, 2, 0, 0, 0, 0, 0, 0, 0, 0, 0];
+    let view = View::generic(&policy).unwrap();
+    let nests = [CTRL_ATTR_POLICY, Kind(1), Kind(1)].into_iter().fold(Some(view), |it, kind| it?.nest(kind));
+    assert_eq!(nests.unwrap().items().next().unwrap().shape, Shape::I64);
 }
 
 #[test]
