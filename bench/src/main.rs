@@ -18,6 +18,9 @@ const SIZES: [usize; 4] = [4, 64, 1024, 32768];
 /// The numbers of attributes, or of frames in a datagram.
 const COUNTS: [usize; 3] = [10, 1000, 10000];
 
+/// The numbers of attributes of a walk, whose first attribute costs most.
+const WALKS: [usize; 6] = [1, 2, 3, 10, 1000, 10000];
+
 /// The numbers of messages of a walk, whose first message costs most.
 const READS: [usize; 6] = [1, 2, 3, 10, 1000, 10000];
 
@@ -103,6 +106,8 @@ fn once(case: &str, library: &str, size: usize, bytes: &[u8], out: &mut [u8]) ->
         ("walk", "ours") => ours::walk(bytes),
         ("walk", "rust") => rust_crate::walk(bytes),
         ("walk", "libmnl") => libmnl::walk(bytes),
+        ("walk_each", "ours") => ours::walk_each(bytes),
+        ("walk_each", "libmnl") => libmnl::walk(bytes),
         ("put", "ours") => ours::put(size, out),
         ("put", "rust") => rust_crate::put(size, out),
         ("put", "libmnl") => libmnl::put(size, out),
@@ -153,7 +158,8 @@ fn print_cases() {
         ("view", "ours rust libmnl", &SIZES[..]),
         ("round_trip", "ours rust", &SIZES[..]),
         ("refuse", "ours rust libmnl", &SIZES[..]),
-        ("walk", "ours rust libmnl", &COUNTS[..]),
+        ("walk", "ours rust libmnl", &WALKS[..]),
+        ("walk_each", "ours libmnl", &COUNTS[..]),
         ("put", "ours rust libmnl", &COUNTS[..]),
         ("normalise", "ours rust libmnl", &COUNTS[..]),
         ("split", "ours rust libmnl", &COUNTS[..]),
