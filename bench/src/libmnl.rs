@@ -167,7 +167,7 @@ pub fn found(case: &str, size: usize, bytes: &[u8], out: &mut [u8]) -> Found {
             found.rejected(refuse(bytes) != 0);
             frames(bytes, |it| frame(it, &mut found));
         }
-        "walk" => attributes(bytes, |it| attribute(it, &mut found)),
+        "walk" | "walk_each" => attributes(bytes, |it| attribute(it, &mut found)),
         "split" => frames(bytes, |it| frame(it, &mut found)),
         "table" => filled(bytes, size, out).iter().for_each(|&it| match it.is_null() {
             true => found.item(0, 16, 0),

@@ -18,6 +18,9 @@ const SIZES: [usize; 4] = [4, 64, 1024, 32768];
 /// The numbers of attributes, or of frames in a datagram.
 const COUNTS: [usize; 3] = [10, 1000, 10000];
 
+/// The numbers of attributes of a walk, whose first attribute costs most.
+const WALKS: [usize; 6] = [1, 2, 3, 10, 1000, 10000];
+
 /// The numbers of messages of a walk, whose first message costs most.
 const READS: [usize; 6] = [1, 2, 3, 10, 1000, 10000];
 
@@ -90,39 +93,43 @@ fn input(case: &str, size: usize) -> Vec<u8> {
     }
 }
 
-// Inline, so that a count does not include a call of this function.
-#[inline(always)]
-fn once(case: &str, library: &str, size: usize, bytes: &[u8], out: &mut [u8]) -> usize {
+/// One call of a case: with the size, the input, and a buffer.
+type Call = fn(usize, &[u8], &mut [u8]) -> usize;
+
+/// Returns one call of a case in a library. It is chosen once, so that no count includes the choice.
+fn call_of(case: &str, library: &str) -> Call {
     match (case, library) {
-        ("read", "ours") | ("view", "ours") => ours::read(bytes),
-        ("read", "rust") => rust_crate::read(bytes),
-        ("view", "rust") => rust_crate::view(bytes),
-        ("view", "libmnl") => libmnl::read(bytes),
-        ("round_trip", "ours") => ours::round_trip(bytes, out),
-        ("round_trip", "rust") => rust_crate::round_trip(bytes, out),
-        ("walk", "ours") => ours::walk(bytes),
-        ("walk", "rust") => rust_crate::walk(bytes),
-        ("walk", "libmnl") => libmnl::walk(bytes),
-        ("put", "ours") => ours::put(size, out),
-        ("put", "rust") => rust_crate::put(size, out),
-        ("put", "libmnl") => libmnl::put(size, out),
-        ("normalise", "ours") => ours::normalize(bytes, out),
-        ("normalise", "rust") => rust_crate::normalize(bytes, out),
-        ("normalise", "libmnl") => libmnl::normalize(bytes, out),
-        ("refuse", "ours") => ours::refuse(bytes),
-        ("refuse", "rust") => rust_crate::refuse(bytes),
-        ("refuse", "libmnl") => libmnl::refuse(bytes),
-        ("split", "ours") => ours::split(bytes),
-        ("split", "rust") => rust_crate::split(bytes),
-        ("split", "libmnl") => libmnl::split(bytes),
-        ("table", "ours") => ours::table(bytes, size, out),
-        ("table", "libmnl") => libmnl::table(bytes, size, out),
-        ("messages", "ours") => ours::messages(bytes),
-        ("messages", "libmnl") => libmnl::messages(bytes),
-        ("read_each", "ours") => ours::read_each(bytes),
-        ("read_each", "libmnl") => libmnl::messages(bytes),
-        ("dump", "ours") => dump(size).iter().map(|it| ours::messages(it)).sum(),
-        ("dump", "libmnl") => dump(size).iter().map(|it| libmnl::messages(it)).sum(),
+        ("read", "ours") | ("view", "ours") => |_, bytes, _| ours::read(bytes),
+        ("read", "rust") => |_, bytes, _| rust_crate::read(bytes),
+        ("view", "rust") => |_, bytes, _| rust_crate::view(bytes),
+        ("view", "libmnl") => |_, bytes, _| libmnl::read(bytes),
+        ("round_trip", "ours") => |_, bytes, out| ours::round_trip(bytes, out),
+        ("round_trip", "rust") => |_, bytes, out| rust_crate::round_trip(bytes, out),
+        ("walk", "ours") => |_, bytes, _| ours::walk(bytes),
+        ("walk", "rust") => |_, bytes, _| rust_crate::walk(bytes),
+        ("walk", "libmnl") => |_, bytes, _| libmnl::walk(bytes),
+        ("walk_each", "ours") => |_, bytes, _| ours::walk_each(bytes),
+        ("walk_each", "libmnl") => |_, bytes, _| libmnl::walk(bytes),
+        ("put", "ours") => |size, _, out| ours::put(size, out),
+        ("put", "rust") => |size, _, out| rust_crate::put(size, out),
+        ("put", "libmnl") => |size, _, out| libmnl::put(size, out),
+        ("normalise", "ours") => |_, bytes, out| ours::normalize(bytes, out),
+        ("normalise", "rust") => |_, bytes, out| rust_crate::normalize(bytes, out),
+        ("normalise", "libmnl") => |_, bytes, out| libmnl::normalize(bytes, out),
+        ("refuse", "ours") => |_, bytes, _| ours::refuse(bytes),
+        ("refuse", "rust") => |_, bytes, _| rust_crate::refuse(bytes),
+        ("refuse", "libmnl") => |_, bytes, _| libmnl::refuse(bytes),
+        ("split", "ours") => |_, bytes, _| ours::split(bytes),
+        ("split", "rust") => |_, bytes, _| rust_crate::split(bytes),
+        ("split", "libmnl") => |_, bytes, _| libmnl::split(bytes),
+        ("table", "ours") => |size, bytes, out| ours::table(bytes, size, out),
+        ("table", "libmnl") => |size, bytes, out| libmnl::table(bytes, size, out),
+        ("messages", "ours") => |_, bytes, _| ours::messages(bytes),
+        ("messages", "libmnl") => |_, bytes, _| libmnl::messages(bytes),
+        ("read_each", "ours") => |_, bytes, _| ours::read_each(bytes),
+        ("read_each", "libmnl") => |_, bytes, _| libmnl::messages(bytes),
+        ("dump", "ours") => |size, _, _| dump(size).iter().map(|it| ours::messages(it)).sum(),
+        ("dump", "libmnl") => |size, _, _| dump(size).iter().map(|it| libmnl::messages(it)).sum(),
         _ => panic!("no such case: {case} {library}"),
     }
 }
@@ -133,7 +140,7 @@ fn output(case: &str, library: &str, size: usize, bytes: &[u8], out: &mut [u8]) 
     out.fill(0xee);
     match (case, library) {
         ("round_trip" | "put" | "normalise", _) => {
-            let written = once(case, library, size, bytes, out);
+            let written = call_of(case, library)(size, bytes, out);
             // libmnl writes attributes after the header of a frame.
             let start = if library == "libmnl" { 16 } else { 0 };
             out[start..start + written].to_vec()
@@ -153,7 +160,8 @@ fn print_cases() {
         ("view", "ours rust libmnl", &SIZES[..]),
         ("round_trip", "ours rust", &SIZES[..]),
         ("refuse", "ours rust libmnl", &SIZES[..]),
-        ("walk", "ours rust libmnl", &COUNTS[..]),
+        ("walk", "ours rust libmnl", &WALKS[..]),
+        ("walk_each", "ours libmnl", &COUNTS[..]),
         ("put", "ours rust libmnl", &COUNTS[..]),
         ("normalise", "ours rust libmnl", &COUNTS[..]),
         ("split", "ours rust libmnl", &COUNTS[..]),
@@ -182,10 +190,11 @@ fn main() {
         return println!("{}", bytes.iter().map(|it| format!("{it:02x}")).collect::<String>());
     }
     let times: usize = times.parse().unwrap();
+    let call = black_box(call_of(case, library));
     let mut sum = 0usize;
     let start = std::time::Instant::now();
     for _ in 0..times {
-        sum = sum.wrapping_add(black_box(once(case, library, size, black_box(&bytes), black_box(&mut out))));
+        sum = sum.wrapping_add(black_box(call(size, black_box(&bytes), black_box(&mut out))));
     }
     println!("{sum} {}", start.elapsed().as_nanos());
 }

@@ -52,12 +52,20 @@ struct MessageBatch {
     item: [Message; 16],
 }
 
+#[repr(C)]
+struct AttrBatch {
+    cursor: usize,
+    count: usize,
+    item: [Attr; 16],
+}
+
 extern "C" {
     fn nlp_frame_check(bytes: *const u8, len: usize, fault: *mut Fault) -> u32;
     fn nlp_frame_header(bytes: *const u8, len: usize, header: *mut Header, fault: *mut Fault) -> u32;
     fn nlp_frame_payload(bytes: *const u8, len: usize, payload: *mut Part, fault: *mut Fault) -> u32;
     fn nlp_frames_next(bytes: *const u8, len: usize, cursor: *mut usize, item: *mut Part, fault: *mut Fault) -> u32;
     fn nlp_attrs_next(bytes: *const u8, len: usize, cursor: *mut usize, item: *mut Attr, fault: *mut Fault) -> u32;
+    fn nlp_attrs_fill(bytes: *const u8, len: usize, batch: *mut AttrBatch, fault: *mut Fault) -> u32;
     fn nlp_attrs_table(bytes: *const u8, len: usize, table: *mut Attr, count: usize, fault: *mut Fault) -> u32;
     fn nlp_message_read(bytes: *const u8, len: usize, cursor: *mut usize, item: *mut Message, fault: *mut Fault)
         -> u32;
@@ -107,8 +115,65 @@ pub fn round_trip(bytes: &[u8], out: &mut [u8]) -> usize {
     size
 }
 
+/// The walk of the header over attributes: its inline functions, in Rust.
+struct Attrs {
+    block: *const u8,
+    len: usize,
+    batch: AttrBatch,
+    next: usize,
+    result: u32,
+    fault: Fault,
+}
+
+/// `nlp_attrs_begin`: leaves the attributes and the fault as they are.
+unsafe fn attrs_begin(walk: *mut Attrs, block: &[u8]) {
+    addr_of_mut!((*walk).block).write(block.as_ptr());
+    addr_of_mut!((*walk).len).write(block.len());
+    addr_of_mut!((*walk).batch.cursor).write(0);
+    addr_of_mut!((*walk).batch.count).write(0);
+    addr_of_mut!((*walk).next).write(0);
+    addr_of_mut!((*walk).result).write(0);
+}
+
+/// `nlp_attrs_read`.
+#[inline(always)]
+unsafe fn attrs_read(walk: *mut Attrs) -> *const Attr {
+    if (*walk).next == (*walk).batch.count {
+        (*walk).result = if (*walk).batch.cursor >= (*walk).len {
+            32
+        } else {
+            let (batch, fault) = (addr_of_mut!((*walk).batch), addr_of_mut!((*walk).fault));
+            nlp_attrs_fill((*walk).block, (*walk).len, batch, fault)
+        };
+        if (*walk).result != 0 {
+            return std::ptr::null();
+        }
+        (*walk).next = 0;
+    }
+    let at = (*walk).next;
+    (*walk).next = at + 1;
+    addr_of_mut!((*walk).batch.item).cast::<Attr>().add(at)
+}
+
 /// Calls `see` for each attribute of a block.
-fn attributes(bytes: &[u8], mut see: impl FnMut(&Attr)) {
+fn attributes(block: &[u8], mut see: impl FnMut(&Attr)) {
+    let mut walk = MaybeUninit::<Attrs>::uninit();
+    unsafe {
+        attrs_begin(walk.as_mut_ptr(), block);
+        while let Some(attr) = attrs_read(walk.as_mut_ptr()).as_ref() {
+            see(attr);
+        }
+    }
+}
+
+pub fn walk(block: &[u8]) -> usize {
+    let mut sum = 0;
+    attributes(block, |it| sum += it.kind as usize + it.size);
+    sum
+}
+
+/// Calls `see` for each attribute of a block, with one call of the library for each.
+fn each_attribute(bytes: &[u8], mut see: impl FnMut(&Attr)) {
     let mut at = 0;
     let mut item = Attr::default();
     let mut fault = Fault::default();
@@ -117,9 +182,9 @@ fn attributes(bytes: &[u8], mut see: impl FnMut(&Attr)) {
     }
 }
 
-pub fn walk(bytes: &[u8]) -> usize {
+pub fn walk_each(bytes: &[u8]) -> usize {
     let mut sum = 0;
-    attributes(bytes, |it| sum += it.kind as usize + it.size);
+    each_attribute(bytes, |it| sum += it.kind as usize + it.size);
     sum
 }
 
@@ -265,6 +330,7 @@ pub fn found(case: &str, size: usize, bytes: &[u8], out: &mut [u8]) -> Found {
             frames(bytes, |it| found.item(0, it.offset, it.size));
         }
         "walk" => attributes(bytes, |it| found.item(it.kind, it.offset, it.size)),
+        "walk_each" => each_attribute(bytes, |it| found.item(it.kind, it.offset, it.size)),
         "split" => frames(bytes, |it| found.item(0, it.offset, it.size)),
         "table" => filled(&bytes[16..], size, out).iter().for_each(|it| found.item(it.kind, 16 + it.offset, it.size)),
         "messages" | "dump" => {

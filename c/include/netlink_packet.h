@@ -169,7 +169,7 @@ struct nlp_message {
     struct nlp_part payload; /* from the start of the datagram, without padding */
 };
 
-/* The most messages that nlp_messages_fill reads in one call. */
+/* The most messages that nlp_messages_fill reads in one call, and attributes that nlp_attrs_fill reads. */
 #define NLP_BATCH 16
 
 /* Several messages of a datagram, and where the next one starts. */
@@ -177,6 +177,13 @@ struct nlp_message_batch {
     size_t cursor; /* the offset of the next message; set it to 0 before the first call */
     size_t count;  /* how many entries of `item` are messages that were read */
     struct nlp_message item[NLP_BATCH];
+};
+
+/* Several attributes of a block, and where the next one starts. */
+struct nlp_attr_batch {
+    size_t cursor; /* the offset of the next attribute; set it to 0 before the first call */
+    size_t count;  /* how many entries of `item` are attributes that were read */
+    struct nlp_attr item[NLP_BATCH];
 };
 
 /* The body of an error message. */
@@ -267,6 +274,16 @@ uint32_t nlp_message_attrs(const struct nlp_message *message, size_t fixed_len, 
  * starting at the cursor. */
 uint32_t nlp_attrs_next(const uint8_t *bytes, size_t len, size_t *cursor, struct nlp_attr *item,
                         struct nlp_fault *fault) NLP_CHECKED(3, 4, 5);
+
+/* Reads the attributes at `batch->cursor` and after it, as nlp_messages_fill reads messages: NLP_OK, with
+ * `batch->count` of them, up to 16; NLP_END; or NLP_ATTR_SHORT, _CUT or _LENGTH, once. So an error after some
+ * attributes is returned by the call after the one that returns these attributes. nlp_attrs_read returns the
+ * attributes one by one, with one call of this function for 16.
+ * Proved: the attributes are those that nlp_attrs_next would read, in their order, at least one of them, and
+ * fewer than 16 only if no complete attribute is at the new cursor. The entries after them are unchanged. NLP_END
+ * if and only if the cursor is at or past the end. An error is that of the bytes starting at the cursor. */
+uint32_t nlp_attrs_fill(const uint8_t *bytes, size_t len, struct nlp_attr_batch *batch,
+                        struct nlp_fault *fault) NLP_CHECKED(3, 4);
 
 /* Reads the frame at `*cursor`, as nlp_message_read reads a message; `*item` is the frame, without its padding.
  * Proved: the same. */
@@ -649,6 +666,14 @@ static inline NLP_RESULT uint32_t nlp_attrs_next_opt(const uint8_t *bytes, size_
     return nlp_attrs_next(bytes, len, cursor, item, fault == NULL ? &own : fault);
 }
 
+NLP_NONNULL(3)
+static inline NLP_RESULT uint32_t nlp_attrs_fill_opt(const uint8_t *bytes, size_t len,
+                                                     struct nlp_attr_batch *batch, struct nlp_fault *fault)
+{
+    struct nlp_fault own;
+    return nlp_attrs_fill(bytes, len, batch, fault == NULL ? &own : fault);
+}
+
 NLP_NONNULL(3, 4)
 static inline NLP_RESULT uint32_t nlp_frames_next_opt(const uint8_t *bytes, size_t len, size_t *cursor,
                                                       struct nlp_part *item, struct nlp_fault *fault)
@@ -833,6 +858,56 @@ static inline NLP_RESULT const struct nlp_message *nlp_messages_next(struct nlp_
             walk->result = NLP_END;
         else
             walk->result = nlp_messages_fill(walk->bytes, walk->len, &walk->batch, &walk->fault);
+        if (walk->result != NLP_OK)
+            return NULL;
+        walk->next = 0;
+    }
+    return &walk->batch.item[walk->next++];
+}
+
+/* ---- the attributes of a block, one by one */
+
+/* A walk over the attributes of a block, with one call of nlp_attrs_fill for 16 of them:
+ *
+ *     struct nlp_attrs walk;
+ *     const struct nlp_attr *attr;
+ *     nlp_attrs_begin(&walk, block, len);
+ *     while ((attr = nlp_attrs_read(&walk)) != NULL)
+ *         use(block + attr->offset, attr->size);
+ *     if (walk.result != NLP_END)
+ *         the bytes after the last attribute are malformed: walk.fault */
+struct nlp_attrs {
+    const uint8_t *block;
+    size_t len;
+    struct nlp_attr_batch batch;
+    size_t next;            /* the entry of batch.item that is returned next */
+    uint32_t result;        /* after NULL: NLP_END, or NLP_ATTR_SHORT, _CUT or _LENGTH; else NLP_OK */
+    struct nlp_fault fault; /* the numbers of that error */
+};
+
+/* Begins the walk at the first attribute. */
+NLP_NONNULL(1)
+static inline void nlp_attrs_begin(struct nlp_attrs *walk, const uint8_t *block, size_t len)
+{
+    walk->block = block;
+    walk->len = len;
+    walk->batch.cursor = 0;
+    walk->batch.count = 0;
+    walk->next = 0;
+    walk->result = NLP_OK;
+}
+
+/* Returns the next attribute, or NULL at the end and at an error, which are those of nlp_attrs_next. The attribute
+ * is valid until the next call for this walk. This function is plain C over nlp_attrs_fill: nlp_attrs_fill is
+ * proved, and this function is only tested. */
+NLP_NONNULL(1)
+static inline NLP_RESULT const struct nlp_attr *nlp_attrs_read(struct nlp_attrs *walk)
+{
+    if (walk->next == walk->batch.count) {
+        if (walk->batch.cursor >= walk->len)
+            walk->result = NLP_END;
+        else
+            walk->result = nlp_attrs_fill(walk->block, walk->len, &walk->batch, &walk->fault);
         if (walk->result != NLP_OK)
             return NULL;
         walk->next = 0;

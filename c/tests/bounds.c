@@ -165,6 +165,38 @@ static bool fills_batches(size_t count, size_t rest, size_t damaged, bool at_end
     return holds;
 }
 
+/* The attributes at a cursor, in one call. */
+static uint32_t fills_attrs(const uint8_t *block, size_t len, size_t *at, bool at_end, bool *holds)
+{
+    struct nlp_fault fault = { 99, 98, 97, 96 }, wanted = fault;
+    struct nlp_attr_batch *batch = place(1, sizeof *batch, at_end), expected;
+    memset(batch, 0xee, sizeof *batch);
+    batch->cursor = *at;
+    memcpy(&expected, batch, sizeof expected);
+    uint32_t result = model_fill_attrs(block, len, &expected, &wanted);
+    *holds = *holds && nlp_attrs_fill(block, len, batch, &fault) == result && same_fault(&fault, &wanted)
+        && same_batch(batch, &expected, result == NLP_OK ? expected.count : 0);
+    *at = expected.cursor;
+    return result;
+}
+
+/* A block of attributes with values of 1 to 4 bytes, and other bytes after them. The length of the attribute at
+ * `damaged`, if there is one, is wrong. */
+static bool fills_all_attrs(size_t count, size_t rest, size_t damaged, bool at_end)
+{
+    static const uint16_t wrong[4] = { 0, 3, 0x7fff, 0xffff };
+    const size_t len = 8 * count + rest;
+    uint8_t *block = place(0, len, at_end);
+    size_t at = 0;
+    bool holds = true;
+    fill(block, len);
+    for (size_t i = 0; i < count; i++)
+        write_number(block + 8 * i, 2, false, i == damaged ? wrong[any(4)] : 5 + any(4));
+    while (fills_attrs(block, len, &at, at_end, &holds) != NLP_END)
+        ;
+    return holds;
+}
+
 #define PUTS(name, value, ...) do { \
         static const uint8_t bytes[] = { __VA_ARGS__ }; \
         size_t size = sizeof bytes, whole = 4 + (size + 3) / 4 * 4, at = cursor; \
@@ -199,7 +231,7 @@ static bool puts_all(uint8_t *buffer, size_t capacity, size_t cursor, uint16_t k
 int main(void)
 {
     static const uint16_t kinds[6] = { 0, 1, 2, 0x3fff, 0x8001, 0xffff };
-    bool found = true, filled = true, valid = true, got = true, read = true, batches = true, put = true;
+    bool found = true, filled = true, valid = true, got = true, read = true, batches = true, attributes = true, put = true;
     for (size_t i = 0; i < 3; i++)
         if ((pages[i] = guarded_pages()) == NULL)
             return 1;
@@ -220,6 +252,8 @@ int main(void)
         for (size_t i = 0; i < 7; i++) {
             size_t at = cursors[i];
             fills_batch(bytes, len, &at, at_end, &batches);
+            at = cursors[i];
+            fills_attrs(bytes, len, &at, at_end, &attributes);
         }
         if (turn < 420)
             got = got && gets_all(bytes, len, at_end);
@@ -231,12 +265,17 @@ int main(void)
         for (size_t rest = 0; rest <= 20; rest++)
             for (size_t damaged = 0; damaged <= count; damaged++)
                 batches = batches && fills_batches(count, rest, damaged, rest % 2 == 0);
+    for (size_t count = 0; count <= 34; count++)
+        for (size_t rest = 0; rest <= 8; rest++)
+            for (size_t damaged = 0; damaged <= count; damaged++)
+                attributes = attributes && fills_all_attrs(count, rest, damaged, rest % 2 == 0);
     expect("attributes are found", found);
     expect("tables are filled", filled);
     expect("blocks are validated", valid);
     expect("values are read", got);
     expect("messages are read", read);
     expect("batches of messages are read", batches);
+    expect("batches of attributes are read", attributes);
     expect("values are put", put);
     printf("%d passed, %d failed\n", passed, failed);
     return failed != 0;

@@ -6,7 +6,7 @@
 #include "route_model.h"
 
 /* What the bytes of a call's inputs are. */
-enum shape { BLOCK, DATAGRAM, MESSAGES, ERROR_BODY, ACKNOWLEDGEMENT, PAYLOAD, ANY_BYTES, SHAPES };
+enum shape { BLOCK, ATTRIBUTES, DATAGRAM, MESSAGES, ERROR_BODY, ACKNOWLEDGEMENT, PAYLOAD, ANY_BYTES, SHAPES };
 
 /* An input while it is made. */
 struct draft_input {
@@ -156,6 +156,19 @@ static void add_messages(struct draft_input *draft)
     }
 }
 
+/* Adds up to 40 attributes with values of at most 8 bytes. */
+static void add_attributes(struct draft_input *draft)
+{
+    const size_t start = draft->size;
+    for (uint32_t left = below(41); left > 0; left--) {
+        const size_t size = below(9);
+        add_number(draft, 2, 4 + size);
+        add_any(draft, 2 + size);
+        if (left > 1 || below(4) != 0)
+            add_padding(draft, start);
+    }
+}
+
 /* Adds the attributes of an acknowledgement, such as an offset, and a request. The first argument is their size. */
 static void add_acknowledgement(struct draft_input *draft)
 {
@@ -280,6 +293,7 @@ static void make_input(struct draft_input *draft, uint32_t call, uint32_t shape)
     add_any(draft, ARGUMENTS);
     switch (below(32) == 0 ? below(SHAPES) : shape) {
     case BLOCK: add_block(draft, 0); break;
+    case ATTRIBUTES: add_attributes(draft); break;
     case DATAGRAM: add_datagram(draft); break;
     case MESSAGES: add_messages(draft); break;
     case ERROR_BODY: add_error(draft); break;

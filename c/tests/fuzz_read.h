@@ -23,6 +23,43 @@ static void walk_attrs(const struct input *in)
     } while (result != NLP_END);
 }
 
+/* The same attributes, up to 16 in a call. */
+static void fill_attrs(const struct input *in)
+{
+    struct nlp_attr_batch *batch = place(EXTRA, sizeof *batch), expected;
+    uint32_t result;
+    memset(batch, 0xee, sizeof *batch);
+    batch->cursor = in->args[0] < 192 ? 0 : near(in->args[1], in->len);
+    do {
+        struct nlp_fault wanted = begin_fault();
+        memcpy(&expected, batch, sizeof expected);
+        result = model_fill_attrs(in->bytes, in->len, &expected, &wanted);
+        RESULT(OPT(nlp_attrs_fill, in->bytes, in->len, batch), result);
+        CHECK(same_batch(batch, &expected, result == NLP_OK ? expected.count : 0));
+        check_fault(&wanted);
+    } while (result != NLP_END);
+}
+
+/* And one by one. */
+static void read_attrs(const struct input *in)
+{
+    struct nlp_attrs *walk = place(EXTRA, sizeof *walk);
+    size_t at = 0;
+    uint32_t result;
+    memset(walk, 0xee, sizeof *walk);
+    nlp_attrs_begin(walk, in->bytes, in->len);
+    do {
+        struct nlp_fault wanted = walk->fault = no_fault;
+        struct nlp_attr expected = no_attr;
+        result = step(in->bytes, in->len, &at, &expected, &wanted);
+        const struct nlp_attr *item = nlp_attrs_read(walk);
+        CHECK((item != NULL) == (result == NLP_OK));
+        RESULT(walk->result, result);
+        CHECK(item == NULL || same_attr(item, &expected));
+        CHECK(same_fault(&walk->fault, &wanted));
+    } while (result != NLP_END);
+}
+
 static void find_attr(const struct input *in)
 {
     struct nlp_attr *item = place(OUT, sizeof *item), expected = *item = no_attr;

@@ -117,6 +117,26 @@ static inline uint32_t model_fill(const uint8_t *bytes, size_t len, struct nlp_m
     return result;
 }
 
+/* The same for attributes. */
+static inline uint32_t model_fill_attrs(const uint8_t *block, size_t len, struct nlp_attr_batch *batch, struct nlp_fault *fault)
+{
+    struct nlp_fault found = *fault;
+    struct nlp_attr item;
+    size_t at = batch->cursor, count = 0;
+    uint32_t result = NLP_OK;
+    while (count < 16 && (result = step(block, len, &at, &item, &found)) == NLP_OK) {
+        batch->item[count++] = item;
+        batch->cursor = at;
+    }
+    if (count > 0) {
+        batch->count = count;
+        return NLP_OK;
+    }
+    batch->cursor = at;
+    *fault = found;
+    return result;
+}
+
 static inline bool same_fault(const struct nlp_fault *f, const struct nlp_fault *g)
 {
     return f->cause == g->cause && f->inside == g->inside && f->size == g->size && f->wanted == g->wanted;
@@ -125,6 +145,17 @@ static inline bool same_fault(const struct nlp_fault *f, const struct nlp_fault 
 static inline bool same_attr(const struct nlp_attr *a, const struct nlp_attr *b)
 {
     return a->kind == b->kind && a->offset == b->offset && a->size == b->size;
+}
+
+/* Compares two batches: the first `count` entries by their fields, because an attribute has padding, and the others
+ * byte for byte. */
+static inline bool same_batch(const struct nlp_attr_batch *a, const struct nlp_attr_batch *b, size_t count)
+{
+    for (size_t i = 0; i < count; i++)
+        if (!same_attr(&a->item[i], &b->item[i]))
+            return false;
+    return a->cursor == b->cursor && a->count == b->count
+        && memcmp(a->item + count, b->item + count, (NLP_BATCH - count) * sizeof a->item[0]) == 0;
 }
 
 static inline bool same_part(const struct nlp_part *a, const struct nlp_part *b)
