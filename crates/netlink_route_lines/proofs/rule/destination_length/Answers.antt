@@ -1,0 +1,5 @@
+use Rattle.std.proofs.Common.{rules}
+use Rattle.netlink_route_lines.proofs.rule.destination_length.Goals as goal
+
+pub returns : goal.returns
+returns c = search rules
