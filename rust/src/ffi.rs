@@ -97,22 +97,10 @@ pub struct Shape {
     pub policy: u16,
 }
 
+/// Its fields are only for the library. All zeros begin a walk.
 #[repr(C)]
 #[derive(Clone, Copy, Debug, Default)]
-pub struct KeptShape {
-    pub kept: u16,
-    pub by: u16,
-    pub policy: u16,
-    pub shape: Shape,
-}
-
-#[repr(C)]
-#[derive(Clone, Copy, Debug, Default)]
-pub struct ViewWalk {
-    pub at: usize,
-    pub last: KeptShape,
-    pub before: KeptShape,
-}
+pub struct ViewWalk([usize; 4]);
 
 #[repr(C)]
 #[derive(Clone, Copy, Default)]
