@@ -243,7 +243,7 @@ uint32_t nlp_view_next(const uint8_t *payload, size_t len, const struct nlp_view
  * NLP_WRONG_SHAPE if the table gives the kind another shape, which is then `expected`, and `shape` is `received`;
  * NLP_TOO_LONG if the value is longer than 65,531 bytes; or the reason of its error, as of nlp_route_view. The offset is
  * that of the attribute, at the end of the view; offsets are from the start of the payload. nlp_route_error_text has no
- * text for NLP_WRONG_SHAPE.
+ * text for NLP_WRONG_SHAPE; nlp_route_block_text has.
  * Proved: which result, and the numbers; NLP_OK and NLP_NO_PLACE leave the error unchanged. */
 uint32_t nlp_view_check(const uint8_t *payload, size_t len, const struct nlp_view *view, uint16_t shape, uint16_t kind,
                         const uint8_t *value, size_t size, struct nlp_route_error *error) NLP_CHECKED(3, 8);

@@ -14,8 +14,8 @@
  *     nlp_route_nest_end(&writer, &info, &data);
  *     nlp_route_nest_end(&writer, &link, &info);
  *     nlp_writer_frame_end(&writer, frame);
- *     if (writer.failed != NLP_OK)
- *         print_error(writer.failed, &link.error);
+ *     if (writer.failed != NLP_OK && nlp_route_block_text(&link, text, sizeof text, &size) == NLP_OK)
+ *         fprintf(stderr, "%.*s\n", (int)size, (const char *)text);
  *
  * All functions here are plain C over the proved ones, and only tested. Once a call fails, those after it do nothing.
  */
@@ -23,6 +23,8 @@
 #define NETLINK_PACKET_ROUTE_WRITE_H
 
 #include "netlink_packet_route.h"
+
+#include <stdio.h>
 
 #ifdef __cplusplus
 extern "C" {
@@ -232,6 +234,26 @@ static inline void nlp_route_nest_end(struct nlp_writer *writer, struct nlp_rout
     if (writer->failed == NLP_OK && outer->view.policy == 0)
         writer->failed = nlp_view_check(writer->buffer, writer->at, &outer->view, NLP_SHAPE_ANY, inner->kind,
                                         writer->buffer + at, writer->at - at, &outer->error);
+}
+
+/* Writes why the table rejected an attribute of a block, as nlp_route_error_text does, also for NLP_WRONG_SHAPE: `at byte 32,
+ * in policy 0: attribute 4 has the shape be32 instead of u32`. NLP_NO_PLACE if it rejected none, such as if there was no
+ * room. Bytes are counted from the start of the writer's buffer. */
+NLP_NONNULL(1, 4)
+static inline NLP_RESULT uint32_t nlp_route_block_text(const struct nlp_route_block *block, uint8_t *text, size_t capacity,
+                                                       size_t *size)
+{
+    const struct nlp_route_error *error = &block->error;
+    char line[128];
+    if (error->reason != NLP_WRONG_SHAPE)
+        return nlp_route_error_text(error, text, capacity, size);
+    *size = (size_t)snprintf(line, sizeof line, "at byte %zu, in policy %u: attribute %u has the shape %s instead of %s",
+                             error->offset, (unsigned)error->policy, (unsigned)error->kind,
+                             nlp_shape_name((uint16_t)error->received), nlp_shape_name((uint16_t)error->expected));
+    if (*size > capacity)
+        return NLP_NO_ROOM;
+    memcpy(text, line, *size);
+    return NLP_OK;
 }
 
 #ifdef __cplusplus

@@ -158,6 +158,38 @@ static void failures(void)
     expect("no nest at all", writer.failed == NLP_NO_PLACE);
 }
 
+/* The text of the error of a block of links in which a value is put with a shape. */
+static void expect_text(uint16_t shape, size_t len, const char *wanted)
+{
+    static const uint8_t bytes[8] = { 0 };
+    struct nlp_writer writer = begin();
+    nlp_writer_put_u32(&writer, 9, 9);
+    struct nlp_route_block link = nlp_route_attrs(&writer, NLP_RTM_NEWLINK);
+    uint8_t text[128];
+    size_t size = 0;
+    bool holds = true;
+    nlp_route_put(&writer, &link, shape, NLP_IFLA_MTU, bytes, len);
+    for (size_t capacity = 0; capacity <= strlen(wanted) + 1; capacity++) {
+        const bool fits = capacity >= strlen(wanted);
+        memset(text, 0xee, sizeof text);
+        const uint32_t result = nlp_route_block_text(&link, text, capacity, &size);
+        holds = holds && (fits ? result == NLP_OK : result == NLP_NO_ROOM) && size == strlen(wanted)
+            && memcmp(text, wanted, fits ? size : 0) == 0 && text[fits ? size : 0] == 0xee;
+    }
+    expect(wanted, holds);
+}
+
+static void texts(void)
+{
+    const struct nlp_writer writer = begin();
+    const struct nlp_route_block none = nlp_route_attrs(&writer, NLP_RTM_NEWLINK);
+    uint8_t text[8];
+    size_t size = 7;
+    expect_text(NLP_SHAPE_BE32, 4, "at byte 8, in policy 0: attribute 4 has the shape be32 instead of u32");
+    expect_text(NLP_SHAPE_ANY, 3, "at byte 8, in policy 0: attribute 4 has a value of 3 bytes instead of 4");
+    expect("no text", nlp_route_block_text(&none, text, sizeof text, &size) == NLP_NO_PLACE && size == 7);
+}
+
 int main(void)
 {
     wrong_shapes();
@@ -166,6 +198,7 @@ int main(void)
     errors_in_nests();
     deep_nests();
     failures();
+    texts();
     printf("%d passed, %d failed\n", passed, failed);
     return failed != 0;
 }

@@ -44,6 +44,7 @@ IS(nlp_route_inside, struct nlp_route_block, writer_at, block_at, uint16_t, uint
 IS(nlp_route_nest, struct nlp_route_block, writer_at, block_at, uint16_t);
 IS(nlp_route_nest_header, struct nlp_route_block, writer_at, block_at, uint16_t, const void *, size_t);
 IS(nlp_route_nest_end, void, writer_at, block_at, const struct nlp_route_block *);
+IS(nlp_route_block_text, uint32_t, const struct nlp_route_block *, uint8_t *, size_t, size_t *);
 
 static bool are_written(const struct nlp_writer *writer, const uint8_t *wanted, size_t size)
 {
