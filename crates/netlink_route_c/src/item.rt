@@ -1,6 +1,6 @@
 //! A walk over the attributes of a view.
 
-ghost use Rattle.std.specs.Prelude.{◌≡◌, ◌≢◌, ◌+◌, ◌<◌, ◌≤◌, ◌^◌, ◌↔◌, ◌⊎◌, IfNone, IfSome, Some, drop, false, length, slice_range, true};
+ghost use Rattle.std.specs.Prelude.{◌≡◌, ◌≢◌, ◌+◌, ◌<◌, ◌≤◌, ◌^◌, ◌↔◌, ◌⊎◌, IfNone, IfSome, None, Some, drop, false, length, slice_range, true};
 ghost use Rattle.netlink_family.specs.Listing.{first_of, listed};
 ghost use Rattle.netlink_family.specs.Shapes.{choice_by, nest_start, rows_in, shape_among, within};
 ghost use Rattle.netlink_packet_core.specs.DecodeError.{DecodeError};
@@ -253,8 +253,10 @@ fn walked_choice(rows: Rows, policy: u16, block: &[u8], by: u16, walk: &mut View
 
 /// Returns the shape that is kept of what a kind chose from a policy, if it is.
 fn kept_shape(kept: &KeptShape, by: u16, policy: u16) -> Option<Shape>
-    ensures { IfSome result (λ shape. (kept.now.kept ≡ 1) × (kept.now.by ≡ by) × (kept.now.policy ≡ policy)
+    ensures some { IfSome result (λ shape. (kept.now.kept ≡ 1) × (kept.now.by ≡ by) × (kept.now.policy ≡ policy)
         × (shape_from kept.now.shape ≡ Some shape)) }
+    ensures none { IfNone result (kept.now.kept ≡ 1 → kept.now.by ≡ by → kept.now.policy ≡ policy
+        → shape_from kept.now.shape ≡ None) }
 {
     if kept.kept != 1 || kept.by != by || kept.policy != policy {
         return None;
