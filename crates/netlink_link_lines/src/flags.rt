@@ -11,7 +11,7 @@ const IFF_UP: u32 = 0x1;
 const IFF_RUNNING: u32 = 0x40;
 
 /// The bits that have no name in linux/if.h.
-const UNNAMED: u32 = 0xfff8_0000;
+pub const UNNAMED: u32 = 0xfff8_0000;
 
 /// The flags of linux/if.h but for `IFF_RUNNING`, in the order in which `ip` names them.
 const ORDER: [u32; 18] = [
@@ -41,7 +41,7 @@ pub(crate) fn push_flags(alloc: Global, text: &mut String, flags: u32) -> Result
 }
 
 /// `NO-CARRIER` where a link is up and not running.
-fn first_flag(flags: u32) -> &'static str
+pub fn first_flag(flags: u32) -> &'static str
     ensures { result.now ≡ first_flag flags }
 {
     if flags & IFF_UP != 0 && flags & IFF_RUNNING == 0 {

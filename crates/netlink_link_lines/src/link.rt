@@ -179,7 +179,7 @@ fn push_below_name(
 }
 
 /// Returns the string in `IFLA_INFO_KIND` of the nest `IFLA_LINKINFO`, if there is one.
-fn kind_of<'a>(link: &MessageIndex<'a, Links>) -> Option<&'a [u8]>
+pub fn kind_of<'a>(link: &MessageIndex<'a, Links>) -> Option<&'a [u8]>
     ensures { option_copied result ≡ link_kind link.now.message.payload.now }
 {
     link.index().nest(IFLA_LINKINFO)?.str_bytes(IFLA_INFO_KIND)

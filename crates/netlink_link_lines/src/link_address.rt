@@ -44,21 +44,21 @@ fn push_layer(text: &mut String, layer: u16) -> Result<(), AllocError>
 }
 
 /// Returns the address of the device; empty if there is none.
-fn own_of<'a>(link: &MessageIndex<'a, Links>) -> &'a [u8]
+pub fn own_of<'a>(link: &MessageIndex<'a, Links>) -> &'a [u8]
     ensures { result.now ≡ link_own link.now.message.payload.now IFLA_ADDRESS }
 {
     or_empty(link.index().bytes(IFLA_ADDRESS))
 }
 
 /// Returns the broadcast address, or that of the peer; empty if there is none.
-fn broadcast_of<'a>(link: &MessageIndex<'a, Links>) -> &'a [u8]
+pub fn broadcast_of<'a>(link: &MessageIndex<'a, Links>) -> &'a [u8]
     ensures { result.now ≡ link_own link.now.message.payload.now IFLA_BROADCAST }
 {
     or_empty(link.index().bytes(IFLA_BROADCAST))
 }
 
 /// Returns the permanent address; empty if there is none.
-fn permanent_of<'a>(link: &MessageIndex<'a, Links>) -> &'a [u8]
+pub fn permanent_of<'a>(link: &MessageIndex<'a, Links>) -> &'a [u8]
     ensures { result.now ≡ link_own link.now.message.payload.now IFLA_PERM_ADDRESS }
 {
     or_empty(link.index().bytes(IFLA_PERM_ADDRESS))
@@ -77,7 +77,12 @@ fn broadcast_key(flags: u32) -> &'static str
 
 /// Appends the address of a device: that of a tunnel as an IP address, and any other in hexadecimal.
 #[tactic(auto, using(netlink_words::specs::Pieces::bytes_part), unfolding(crate::specs::LinkAddress::link_address))]
-fn push_own(alloc: Global, text: &mut String, layer: u16, bytes: &[u8]) -> Result<(), AllocError>
+pub fn push_own(
+    alloc: Global,
+    text: &mut String,
+    layer: u16,
+    bytes: &[u8],
+) -> Result<(), AllocError>
     ensures { OnOk result (AddsPart text.old text.new (link_address layer bytes.now)) }
 {
     if bytes.len() == ip_size(layer) {

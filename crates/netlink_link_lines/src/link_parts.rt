@@ -69,7 +69,7 @@ fn push_mode(text: &mut String, mode: Option<u8>) -> Result<(), AllocError>
 
 /// Appends the name of a mode (`IF_LINK_MODE_*` of linux/if.h), or the number in decimal.
 #[tactic(auto, unfolding(crate::specs::LinkParts::mode_text))]
-fn push_mode_name(text: &mut String, mode: u8) -> Result<(), AllocError>
+pub fn push_mode_name(text: &mut String, mode: u8) -> Result<(), AllocError>
     ensures { OnOk result (string_bytes text.new ≡ string_bytes text.old ++ mode_text mode) }
 {
     let name = match mode {
@@ -96,7 +96,7 @@ fn push_group(text: &mut String, group: Option<u32>) -> Result<(), AllocError>
 
 /// Appends the name of a group. Only the group 0 has a name, `default`, without a file of names.
 #[tactic(auto, unfolding(crate::specs::LinkParts::group_text))]
-fn push_group_name(text: &mut String, group: u32) -> Result<(), AllocError>
+pub fn push_group_name(text: &mut String, group: u32) -> Result<(), AllocError>
     ensures { OnOk result (string_bytes text.new ≡ string_bytes text.old ++ group_text group) }
 {
     if group == 0 {
@@ -139,7 +139,7 @@ fn push_event(alloc: Global, text: &mut String, event: Option<u32>) -> Result<()
 
 /// Returns the name of an event (`IFLA_EVENT_*` of linux/if_link.h), or the number in decimal.
 #[tactic(auto, unfolding(crate::specs::LinkParts::event_text))]
-fn event_text(alloc: Global, event: u32) -> Result<String, AllocError>
+pub fn event_text(alloc: Global, event: u32) -> Result<String, AllocError>
     ensures { IfOk result (λ text. string_bytes text ≡ event_text event) }
 {
     let name = match event {

@@ -6,7 +6,7 @@ ghost use Rattle.netlink_route_lines.specs.IpProtocols.{early_protocol, ip_proto
 /// Returns the name of an IP protocol by its number, the first one in Debian's /etc/protocols, which
 /// `ip` prints there; nothing for a number without one.
 #[tactic(auto, unfolding(crate::specs::IpProtocols::ip_protocol_name))]
-pub(crate) fn ip_protocol_name(number: u8) -> &'static str
+pub fn ip_protocol_name(number: u8) -> &'static str
     ensures { result.now ≡ ip_protocol_name number }
 {
     if number < 41 {

@@ -109,8 +109,8 @@
 //! | `unassigned` in place of an id | `namespace::push_id` | `Namespace::id_part` |
 #![tactic(auto)]
 
-mod ip_protocols;
-mod mpls;
+pub mod ip_protocols;
+pub mod mpls;
 pub mod multicast;
 pub mod namespace;
 pub mod route;

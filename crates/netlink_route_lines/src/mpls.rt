@@ -9,14 +9,14 @@ use netlink_words::parts::{push_keyed, push_part};
 use std::alloc::{AllocError, Global};
 
 /// The address family of MPLS (linux/socket.h).
-pub(crate) const AF_MPLS: u8 = 28;
+pub const AF_MPLS: u8 = 28;
 
 /// The number of bits of a label.
 const LABEL_BITS: u8 = 20;
 
 /// Returns labels with slashes between them, up to the bottom of the stack or the end of the bytes.
 #[tactic(auto, unfolding(crate::specs::Mpls::labels_text))]
-fn labels_text(alloc: Global, bytes: &[u8]) -> Result<String, AllocError>
+pub fn labels_text(alloc: Global, bytes: &[u8]) -> Result<String, AllocError>
     ensures { IfOk result (λ text. string_bytes text ≡ labels_text bytes.now) }
 {
     let mut text = String::new(alloc);

@@ -30,12 +30,12 @@ const RTNL_FAMILY_IPMR: u8 = 128;
 const RTNL_FAMILY_IP6MR: u8 = 129;
 
 // The flags of a route that `ip` names for multicast routing.
-const RTNH_F_OFFLOAD: u32 = 0x8;
+pub const RTNH_F_OFFLOAD: u32 = 0x8;
 
-const RTNH_F_UNRESOLVED: u32 = 0x20;
+pub const RTNH_F_UNRESOLVED: u32 = 0x20;
 
 /// The main routing table (linux/rtnetlink.h).
-pub(crate) const RT_TABLE_MAIN: u32 = 254;
+pub const RT_TABLE_MAIN: u32 = 254;
 
 /// Returns whether the family of a route is that of multicast routing of IPv4 or IPv6.
 pub fn is_multicast(family: u8) -> bool
@@ -98,7 +98,7 @@ fn pair_text(alloc: Global, source: &[u8], group: &[u8]) -> Result<String, Alloc
 
 /// Returns a word, or `unknown` if it is empty.
 #[tactic(auto, unfolding(crate::specs::Multicast::word_or_unknown))]
-fn word_or_unknown<'a>(word: &'a str) -> &'a str
+pub fn word_or_unknown<'a>(word: &'a str) -> &'a str
     ensures { result.now ≡ word_or_unknown word.now }
 {
     if word.is_empty() {

@@ -36,7 +36,7 @@ use std::alloc::{AllocError, Global};
 const RTM_F_CLONED: u32 = 0x200;
 
 /// Who installed a route if nobody said so.
-const RTPROT_BOOT: u8 = 3;
+pub const RTPROT_BOOT: u8 = 3;
 
 /// More bytes than the lines of most routes have, so that a line does not grow step by step.
 const USUAL: usize = 128;
@@ -153,7 +153,7 @@ fn push_type(alloc: Global, text: &mut String, route_type: u8) -> Result<(), All
 }
 
 /// Appends the destination: labels of MPLS, or an address, and its length.
-fn push_destination(
+pub fn push_destination(
     alloc: Global,
     text: &mut String,
     route: &MessageIndex<'_, Routes>,
@@ -221,7 +221,7 @@ fn target_of<'a>(route: &MessageIndex<'a, Routes>) -> &'a [u8]
 }
 
 /// Returns the address of the source; empty if there is none.
-fn source_of<'a>(route: &MessageIndex<'a, Routes>) -> &'a [u8]
+pub fn source_of<'a>(route: &MessageIndex<'a, Routes>) -> &'a [u8]
     ensures { result.now ≡ route_bytes route.now.message.payload.now RTA_SRC }
 {
     or_empty(route.index().ip(RTA_SRC))
@@ -244,7 +244,7 @@ fn push_labels(
 }
 
 /// Returns the new labels of a route of MPLS; empty if there are none.
-fn new_labels_of<'a>(route: &MessageIndex<'a, Routes>) -> &'a [u8]
+pub fn new_labels_of<'a>(route: &MessageIndex<'a, Routes>) -> &'a [u8]
     ensures { result.now ≡ route_bytes route.now.message.payload.now RTA_NEWDST }
 {
     or_empty(route.index().bytes(RTA_NEWDST))
@@ -272,7 +272,7 @@ fn gateway_of<'a>(route: &MessageIndex<'a, Routes>) -> &'a [u8]
 }
 
 /// Returns the gateway of another family; empty if there is none.
-fn via_of<'a>(route: &MessageIndex<'a, Routes>) -> &'a [u8]
+pub fn via_of<'a>(route: &MessageIndex<'a, Routes>) -> &'a [u8]
     ensures { result.now ≡ route_bytes route.now.message.payload.now RTA_VIA }
 {
     or_empty(route.index().bytes(RTA_VIA))
@@ -299,14 +299,14 @@ fn push_origin(
 }
 
 /// Returns whether the kernel did not look the route up for a request.
-fn is_own(route: &MessageIndex<'_, Routes>) -> bool
+pub fn is_own(route: &MessageIndex<'_, Routes>) -> bool
     ensures { result ≡ is_own route.now.message.payload.now }
 {
     route.header().u32(RTM_FLAGS) & RTM_F_CLONED == 0
 }
 
 /// Returns the number of the table, from the attribute or the header.
-fn table_of(route: &MessageIndex<'_, Routes>) -> u32
+pub fn table_of(route: &MessageIndex<'_, Routes>) -> u32
     ensures { result ≡ route_table route.now.message.payload.now }
 {
     match route.index().u32(RTA_TABLE) {

@@ -11,13 +11,14 @@ use netlink_words::parts::push_part;
 use netlink_words::text::push_separated;
 use std::alloc::{AllocError, Global};
 
-const RTM_F_CLONED: u32 = 0x200;
+/// The flag of a route that the kernel looked up for a request.
+pub const RTM_F_CLONED: u32 = 0x200;
 
 /// The bits of the flags that have no name in linux/in_route.h.
-const UNNAMED: u32 = 0x0210_0000;
+pub const UNNAMED: u32 = 0x0210_0000;
 
 /// The flags of linux/in_route.h, in the order in which `ip` names them.
-const ORDER: [u32; 14] = [
+pub const ORDER: [u32; 14] = [
     0x8000_0000,
     0x4000_0000,
     0x2000_0000,
@@ -108,7 +109,7 @@ fn push_unnamed_flags(alloc: Global, names: &mut String, rest: u32) -> Result<()
 
 /// Returns the name of a flag; nothing for other numbers.
 #[tactic(auto, unfolding(crate::specs::RouteCache::cache_flag_name))]
-fn cache_flag_name(bit: u32) -> &'static str
+pub fn cache_flag_name(bit: u32) -> &'static str
     ensures { result.now ≡ cache_flag_name bit }
 {
     match bit {

@@ -9,7 +9,7 @@ use std::alloc::{AllocError, Global};
 
 /// The flags of a route and a next hop that have names (`RTNH_F_*` and `RTM_F_*` of
 /// linux/rtnetlink.h), in the order in which `ip` names them.
-const ORDER: [u32; 11] = [
+pub const ORDER: [u32; 11] = [
     0x1,
     0x4,
     0x2,
@@ -87,7 +87,7 @@ fn push_hop_flag(text: &mut String, flags: u32, bit: u32) -> Result<(), AllocErr
 
 /// Returns the name of a flag; nothing for other numbers.
 #[tactic(auto, unfolding(crate::specs::RouteFlags::hop_flag_name))]
-fn hop_flag_name(bit: u32) -> &'static str
+pub fn hop_flag_name(bit: u32) -> &'static str
     ensures { result.now ≡ hop_flag_name bit }
 {
     match bit {

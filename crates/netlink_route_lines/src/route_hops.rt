@@ -140,7 +140,7 @@ fn push_hop_labels(
 }
 
 /// Returns the new labels of a next hop of MPLS; empty if there are none.
-fn new_labels_of<'a>(attributes: &BlockView<'a>) -> &'a [u8]
+pub fn new_labels_of<'a>(attributes: &BlockView<'a>) -> &'a [u8]
     requires { IsOfHop (⟦<Routes as Table>⟧.rows 24) attributes.now }
     ensures { result.now ≡ or_empty (found_in attributes.now.block.now RTA_NEWDST) }
 {
@@ -156,7 +156,7 @@ fn gateway_of<'a>(attributes: &BlockView<'a>) -> &'a [u8]
 }
 
 /// Returns the gateway of another family of a next hop; empty if there is none.
-fn via_of<'a>(attributes: &BlockView<'a>) -> &'a [u8]
+pub fn via_of<'a>(attributes: &BlockView<'a>) -> &'a [u8]
     requires { IsOfHop (⟦<Routes as Table>⟧.rows 24) attributes.now }
     ensures { result.now ≡ or_empty (found_in attributes.now.block.now RTA_VIA) }
 {
@@ -192,7 +192,7 @@ fn push_via(alloc: Global, text: &mut String, bytes: &[u8]) -> Result<(), AllocE
 }
 
 /// Returns an address of a family: a device address in hexadecimal, or an IP address.
-fn via_address(alloc: Global, family: u8, address: &[u8]) -> Result<String, AllocError>
+pub fn via_address(alloc: Global, family: u8, address: &[u8]) -> Result<String, AllocError>
     ensures { IfOk result (λ text. string_bytes text ≡ via_address family address.now) }
 {
     if family != AF_PACKET {

@@ -21,7 +21,7 @@ use netlink_words::text::sentence_text;
 use std::alloc::{AllocError, Global};
 
 /// The kinds of metrics, in their order.
-const KINDS: [u16; 16] = [2, 3, 4, 5, 6, 7, 8, 9, 10, 11, 12, 13, 14, 15, 16, 17];
+pub const KINDS: [u16; 16] = [2, 3, 4, 5, 6, 7, 8, 9, 10, 11, 12, 13, 14, 15, 16, 17];
 
 /// Appends the metrics in `RTA_METRICS`, each after its name, and `lock` before the value of a
 /// locked one. A hop limit of 2^32 - 1 is left out.
@@ -68,7 +68,7 @@ fn metric_text(alloc: Global, metrics: &BlockIndex<'_>, kind: u16) -> Result<Str
 }
 
 /// Returns whether a kind is locked in a nest.
-fn has_lock(metrics: &BlockIndex<'_>, kind: u16) -> bool
+pub fn has_lock(metrics: &BlockIndex<'_>, kind: u16) -> bool
     requires { IsMetrics (⟦<Routes as Table>⟧.rows 24) metrics.now.view }
     ensures { result ≡ has_lock metrics.now.view.block.now kind }
 {
@@ -76,7 +76,7 @@ fn has_lock(metrics: &BlockIndex<'_>, kind: u16) -> bool
 }
 
 /// Returns the name of the congestion control in a nest.
-fn control_of<'a>(metrics: &BlockIndex<'a>) -> Option<&'a [u8]>
+pub fn control_of<'a>(metrics: &BlockIndex<'a>) -> Option<&'a [u8]>
     requires { IsMetrics (⟦<Routes as Table>⟧.rows 24) metrics.now.view }
     ensures { option_copied result ≡ option_map until_nul (found_in metrics.now.view.block.now RTAX_CC_ALGO) }
 {
@@ -84,7 +84,7 @@ fn control_of<'a>(metrics: &BlockIndex<'a>) -> Option<&'a [u8]>
 }
 
 /// Returns the value of any other metric in a nest.
-fn number_of(metrics: &BlockIndex<'_>, kind: u16) -> Option<u32>
+pub fn number_of(metrics: &BlockIndex<'_>, kind: u16) -> Option<u32>
     requires view { IsMetrics (⟦<Routes as Table>⟧.rows 24) metrics.now.view }
     requires kind { has_type metric_kinds kind ≡ true }
     requires other { kind ≢ RTAX_CC_ALGO }
@@ -231,7 +231,7 @@ fn control_text(alloc: Global, locked: bool, control: Option<&[u8]>) -> Result<S
 
 /// Returns the name of a metric (`RTAX_*` of linux/rtnetlink.h).
 #[tactic(auto, unfolding(crate::specs::RouteMetrics::metric_name))]
-fn metric_name(kind: u16) -> &'static str
+pub fn metric_name(kind: u16) -> &'static str
     ensures { result.now ≡ metric_name kind }
 {
     match kind {

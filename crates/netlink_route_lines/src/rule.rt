@@ -24,11 +24,11 @@ use netlink_words::parts::{
 use std::alloc::{AllocError, Global};
 
 // The flags of a rule that have names (linux/fib_rules.h).
-const FIB_RULE_INVERT: u32 = 0x2;
+pub const FIB_RULE_INVERT: u32 = 0x2;
 
-const FIB_RULE_IIF_DETACHED: u32 = 0x8;
+pub const FIB_RULE_IIF_DETACHED: u32 = 0x8;
 
-const FIB_RULE_OIF_DETACHED: u32 = 0x10;
+pub const FIB_RULE_OIF_DETACHED: u32 = 0x10;
 
 /// Returns the line of a message about a rule, as `ip rule show` prints it, with one space between
 /// its parts: the verb, the priority, what the rule matches, and what it does.
@@ -123,7 +123,7 @@ fn push_destination(
 }
 
 /// Returns the length of the prefix of the destination in bits.
-fn destination_length(rule: &MessageView<'_, Rules>) -> u8
+pub fn destination_length(rule: &MessageView<'_, Rules>) -> u8
     ensures { result ≡ rule_byte rule.now.payload.now 1 }
 {
     rule.header().u8(FRH_DST_LEN)
@@ -145,7 +145,7 @@ fn push_marks(
 
 /// Returns a word, or `all` if it is empty.
 #[tactic(auto, unfolding(crate::specs::Rule::word_or_all))]
-fn word_or_all<'a>(word: &'a str) -> &'a str
+pub fn word_or_all<'a>(word: &'a str) -> &'a str
     ensures { result.now ≡ word_or_all word.now }
 {
     if word.is_empty() {
@@ -237,7 +237,7 @@ fn push_oif(
 
 /// Returns the name of the incoming link.
 #[tactic(auto, unfolding(crate::specs::Rule::rule_name))]
-fn iif_of<'a>(rule: &MessageView<'a, Rules>) -> Option<&'a [u8]>
+pub fn iif_of<'a>(rule: &MessageView<'a, Rules>) -> Option<&'a [u8]>
     ensures { option_copied result ≡ rule_name rule.now.payload.now FRA_IIFNAME }
 {
     rule.view().str_bytes(FRA_IIFNAME)
@@ -245,7 +245,7 @@ fn iif_of<'a>(rule: &MessageView<'a, Rules>) -> Option<&'a [u8]>
 
 /// Returns the name of the outgoing link.
 #[tactic(auto, unfolding(crate::specs::Rule::rule_name))]
-fn oif_of<'a>(rule: &MessageView<'a, Rules>) -> Option<&'a [u8]>
+pub fn oif_of<'a>(rule: &MessageView<'a, Rules>) -> Option<&'a [u8]>
     ensures { option_copied result ≡ rule_name rule.now.payload.now FRA_OIFNAME }
 {
     rule.view().str_bytes(FRA_OIFNAME)

@@ -15,7 +15,7 @@ use netlink_words::number_names::{push_protocol, push_table, route_type_text};
 use netlink_words::parts::{push_key, push_part, push_realms};
 use std::alloc::{AllocError, Global};
 
-const FIB_RULE_UNRESOLVED: u32 = 0x4;
+pub const FIB_RULE_UNRESOLVED: u32 = 0x4;
 
 /// Appends the table to look in unless it is 0, what of it is not used, and the realms.
 #[tactic(auto, unfolding(crate::specs::RuleParts::lookup_parts))]
@@ -51,7 +51,7 @@ fn push_lookup_table(
 
 /// Returns the number of the table, from the attribute or the header.
 #[tactic(auto, unfolding(crate::specs::RuleParts::rule_table))]
-fn table_of(rule: &MessageView<'_, Rules>) -> u32
+pub fn table_of(rule: &MessageView<'_, Rules>) -> u32
     ensures { result ≡ rule_table rule.now.payload.now }
 {
     match rule.view().u32(FRA_TABLE) {
@@ -108,7 +108,7 @@ fn group_text(alloc: Global, group: u32) -> Result<String, AllocError>
 
 /// Returns the number that 4 bytes represent in two's complement.
 #[tactic(auto, using(netlink_words::specs::Signed::signed_cast))]
-fn signed(number: u32) -> i32
+pub fn signed(number: u32) -> i32
     ensures { result ≡ signed 4 number }
 {
     number.cast_signed()

@@ -1,0 +1,5 @@
+pub mod Hops
+pub mod Items
+pub mod Loops
+pub mod Properties
+pub mod Words

@@ -1,0 +1,13 @@
+pub mod Address
+pub mod Forms
+pub mod Link
+pub mod Namespace
+pub mod Neighbour
+pub mod NeighbourTable
+pub mod Route
+pub mod RouteHops
+pub mod RouteMetrics
+pub mod RouteValues
+pub mod Rows
+pub mod Rule
+pub mod RuleEnds
