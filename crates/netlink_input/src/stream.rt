@@ -4,7 +4,7 @@ ghost use Rattle.std.specs.Prelude.{◌≡◌, ◌≤◌, ◌<◌, ◌⊎◌, So
 ghost use Rattle.std.specs.Io.KnownBytes.{prepend_known};
 ghost use Rattle.netlink_packet_core.specs.Attribute.{padding};
 ghost use Rattle.netlink_input.specs.Reading.{GivesNext, ReadsUpTo, Skips, SkipsPart, Tries, TriesUpTo};
-ghost use Rattle.netlink_input.specs.Stream.{longest, stop_text};
+ghost use Rattle.netlink_input.specs.Stream.{longest, stop_text, why_text};
 
 use crate::fault::Fault;
 use crate::pcap::PcapFault;
@@ -36,22 +36,28 @@ pub enum Cause {
     Pcap(PcapFault),
 }
 
+impl fmt::Display for Cause {
+    ghost output = { λ cause. Some (why_text cause) };
+
+    fn fmt<W: fmt::Write>(&self, f: &mut fmt::Formatter<W>) -> fmt::Result {
+        match self {
+            Cause::Damaged(error) => write!(f, "{error}"),
+            Cause::TooLong(said) => {
+                let size = *said;
+                write!(f, "a message of {size} bytes is longer than 1048576")
+            }
+            Cause::Pcap(why) => write!(f, "{why}"),
+        }
+    }
+}
+
 impl fmt::Display for Stop {
     ghost output = { λ stop. Some (stop_text stop) };
 
     fn fmt<W: fmt::Write>(&self, f: &mut fmt::Formatter<W>) -> fmt::Result {
         let at = self.at;
-        match &self.cause {
-            Cause::Damaged(error) => write!(f, "byte {at}: {error}"),
-            Cause::TooLong(said) => {
-                let size = *said;
-                write!(
-                    f,
-                    "byte {at}: a message of {size} bytes is longer than 1048576"
-                )
-            }
-            Cause::Pcap(why) => write!(f, "byte {at}: {why}"),
-        }
+        let cause = &self.cause;
+        write!(f, "byte {at}: {cause}")
     }
 }
 

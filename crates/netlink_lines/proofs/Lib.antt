@@ -10,4 +10,5 @@ pub mod Running
 pub mod Shown
 pub mod Starting
 pub mod Steps
+pub mod Valid
 pub mod Words

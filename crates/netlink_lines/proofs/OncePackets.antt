@@ -4,7 +4,7 @@ use Rattle.std.proofs.lemmas.List.{append_cancel_left, take_at}
 use Rattle.std.specs.Prelude.{Bool, true, false}
 use Rattle.netlink_packet_core.specs.Walks.{StepLaws, walks_once}
 use Rattle.netlink_lines.specs.Messages.{Lines, Seen}
-use Rattle.netlink_lines.specs.Packet.{HasContent, HasExtent, HasTorn, IsDatagram, IsTornBy, Packet, ShowsPackets, Stamped, StartsPacket, content_lines, content_of, from_stop, is_route, stop_lines, torn_by, with_line}
+use Rattle.netlink_lines.specs.Packet.{HasContent, HasExtent, HasTorn, IsDatagram, IsTornBy, Packet, ShowsPackets, Stamped, StartsPacket, content_shown, content_of, from_stop, is_route, stop_shown, torn_by, with_line}
 use Rattle.netlink_input.specs.Packet.{IsPacketCause, IsPacketFault, IsPacketStop, IsWholePacket, captured_of, extent_of}
 use Rattle.netlink_lines.specs.declared.packet.Content.{Content}
 use Rattle.netlink_lines.specs.declared.packet.Content.TheVariants as content
@@ -23,14 +23,14 @@ use Rattle.netlink_input.specs.PacketLaws.{captured_in}
 
 shown_once : (a b : Packet) → a.seen ≡ b.seen → a.own ≡ b.own → a ≡ b
 shown_once a b seen own =
-    ap (λ (s : List Seen). record { seen = s; own = a.own }) seen ∙ ap (λ (l : Lines). record { seen = b.seen; own = l }) own
+    ap (λ (s : List Seen). record { seen = s; own = a.own }) seen ∙ ap (λ (l : Bool → Lines). record { seen = b.seen; own = l }) own
 
 datagram_once : (cut : Bool) (at : ℕ) (bytes : List ℕ) (a b : Packet) → IsDatagram cut at bytes a → IsDatagram cut at bytes b → a ≡ b
 datagram_once cut at bytes a b (stop, shows, is) (other, also, that) =
     let same = messages_once (at + length bytes) bytes a.seen b.seen stop other shows also in
-    shown_once a b same.0 (is ∙ ap (stop_lines cut at bytes) same.1 ∙ sym that)
+    shown_once a b same.0 (is ∙ ap (stop_shown cut at bytes) same.1 ∙ sym that)
 
-other_once : (a b : Packet) (line : Lines) → (a.seen ≡ []) × (a.own ≡ line) → (b.seen ≡ []) × (b.own ≡ line) → a ≡ b
+other_once : (a b : Packet) (line : Bool → Lines) → (a.seen ≡ []) × (a.own ≡ line) → (b.seen ≡ []) × (b.own ≡ line) → a ≡ b
 other_once a b line (none, is) (nothing, that) = shown_once a b (none ∙ sym nothing) (is ∙ sym that)
 
 pub content_once : (at before : ℕ) (packet : List ℕ) (what : Content) (a b : Packet) → HasContent at before packet what a
@@ -38,7 +38,7 @@ pub content_once : (at before : ℕ) (packet : List ℕ) (what : Content) (a b :
 content_once at before packet content.Messages a b first second =
     datagram_once false (at + before) (drop before packet) a b first second
 content_once at before packet (content.CutMessages n m) a b (part, is, whole) (other, that, also) =
-    whole ∙ ap (with_line (content_lines at (length packet - before) (content.Cut n m))) (datagram_once true (at + before) (drop before packet) part other is that)
+    whole ∙ ap (with_line (content_shown at (length packet - before) (content.Cut n m))) (datagram_once true (at + before) (drop before packet) part other is that)
     ∙ sym also
 content_once at before packet (content.Family n) a b first second = other_once a b _ first second
 content_once at before packet (content.Cut n m) a b first second = other_once a b _ first second

@@ -15,7 +15,7 @@ use Rattle.netlink_input.specs.declared.stream.Stop.{Stop}
 
 -- a block, which starts at this offset of the input, is shown so, by the packet in it and what is kept of it
 abbrev pub HasBlock : ℕ → Option Extent → List ℕ → Packet → Type 0
-HasBlock at None kept shown = shown ≡ record { seen = []; own = good [] }
+HasBlock at None kept shown = shown ≡ record { seen = []; own = λ json. good [] }
 HasBlock at (Some extent) kept shown = HasExtent at extent kept shown
 
 abbrev pub TellsBlock : Check → Option Extent → ℕ → List ℕ → Memory → Lines → Memory → Type 0

@@ -6,7 +6,9 @@ pub mod Concern
 pub mod Families
 pub mod Format
 pub mod Lines
+pub mod Members
 pub mod Messages
+pub mod Objects
 pub mod Options
 pub mod Packet
 pub mod Requests

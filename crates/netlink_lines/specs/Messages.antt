@@ -15,8 +15,9 @@ pub use Rattle.netlink_lines.specs.Options.{Lines}
 use Rattle.netlink_lines.specs.Families.{is_foreign}
 use Rattle.netlink_lines.specs.Lines.{done_line, error_line, known_by, route_line}
 use Rattle.netlink_lines.specs.Options.{labelled}
+use Rattle.netlink_lines.specs.Objects.{frame_object}
 use Rattle.netlink_lines.specs.Requests.{asked_line, is_dump, is_request}
-use Rattle.netlink_lines.specs.Time.{time_in, time_text}
+use Rattle.netlink_lines.specs.Time.{time_in, time_text, time_why}
 use Rattle.netlink_names.specs.declared.device.Known.{Known}
 use Rattle.netlink_lines.specs.declared.options.Options.{Options}
 use Rattle.netlink_lines.specs.declared.state.State.{State}
@@ -62,8 +63,7 @@ family_lines options known at frame (Some error) = rejected_lines at frame error
 -- a message of type 15 at this offset, whose payload is no time
 abbrev pub wrong_time : ℕ → List ℕ → Lines
 wrong_time at payload =
-    bad at (refusal_text 15
-    (codes "the payload has " ++ (decimal (length payload) ++ codes " bytes instead of 8")))
+    bad at (refusal_text 15 (time_why payload))
 
 abbrev pub own_lines : Check → Options → List Known → ℕ → List ℕ → Lines
 own_lines check options known at frame =
@@ -160,9 +160,20 @@ message_lines check memory seen =
     (frame_lines check memory.options (known_after check seen.frame memory.known) seen.at seen.frame seen.words))
 
 -- and with them, if they are asked for
+abbrev pub all_lines : Check → Memory → Seen → Lines
+all_lines check memory seen =
+    with_bytes memory.options (time_in seen.frame) (frame_bytes check seen.frame) (message_lines check memory seen)
+
+-- its object; that of a time is none
+abbrev pub seen_object : Check → Memory → Seen → Lines
+seen_object check memory seen =
+    unless_time (time_in seen.frame)
+    (frame_object check (known_after check seen.frame memory.known) memory.time seen.at seen.frame seen.words)
+
+-- what is shown of it: its object, if objects are asked for, or its lines
 abbrev pub seen_lines : Check → Memory → Seen → Lines
 seen_lines check memory seen =
-    with_bytes memory.options (time_in seen.frame) (frame_bytes check seen.frame) (message_lines check memory seen)
+    if memory.options.json then seen_object check memory seen else all_lines check memory seen
 
 -- the time in a message, or that of its packet
 abbrev pub time_or : Option Time → Option Time → Option Time
@@ -185,7 +196,19 @@ Tells check at frame memory lines after =
     × (lines ≡ seen_lines check memory (record { at = at; frame = frame; words = words }))
     × (after ≡ memory_after check memory (record { at = at; frame = frame; words = words }))
 
--- the same without the lines of its bytes
+-- the same as its lines, as its object, and without the lines of its bytes
+abbrev pub TellsLines : Check → ℕ → List ℕ → Memory → Lines → Memory → Type 0
+TellsLines check at frame memory lines after =
+    (words : List ℕ) × IsWords (meaning frame) words
+    × (lines ≡ all_lines check memory (record { at = at; frame = frame; words = words }))
+    × (after ≡ memory_after check memory (record { at = at; frame = frame; words = words }))
+
+abbrev pub TellsObject : Check → ℕ → List ℕ → Memory → Lines → Memory → Type 0
+TellsObject check at frame memory lines after =
+    (words : List ℕ) × IsWords (meaning frame) words
+    × (lines ≡ seen_object check memory (record { at = at; frame = frame; words = words }))
+    × (after ≡ memory_after check memory (record { at = at; frame = frame; words = words }))
+
 abbrev pub TellsMessage : Check → ℕ → List ℕ → Memory → Lines → Memory → Type 0
 TellsMessage check at frame memory lines after =
     (words : List ℕ) × IsWords (meaning frame) words

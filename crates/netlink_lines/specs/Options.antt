@@ -10,7 +10,7 @@ Lines = List ℕ × Bool
 
 -- the lines alone
 abbrev pub plain : Options
-plain = record { labels = false; times = false; bytes = false }
+plain = record { labels = false; times = false; bytes = false; json = false }
 
 -- the label of a message type, as `ip monitor label` prints it, by its group of four types
 abbrev pub label_in : ℕ → List ℕ

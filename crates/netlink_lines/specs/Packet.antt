@@ -12,7 +12,8 @@ use Rattle.netlink_lines.specs.Messages.{Check, Lines, Memory, Seen, bad, good, 
 use Rattle.netlink_input.specs.Packet.{HoldsPacket, IsPacketStop, IsWholePacket, captured_of, extent_of, torn_of}
 use Rattle.netlink_input.specs.Pcap.{number_in}
 use Rattle.netlink_lines.specs.Stream.{ShowsMessages, messages_of}
-use Rattle.netlink_input.specs.Stream.{longest, stop_text}
+use Rattle.netlink_input.specs.Stream.{longest, stop_text, why_text}
+use Rattle.netlink_lines.specs.Objects.{bad_object, family_object}
 use Rattle.netlink_input.specs.Time.{pcap_time}
 use Rattle.netlink_lines.specs.declared.packet.Content.{Content}
 use Rattle.netlink_lines.specs.declared.packet.Content.TheVariants.{Messages, Family, CutMessages, Cut, Short, Device}
@@ -61,6 +62,15 @@ content_lines at size (Family n) =
     good (codes "netlink family " ++ (decimal n ++ (codes ", " ++ (decimal size ++ codes " bytes\n"))))
 content_lines at size other = bad at (content_text other)
 
+-- the same as an object
+abbrev pub content_object : ℕ → ℕ → Content → Lines
+content_object at size (Family n) = family_object n size
+content_object at size other = bad_object at (content_text other)
+
+-- what is shown of it: its object, if objects are asked for, or its line
+abbrev pub content_shown : ℕ → ℕ → Content → Bool → Lines
+content_shown at size what json = if json then content_object at size what else content_lines at size what
+
 -- the bytes of a datagram, which starts at this offset of the input, from a stop on
 abbrev pub from_stop : ℕ → List ℕ → Stop → List ℕ
 from_stop at bytes stop = drop (stop.at - at) bytes
@@ -77,19 +87,26 @@ is_partial bytes = nat_lt (length bytes) 16 || nat_lt (length bytes) (field 0 4 
 abbrev pub is_silent : Bool → List ℕ → Bool
 is_silent cut bytes = are_zeros bytes || (cut && is_partial bytes)
 
--- the line of what ends a datagram, which starts at this offset of the input, before its end
-abbrev pub stop_lines : Bool → ℕ → List ℕ → Option Stop → Lines
-stop_lines cut at bytes None = good []
-stop_lines cut at bytes (Some stop) =
-    if is_silent cut (from_stop at bytes stop) then good [] else (stop_text stop ++ codes "\n", true)
+-- what ends a datagram, which starts at this offset of the input, before its end, as an object
+abbrev pub stop_object : Stop → List ℕ
+stop_object stop = (bad_object stop.at (why_text stop.cause)).0
+
+abbrev pub stop_line : Stop → Bool → List ℕ
+stop_line stop json = if json then stop_object stop else stop_text stop ++ codes "\n"
+
+-- what is shown of it
+abbrev pub stop_shown : Bool → ℕ → List ℕ → Option Stop → Bool → Lines
+stop_shown cut at bytes None json = good []
+stop_shown cut at bytes (Some stop) json =
+    if is_silent cut (from_stop at bytes stop) then good [] else (stop_line stop json, true)
 
 -- ---- a packet after others
 
 -- a packet as it is in the input: the messages of its datagram, and the line of the packet itself, if it
--- has one
+-- has one, or its object
 pub record Packet : Type 0 where
   pub seen : List Seen
-  pub own : Lines
+  pub own : Bool → Lines
 
 -- a packet with its time, if that is known
 pub record Stamped : Type 0 where
@@ -100,15 +117,17 @@ pub record Stamped : Type 0 where
 abbrev pub IsDatagram : Bool → ℕ → List ℕ → Packet → Type 0
 IsDatagram cut at bytes shown =
     (stop : Option Stop) × ShowsMessages (at + length bytes) bytes shown.seen stop
-    × (shown.own ≡ stop_lines cut at bytes stop)
+    × (shown.own ≡ stop_shown cut at bytes stop)
 
 -- what is shown so, and then a line
-abbrev pub with_line : Lines → Packet → Packet
-with_line line shown =
-    record { seen = shown.seen; own = (shown.own.0 ++ line.0, shown.own.1 || line.1) }
+abbrev pub with_line : (Bool → Lines) → Packet → Packet
+with_line line shown = record {
+  seen = shown.seen;
+  own = λ json. ((shown.own json).0 ++ (line json).0, (shown.own json).1 || (line json).1);
+}
 
 -- a datagram that was cut is shown so, before the line about the cut
-abbrev pub IsCut : ℕ → List ℕ → Lines → Packet → Type 0
+abbrev pub IsCut : ℕ → List ℕ → (Bool → Lines) → Packet → Type 0
 IsCut at bytes line shown = (part : Packet) × IsDatagram true at bytes part × (shown ≡ with_line line part)
 
 -- a packet, which starts at this offset of the input with this number of bytes before its datagram, is shown so, by
@@ -116,9 +135,9 @@ IsCut at bytes line shown = (part : Packet) × IsDatagram true at bytes part × 
 abbrev pub HasContent : ℕ → ℕ → List ℕ → Content → Packet → Type 0
 HasContent at before packet Messages shown = IsDatagram false (at + before) (drop before packet) shown
 HasContent at before packet (CutMessages captured original) shown =
-    IsCut (at + before) (drop before packet) (content_lines at (length packet - before) (Cut captured original)) shown
+    IsCut (at + before) (drop before packet) (content_shown at (length packet - before) (Cut captured original)) shown
 HasContent at before packet other shown =
-    (shown.seen ≡ []) × (shown.own ≡ content_lines at (length packet - before) other)
+    (shown.seen ≡ []) × (shown.own ≡ content_shown at (length packet - before) other)
 
 -- a packet of which there are these bytes
 abbrev pub HasExtent : ℕ → Extent → List ℕ → Packet → Type 0
@@ -127,8 +146,8 @@ HasExtent at extent packet shown = HasContent at (extent.from + 16) packet (cont
 -- its lines, by what the packets before it leave
 abbrev pub packet_lines : Check → Memory → Packet → Lines
 packet_lines check memory shown = (
-  (told_from (messages_of check) memory shown.seen).text ++ shown.own.0,
-  (told_from (messages_of check) memory shown.seen).malformed || shown.own.1,
+  (told_from (messages_of check) memory shown.seen).text ++ (shown.own memory.options.json).0,
+  (told_from (messages_of check) memory shown.seen).malformed || (shown.own memory.options.json).1,
 )
 
 -- what it leaves
@@ -174,7 +193,7 @@ torn_by _ bytes = []
 -- the cut
 abbrev pub IsTornBy : Bool → ℕ → List ℕ → Packet → Type 0
 IsTornBy true at bytes shown = IsDatagram true (at + 32) (drop 32 bytes) shown
-IsTornBy false at bytes shown = shown ≡ record { seen = []; own = good [] }
+IsTornBy false at bytes shown = shown ≡ record { seen = []; own = λ json. good [] }
 
 abbrev pub IsTorn : ℕ → List ℕ → Packet → Type 0
 IsTorn at bytes = IsTornBy (is_route 16 bytes) at bytes

@@ -30,3 +30,7 @@ unfoldable pub time_text : Time → List ℕ
 time_text time =
     codes "["
     ++ (decimal time.seconds ++ (codes "." ++ (zeros_before time.micros ++ (decimal time.micros ++ codes "] "))))
+
+-- why a payload is no time
+abbrev pub time_why : List ℕ → List ℕ
+time_why payload = codes "the payload has " ++ (decimal (length payload) ++ codes " bytes instead of 8")

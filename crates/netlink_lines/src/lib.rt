@@ -1,6 +1,6 @@
 //! The lines of messages of route netlink (linux/rtnetlink.h), as `ip -o` prints them. `run` writes
 //! those of a stream, or of a pcap or pcapng file, as each message arrives. `Line::line` returns that of one message, and
-//! functions such as `link_text` those of one family.
+//! functions such as `link_text` those of one family. With `Options::json`, an object of JSON takes their place.
 //!
 //! The words of the lines are in `netlink_link_lines`, `netlink_address_lines` and `netlink_route_lines`. This crate adds
 //! what these tables show. A definition `File::name` is in `specs/File.antt`.
@@ -29,6 +29,20 @@
 //! | `Failed to parse message with type 16: ..` | `messages::error_shown` | `Messages::error_lines` |
 //! | `.. the payload has 4 bytes instead of 8` | `messages::wrong_time` | `Messages::wrong_time` |
 //!
+//! Of an object of JSON, which takes the place of the lines; the members of a family are in `netlink_objects`:
+//!
+//! | member | function | definition |
+//! |---|---|---|
+//! | `"sec"`, `"usec"` | `objects::put_time` | `Objects::time_fields` |
+//! | `"interrupted"` | `objects::frame_object` | `Objects::interrupted_fields` |
+//! | `"message":"RTM_NEWLINK"` | `objects::put_message`, `members::message_name` | `Objects::message_parts` |
+//! | `"message":"NLMSG_ERROR"`, `"code"`, `"strerror"`, `"text"` | `objects::put_control` | `Objects::control_parts` |
+//! | `"nlmsg_flags"`, `"nlmsg_seq"`, `"nlmsg_pid"` | `objects::put_header` | `Objects::header_fields` |
+//! | `"request"` | `objects::put_message` | `Objects::request_field` |
+//! | `"type"`, `"bytes"` | `objects::put_type` | `Objects::type_parts` |
+//! | `"byte"`, `"error"` | `objects::put_why` | `Objects::bad_fields` |
+//! | `"netlink_family"` | `packet_objects::put_netlink` | `Objects::netlink_fields` |
+//!
 //! Of a packet of a pcap or pcapng file:
 //!
 //! | word of a line | function | definition |
@@ -38,7 +52,7 @@
 //! | `of a packet of 60 bytes, 50 were captured` | `packet::content_text` | `Packet::content_text` |
 //! | `a packet of 8 bytes is shorter than ..` | `packet::content_text` | `Packet::content_text` |
 //! | `the device type of a packet is 1 ..` | `packet::content_text` | `Packet::content_text` |
-//! | `byte 56: ` and why a datagram ends early | `packet::push_stop` | `Packet::stop_lines` |
+//! | `byte 56: ` and why a datagram ends early | `packet::push_stop` | `Packet::stop_shown` |
 #![tactic(auto)]
 
 mod ack;
@@ -50,9 +64,13 @@ mod concern;
 mod families;
 pub mod laws;
 mod line;
+mod members;
 mod messages;
+mod next;
+mod objects;
 mod options;
 mod packet;
+mod packet_objects;
 mod requests;
 mod runs;
 mod state;

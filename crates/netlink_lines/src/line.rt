@@ -3,13 +3,17 @@
 ghost use Rattle.std.specs.Prelude.{◌≡◌, IfOk, OnOk, string_bytes};
 ghost use Rattle.std.specs.Option.{option_map};
 ghost use Rattle.netlink_lines.specs.Lines.{code_words, done_line, error_line, known_by, later_line, other_line, route_line};
+ghost use Rattle.netlink_json.specs.Fields.{AddsParts};
+ghost use Rattle.netlink_lines.specs.Members.{route_parts};
 ghost use Rattle.netlink_lines.specs.SystemErrors.{code_text};
 
+use crate::members::put_members;
 use crate::system_errors::error_name;
 use netlink_address_lines::address::address_line;
 use netlink_address_lines::neighbour::neighbour_line;
 use netlink_address_lines::neighbour_table::neighbour_table_line;
 use netlink_family::{Family, Joined, MessageView};
+use netlink_json::Object;
 use netlink_link_lines::link::link_line;
 use netlink_names::device::Known;
 use netlink_names::known::learn_link;
@@ -30,6 +34,16 @@ pub trait Line: Family {
     ) -> Result<Option<String>, AllocError>
         ensures line { IfOk result (λ text. option_map string_bytes text
             ≡ route_line known.now (message.now.message_type, message.now.payload.now)) };
+
+    /// Appends the members of the object of a message. Known links are written by their names.
+    fn put_members(
+        alloc: Global,
+        object: &mut Object,
+        known: &Names<'_>,
+        message: &MessageView<'_, Self>,
+    ) -> Result<(), AllocError>
+        ensures members { OnOk result (AddsParts object.old object.new
+            (route_parts known.now (message.now.message_type, message.now.payload.now))) };
 
     /// Updates the names of links by a message.
     fn learn(
@@ -80,6 +94,16 @@ impl Line for Joined<RouteTables> {
         message: &MessageView<'_, Joined<RouteTables>>,
     ) -> Result<Option<String>, AllocError> {
         line_of(alloc, &Names::of(known), &message.tables())
+    }
+
+    /// Appends the members of a message with the keys of `ip -j` and in its order.
+    fn put_members(
+        alloc: Global,
+        object: &mut Object,
+        known: &Names<'_>,
+        message: &MessageView<'_, Joined<RouteTables>>,
+    ) -> Result<(), AllocError> {
+        put_members(alloc, object, known, &message.tables())
     }
 
     #[tactic(auto, unfolding(crate::specs::Lines::known_by))]

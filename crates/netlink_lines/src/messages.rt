@@ -7,10 +7,12 @@ ghost use Rattle.netlink_packet_core.specs.Header.{header_of, payload_of};
 ghost use Rattle.netlink_replies.specs.Meaning.{shown_item};
 ghost use Rattle.netlink_lines.specs.Ack.{marked_if};
 ghost use Rattle.netlink_lines.specs.Lines.{known_by, route_line};
-ghost use Rattle.netlink_lines.specs.Messages.{HasLines, Tells, TellsMessage, bad, error_lines, family_lines, good, is_named, item_lines, known_after, line_or_type, memory_of, own_lines, rejected_lines, timed, type_line, wrong_time};
+ghost use Rattle.netlink_family.specs.ErrorTexts.{error_text};
+ghost use Rattle.netlink_packet_core.specs.Refusal.{refusal_text};
+ghost use Rattle.netlink_lines.specs.Time.{time_why};
+ghost use Rattle.netlink_lines.specs.Messages.{HasLines, TellsMessage, bad, error_lines, family_lines, good, is_named, item_lines, known_after, line_or_type, memory_of, own_lines, rejected_lines, timed, type_line, wrong_time};
 
 use crate::ack::{ack_words, is_interrupted, meaning_of};
-use crate::bytes::with_bytes;
 use crate::families::is_foreign;
 use crate::line::{Line, done_line, error_line};
 use crate::options::{Options, labelled};
@@ -38,37 +40,10 @@ pub(crate) struct Shown {
 /// linux/netlink.h).
 const MIN_TYPE: u16 = 16;
 
-/// Returns the lines of the message in a frame at this offset of the input, after the messages that
-/// left this state, and updates the state. Requires that the bytes are one frame.
-///
-/// Links are printed by their names from the messages so far, this one included. A time has no
-/// line. It precedes the first line of the next message, unless that is a time too. If the options say
-/// so, the lines of the bytes of a message follow, unless it is a time. Returns `AllocError` if an
-/// allocation fails.
-pub(crate) fn next_lines<F: Line>(
-    alloc: Global,
-    state: &mut State,
-    at: u64,
-    frame: &[u8],
-) -> Result<Shown, AllocError>
-    requires whole { IsWholeFrame frame.now }
-    ensures tells { IfOk result (λ s. Tells (check_of F.Table) at frame.now
-        (memory_of state.old) (string_bytes s.text, s.is_malformed) (memory_of state.new)) }
-{
-    let shown = message_lines::<F>(alloc, state, at, frame)?;
-    if !state.options.bytes {
-        return Ok(shown);
-    }
-    match time_in(frame) {
-        Some(_) => Ok(shown),
-        None => with_bytes::<F>(shown, frame),
-    }
-}
-
-/// Returns the lines of a message as `next_lines` does, without those of its bytes. Inline, since most
+/// Returns the lines of a message as `next::next_lines` does, without those of its bytes. Inline, since most
 /// messages have no others.
 #[inline(always)]
-fn message_lines<F: Line>(
+pub(crate) fn message_lines<F: Line>(
     alloc: Global,
     state: &mut State,
     at: u64,
@@ -130,7 +105,7 @@ fn family_shown<F: Line>(
 }
 
 /// Updates the names of links by a message with these flags. A request changes none.
-fn learn<F: Line>(
+pub(crate) fn learn<F: Line>(
     alloc: Global,
     known: &mut NameTable,
     flags: u16,
@@ -331,24 +306,40 @@ fn error_shown(
             Ok(well_formed(type_line(alloc, message_type, size)?))
         }
         _ => {
-            let why = format!(in alloc;
-                "Failed to parse message with type {message_type}: {error}"
-            )?;
+            let why = parse_why(alloc, message_type, error)?;
             malformed(alloc, at, why.as_str())
         }
     }
+}
+
+/// Returns why a message with this type is malformed, by the error of its payload.
+pub(crate) fn parse_why(
+    alloc: Global,
+    message_type: u16,
+    error: &FamilyError,
+) -> Result<String, AllocError>
+    ensures { IfOk result (λ why. string_bytes why ≡ refusal_text message_type (error_text error.now)) }
+{
+    format!(in alloc; "Failed to parse message with type {message_type}: {error}")
 }
 
 /// Returns the line of a message with the type of a time, whose payload is none.
 fn wrong_time(alloc: Global, at: u64, payload: &[u8]) -> Result<Shown, AllocError>
     ensures { IfOk result (λ s. (string_bytes s.text, s.is_malformed) ≡ wrong_time at payload.now) }
 {
+    let why = time_why(alloc, payload)?;
+    malformed(alloc, at, why.as_str())
+}
+
+/// Returns why a message with the type of a time is malformed.
+pub(crate) fn time_why(alloc: Global, payload: &[u8]) -> Result<String, AllocError>
+    ensures { IfOk result (λ why. string_bytes why ≡ refusal_text 15 (time_why payload.now)) }
+{
     let message_type = NLMSG_TSTAMP;
     let size = payload.len();
-    let why = format!(in alloc;
+    format!(in alloc;
         "Failed to parse message with type {message_type}: the payload has {size} bytes instead of 8"
-    )?;
-    malformed(alloc, at, why.as_str())
+    )
 }
 
 /// Returns the line of a message without a line of its own, by its type and its size in bytes.

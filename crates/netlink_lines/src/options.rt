@@ -16,6 +16,9 @@ pub struct Options {
     pub times: bool,
     /// Whether the bytes of a message follow its line, one line per field.
     pub bytes: bool,
+    /// Whether an object of JSON takes the place of the lines of a message. Labels and bytes are not
+    /// printed then.
+    pub json: bool,
 }
 
 /// The group of the types of routes.

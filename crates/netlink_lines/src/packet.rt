@@ -3,11 +3,12 @@
 ghost use Rattle.std.specs.Prelude.{◌≡◌, ◌<◌, ◌+◌, ◌++◌, ◌≤◌, ◌^◌, ◌⊎◌, [], IfErr, IfOk, string_bytes};
 ghost use Rattle.netlink_lines.specs.Check.{check_of};
 ghost use Rattle.netlink_lines.specs.Messages.{memory_of};
-ghost use Rattle.netlink_lines.specs.Packet.{TellsDatagram, TellsExtent, TellsPacket, TellsTorn, are_zeros, content_lines, content_of, content_text, from_stop, is_partial, is_route, is_silent, stop_lines};
+ghost use Rattle.netlink_lines.specs.Packet.{TellsDatagram, TellsExtent, TellsPacket, TellsTorn, are_zeros, content_lines, content_object, content_of, content_shown, content_text, from_stop, is_partial, is_route, is_silent, stop_line, stop_shown};
 ghost use Rattle.netlink_input.specs.Packet.{IsExtent, IsWholePacket, torn_of};
 
 use crate::line::Line;
 use crate::messages::{Shown, malformed, well_formed};
+use crate::packet_objects::{bad_object, family_object};
 use crate::runs::all_messages;
 use crate::state::State;
 use netlink_input::fault::Fault;
@@ -122,6 +123,7 @@ pub(crate) fn extent_lines<F: Line>(
     ensures fault { IfErr result (λ fault. fault ≡ Fault.OutOfMemory) }
 {
     lines.clear();
+    let json = state.options.json;
     let before = extent.from + HEADER_LEN;
     let size = packet.len().saturating_sub(before);
     match content_of(extent, packet) {
@@ -133,12 +135,12 @@ pub(crate) fn extent_lines<F: Line>(
             let start = at + before as u64;
             datagram_lines::<F>(alloc, state, true, start, &packet[before..], lines)?;
             let cut = Content::Cut(captured, original);
-            let shown = content_lines(alloc, at, size, cut)?;
+            let shown = content_shown(alloc, json, at, size, cut)?;
             lines.extend_from_slice(shown.text.as_bytes())?;
             Ok(true)
         }
         other => {
-            let shown = content_lines(alloc, at, size, other)?;
+            let shown = content_shown(alloc, json, at, size, other)?;
             lines.extend_from_slice(shown.text.as_bytes())?;
             Ok(shown.is_malformed)
         }
@@ -195,10 +197,11 @@ fn datagram_lines<F: Line>(
         datagram.now (memory_of state.old) (lines.new.items, malformed) (memory_of state.new)) }
     ensures fault { IfErr result (λ fault. fault ≡ Fault.OutOfMemory) }
 {
+    let json = state.options.json;
     let mut reader = datagram;
     match all_messages::<F, &[u8], Vec<u8>>(alloc, state, at, Vec::new(alloc), &mut reader, lines) {
         Ok(outcome) => {
-            let is_stopped = push_stop(alloc, is_cut, at, datagram, &outcome.stop, lines)?;
+            let is_stopped = push_stop(alloc, json, is_cut, at, datagram, &outcome.stop, lines)?;
             Ok(outcome.is_malformed | is_stopped)
         }
         // A slice does not fail, and a vector fails only if an allocation does.
@@ -211,14 +214,15 @@ fn datagram_lines<F: Line>(
 /// if an allocation fails.
 fn push_stop(
     alloc: Global,
+    json: bool,
     is_cut: bool,
     at: u64,
     datagram: &[u8],
     stop: &Option<Stop>,
     lines: &mut Vec<u8>,
 ) -> Result<bool, Fault>
-    ensures line { IfOk result (λ _. lines.new.items ≡ lines.old.items ++ (stop_lines is_cut at datagram.now stop.now).0) }
-    ensures malformed { IfOk result (λ is_line. is_line ≡ (stop_lines is_cut at datagram.now stop.now).1) }
+    ensures line { IfOk result (λ _. lines.new.items ≡ lines.old.items ++ (stop_shown is_cut at datagram.now stop.now json).0) }
+    ensures malformed { IfOk result (λ is_line. is_line ≡ (stop_shown is_cut at datagram.now stop.now json).1) }
     ensures fault { IfErr result (λ fault. fault ≡ Fault.OutOfMemory) }
 {
     match stop {
@@ -227,11 +231,23 @@ fn push_stop(
             if is_silent(is_cut, rest_from(at, datagram, stop)) {
                 return Ok(false);
             }
-            let line = format!(in alloc; "{stop}\n")?;
+            let line = stop_line(alloc, json, stop)?;
             lines.extend_from_slice(line.as_bytes())?;
             Ok(true)
         }
     }
+}
+
+/// Returns the line of what ends a datagram, or its object.
+fn stop_line(alloc: Global, json: bool, stop: &Stop) -> Result<String, AllocError>
+    ensures { IfOk result (λ line. string_bytes line ≡ stop_line stop.now json) }
+{
+    if json {
+        let why = stop.cause.to_string(alloc)?;
+        let shown = bad_object(alloc, stop.at, why.as_str())?;
+        return Ok(shown.text);
+    }
+    format!(in alloc; "{stop}\n")
 }
 
 /// Returns the bytes of a datagram at this offset of the input from a stop on.
@@ -269,6 +285,41 @@ fn are_zeros(bytes: &[u8]) -> bool
     ensures { result ≡ are_zeros bytes.now }
 {
     bytes.iter().all(|byte| *byte == 0)
+}
+
+/// Returns what is shown of a packet that is no datagram of route netlink, by the size of its datagram:
+/// its object, if objects are asked for, or its line.
+fn content_shown(
+    alloc: Global,
+    json: bool,
+    at: u64,
+    size: usize,
+    content: Content,
+) -> Result<Shown, AllocError>
+    ensures { IfOk result (λ s. (string_bytes s.text, s.is_malformed) ≡ content_shown at size content json) }
+{
+    if json {
+        return content_object(alloc, at, size, content);
+    }
+    content_lines(alloc, at, size, content)
+}
+
+/// Returns the object of a packet that is no datagram of route netlink.
+fn content_object(
+    alloc: Global,
+    at: u64,
+    size: usize,
+    content: Content,
+) -> Result<Shown, AllocError>
+    ensures { IfOk result (λ s. (string_bytes s.text, s.is_malformed) ≡ content_object at size content) }
+{
+    match content {
+        Content::Family(family) => family_object(alloc, family, size),
+        other => {
+            let why = content_text(alloc, other)?;
+            bad_object(alloc, at, why.as_str())
+        }
+    }
 }
 
 /// Returns the line of a packet that is no datagram of route netlink, by the size of its datagram.

@@ -10,7 +10,7 @@ ghost use Rattle.netlink_lines.specs.Stream.{messages_of};
 use crate::blocks::blocks;
 use crate::capture::packets;
 use crate::line::Line;
-use crate::messages::next_lines;
+use crate::next::next_lines;
 use crate::options::Options;
 use crate::state::State;
 use netlink_input::fault::Fault;
@@ -55,6 +55,7 @@ pub fn run<F: Line, R: Read, W: Write>(
         labels: false,
         times: false,
         bytes: false,
+        json: false,
     };
     run_with::<F, R, W>(alloc, plain, reader, writer)
 }

@@ -10,15 +10,17 @@ use Rattle.netlink_lines.specs.declared.options.Options.{Options}
 use Rattle.netlink_show.specs.declared.ending.Usage.{Usage}
 use Rattle.netlink_input.specs.declared.fault.Fault.{Fault}
 
--- options and what a word adds to them
+-- options and what a word adds to them; objects go with times alone
 abbrev pub with_option : Options → List ℕ → Option Options
 with_option options word =
-    if bytes_eq word (codes "--label") && not options.labels
-    then Some (record { labels = true; times = options.times; bytes = options.bytes })
+    if bytes_eq word (codes "--label") && (not options.labels && not options.json)
+    then Some (record { labels = true; times = options.times; bytes = options.bytes; json = options.json })
     else if bytes_eq word (codes "--time") && not options.times
-    then Some (record { labels = options.labels; times = true; bytes = options.bytes })
-    else if bytes_eq word (codes "--bytes") && not options.bytes
-    then Some (record { labels = options.labels; times = options.times; bytes = true })
+    then Some (record { labels = options.labels; times = true; bytes = options.bytes; json = options.json })
+    else if bytes_eq word (codes "--bytes") && (not options.bytes && not options.json)
+    then Some (record { labels = options.labels; times = options.times; bytes = true; json = options.json })
+    else if bytes_eq word (codes "--json") && (not options.json && (not options.labels && not options.bytes))
+    then Some (record { labels = options.labels; times = options.times; bytes = options.bytes; json = true })
     else None
 
 -- options and what words add to them
@@ -36,7 +38,7 @@ options_of (Some (name ∷ words)) = with_options (Some plain) words
 
 -- printed otherwise
 abbrev pub usage_text : List ℕ
-usage_text = codes "usage: netlink_show [--label] [--time] [--bytes] < FILE"
+usage_text = codes "usage: netlink_show [--time] [--json | [--label] [--bytes]] < FILE"
 
 -- what a run did that ended so
 abbrev pub Ends : Check → Options → List ℕ → Option (List ℕ) → Option (List ℕ) → Option (List ℕ)

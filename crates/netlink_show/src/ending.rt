@@ -18,6 +18,7 @@ const PLAIN: Options = Options {
     labels: false,
     times: false,
     bytes: false,
+    json: false,
 };
 
 /// The error for wrong arguments.
@@ -28,13 +29,14 @@ impl fmt::Display for Usage {
     ghost output = { λ _. Some usage_text };
 
     fn fmt<W: fmt::Write>(&self, f: &mut fmt::Formatter<W>) -> fmt::Result {
-        f.write_str("usage: netlink_show [--label] [--time] [--bytes] < FILE")
+        f.write_str("usage: netlink_show [--time] [--json | [--label] [--bytes]] < FILE")
     }
 }
 
 /// Returns what the arguments after the program's name ask for: nothing more than the lines, or what
-/// the words `--label`, `--time` and `--bytes` add, each at most once, in any order. Returns `None` for
-/// any others, and if the arguments could not be read because one is not UTF-8 or an allocation failed.
+/// the words `--label`, `--time`, `--bytes` and `--json` ask for, each at most once, in any order.
+/// `--json` goes with `--time` alone. Returns `None` for any others, and if the arguments could not be
+/// read because one is not UTF-8 or an allocation failed.
 pub fn asked(args: Option<Args>) -> Option<Options>
     ensures asks { result ≡ options_of (option_map into_iter_items args) }
 {
@@ -47,7 +49,8 @@ pub fn asked(args: Option<Args>) -> Option<Options>
     Some(options)
 }
 
-/// Returns these options and what a word asks for, or `None` if it is no option or was there before.
+/// Returns these options and what a word asks for, or `None` if it is no option, was there before, or
+/// does not go with the others.
 fn with_option(options: Options, word: &str) -> Option<Options>
     ensures adds { result ≡ with_option options word.now }
 {
@@ -55,22 +58,32 @@ fn with_option(options: Options, word: &str) -> Option<Options>
         labels,
         times,
         bytes,
+        json,
     } = options;
     match word {
-        "--label" if !labels => Some(Options {
+        "--label" if !labels && !json => Some(Options {
             labels: true,
             times,
             bytes,
+            json,
         }),
         "--time" if !times => Some(Options {
             labels,
             times: true,
             bytes,
+            json,
         }),
-        "--bytes" if !bytes => Some(Options {
+        "--bytes" if !bytes && !json => Some(Options {
             labels,
             times,
             bytes: true,
+            json,
+        }),
+        "--json" if !json && !labels && !bytes => Some(Options {
+            labels,
+            times,
+            bytes,
+            json: true,
         }),
         _ => None,
     }

@@ -10,6 +10,7 @@ const BYTES: Options = Options {
     labels: false,
     times: false,
     bytes: true,
+    json: false,
 };
 
 /// A link without a name, whose MTU has two bytes.

@@ -10,6 +10,7 @@ const TIMES: Options = Options {
     labels: false,
     times: true,
     bytes: false,
+    json: false,
 };
 
 /// The headers of files with times in microseconds, little-endian, and in nanoseconds, big-endian.

@@ -193,6 +193,7 @@ fn requests_are_no_facts(rt: HostRuntime) -> Result<(), Fail> {
         labels: true,
         times: false,
         bytes: false,
+        json: false,
     };
     let (output, ended) = shown_with(alloc, labels, &input);
     assert!(rt; ended == Err(Fault::Malformed));

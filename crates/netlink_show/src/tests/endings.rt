@@ -23,18 +23,35 @@ fn args_of(alloc: Global, words: &[&str]) -> Result<Args, AllocError> {
 
 #[test]
 fn arguments_ask_for_options(rt: HostRuntime) -> Result<(), Fail> {
-    let rows: [(&[&str], Option<(bool, bool, bool)>); 12] = [
-        (&["netlink_show"], Some((false, false, false))),
-        (&["netlink_show", "--label"], Some((true, false, false))),
-        (&["netlink_show", "--time"], Some((false, true, false))),
-        (&["netlink_show", "--bytes"], Some((false, false, true))),
+    let rows: [(&[&str], Option<(bool, bool, bool, bool)>); 17] = [
+        (&["netlink_show"], Some((false, false, false, false))),
+        (
+            &["netlink_show", "--label"],
+            Some((true, false, false, false)),
+        ),
+        (
+            &["netlink_show", "--time"],
+            Some((false, true, false, false)),
+        ),
+        (
+            &["netlink_show", "--bytes"],
+            Some((false, false, true, false)),
+        ),
+        (
+            &["netlink_show", "--json"],
+            Some((false, false, false, true)),
+        ),
         (
             &["netlink_show", "--bytes", "--label"],
-            Some((true, false, true)),
+            Some((true, false, true, false)),
         ),
         (
             &["netlink_show", "--label", "--time", "--bytes"],
-            Some((true, true, true)),
+            Some((true, true, true, false)),
+        ),
+        (
+            &["netlink_show", "--time", "--json"],
+            Some((false, true, false, true)),
         ),
         (&[], None),
         (&["netlink_show", ""], None),
@@ -42,12 +59,16 @@ fn arguments_ask_for_options(rt: HostRuntime) -> Result<(), Fail> {
         (&["netlink_show", "label"], None),
         (&["netlink_show", "--label", "more"], None),
         (&["netlink_show", "--bytes", "--bytes"], None),
+        (&["netlink_show", "--json", "--json"], None),
+        (&["netlink_show", "--json", "--bytes"], None),
+        (&["netlink_show", "--label", "--json"], None),
     ];
     for (words, wanted) in rows.iter() {
-        let wanted = wanted.map(|(labels, times, bytes)| Options {
+        let wanted = wanted.map(|(labels, times, bytes, json)| Options {
             labels,
             times,
             bytes,
+            json,
         });
         assert!(rt; asked(Some(args_of(rt.alloc(), words)?)) == wanted);
     }
@@ -79,7 +100,7 @@ fn each_ending_has_its_status_and_its_text(rt: HostRuntime) -> Result<(), Fail> 
         (
             Ending::Usage(Usage),
             2,
-            "usage: netlink_show [--label] [--time] [--bytes] < FILE\n",
+            "usage: netlink_show [--time] [--json | [--label] [--bytes]] < FILE\n",
         ),
     ];
     for (ending, status, text) in rows {
@@ -96,6 +117,7 @@ fn runs_end_with_their_status(rt: HostRuntime) {
         labels: false,
         times: false,
         bytes: false,
+        json: false,
     };
     for (options, status, size) in [(Some(plain), 0, 5), (None, 2, 0)] {
         let mut reader: &[u8] = &NOOP;

@@ -1,0 +1,62 @@
+-- The members of the object of a message of route netlink, and the names of its types.
+use Rattle.std.specs.Prelude.{ℕ, ◌==◌, List, [], codes, if◌then◌else◌}
+use Rattle.netlink_family.specs.Shapes.{has_type}
+use Rattle.netlink_json.specs.Fields.{Field}
+use Rattle.netlink_lines.specs.Lines.{address_types, link_types, namespace_types, neighbour_table_types, neighbour_types, route_types, rule_types}
+use Rattle.netlink_names.specs.declared.device.Known.{Known}
+use Rattle.netlink_objects.specs.Address.{address_parts}
+use Rattle.netlink_objects.specs.Link.{link_parts}
+use Rattle.netlink_objects.specs.Namespace.{namespace_parts}
+use Rattle.netlink_objects.specs.Neighbour.{neighbour_parts}
+use Rattle.netlink_objects.specs.NeighbourTable.{neighbour_table_parts}
+use Rattle.netlink_objects.specs.Route.{route_parts as route_members}
+use Rattle.netlink_objects.specs.Rule.{rule_parts}
+
+-- the members of a message that is about a rule, a neighbour table or an id of a network namespace
+abbrev pub later_parts : List Known → ℕ → List ℕ → List (List Field)
+later_parts known t payload =
+    if has_type rule_types t then rule_parts t payload
+    else if has_type neighbour_table_types t then neighbour_table_parts known t payload
+    else if has_type namespace_types t then namespace_parts t payload
+    else []
+
+-- that is about neither a link nor an address
+abbrev pub other_parts : List Known → ℕ → List ℕ → List (List Field)
+other_parts known t payload =
+    if has_type neighbour_types t then neighbour_parts known t payload
+    else if has_type route_types t then route_members known t payload
+    else later_parts known t payload
+
+-- the members of a message type and a payload, by the known names of links
+unfoldable pub route_parts : List Known → ℕ × List ℕ → List (List Field)
+route_parts known (t, payload) =
+    if has_type link_types t then link_parts known t payload
+    else if has_type address_types t then address_parts known t payload
+    else other_parts known t payload
+
+-- RTM_* of linux/rtnetlink.h
+abbrev pub message_name : ℕ → List ℕ
+message_name t =
+    if t == 16 then codes "RTM_NEWLINK"
+    else if t == 17 then codes "RTM_DELLINK"
+    else if t == 18 then codes "RTM_GETLINK"
+    else if t == 19 then codes "RTM_SETLINK"
+    else if t == 20 then codes "RTM_NEWADDR"
+    else if t == 21 then codes "RTM_DELADDR"
+    else if t == 22 then codes "RTM_GETADDR"
+    else if t == 24 then codes "RTM_NEWROUTE"
+    else if t == 25 then codes "RTM_DELROUTE"
+    else if t == 26 then codes "RTM_GETROUTE"
+    else if t == 28 then codes "RTM_NEWNEIGH"
+    else if t == 29 then codes "RTM_DELNEIGH"
+    else if t == 30 then codes "RTM_GETNEIGH"
+    else if t == 32 then codes "RTM_NEWRULE"
+    else if t == 33 then codes "RTM_DELRULE"
+    else if t == 34 then codes "RTM_GETRULE"
+    else if t == 64 then codes "RTM_NEWNEIGHTBL"
+    else if t == 66 then codes "RTM_GETNEIGHTBL"
+    else if t == 67 then codes "RTM_SETNEIGHTBL"
+    else if t == 88 then codes "RTM_NEWNSID"
+    else if t == 89 then codes "RTM_DELNSID"
+    else if t == 90 then codes "RTM_GETNSID"
+    else []
