@@ -7,13 +7,15 @@ Each script of SCRIPTS fills new namespaces. beside_ip.txt has commands that add
 This script asks the kernel for dumps and for the routes to some addresses, and records notifications of the changes.
 `netlink_show` reads these messages after those of all links. Its lines are compared with those of `ip` in the same
 namespace: of `ip -o monitor label file` for the notifications, with their labels, else of a command that asks the kernel
-for the same.
+for the same. Of such a command, the objects of `ip -j` are compared too, with those of `netlink_show --json`.
 
 The lines of `ip` are normalized as examples/captured/ip/README.md states. A command that fails here is skipped. The
-status is 1 if a line differs and LISTED does not allow it, and 3 if the comparison is not possible here.
+status is 1 if a line or an object differs and LISTED or LISTED_OBJECTS does not allow it, and 3 if the comparison is not
+possible here.
 """
 
 import ipaddress
+import json
 import os
 import re
 import shutil
@@ -27,29 +29,18 @@ from itertools import zip_longest
 
 sys.path.insert(0, os.path.join(sys.path[0], "lib"))
 
-from built import TOP, built, run  # noqa: E402 (it is in that folder)
-from ip_lines import ADDRESSES, FOLDER, LINKS, escaped, items, with_kind  # noqa: E402
+from built import built, run  # noqa: E402 (it is in that folder)
+from ip_lines import ADDRESSES, LINKS, escaped, items, joined, with_kind  # noqa: E402
 from compare import is_printed, kind_of, label_of, monitored, spaced  # noqa: E402 (ip_lines adds its folder)
+from json_lines import is_equal, own_objects, reason_for, wanted_object  # noqa: E402
+from json_listed import LISTED_MEMBERS, without  # noqa: E402
+from kernel import DUMPS, FAMILIES, LINK_REQUEST, NLM_F_DUMP, RTM_GETLINK, RTM_GETNEIGHTBL, RTM_GETROUTE  # noqa: E402
+from kernel import SCRIPTS, ask, fill, paired, prepare, shell  # noqa: E402
 
-NLM_F_DUMP = 0x300
-NLMSG_ERROR, NLMSG_DONE, RTM_GETLINK, RTM_GETROUTE, RTM_GETNEIGHTBL = 2, 3, 18, 26, 66
 SOL_NETLINK, NETLINK_ADD_MEMBERSHIP, SO_RCVBUFFORCE = 270, 1, 33
 
 # The groups of links, neighbours, addresses, routes, rules and ids of namespaces (RTNLGRP_* of linux/rtnetlink.h).
 GROUPS = (1, 3, 5, 7, 8, 9, 11, 19, 28)
-
-LINK_REQUEST = bytes(16) + struct.pack("<HHI", 8, 29, 1)  # IFLA_EXT_MASK, as `ip link` sends it: RTEXT_FILTER_VF
-PROXIES = b"\0\0\0\0\0\0\0\0\0\0\x08\0"  # NTF_PROXY
-
-# The words of `ip`, and the type and the body of the request for the same dump. The first two letters of the words give
-# the family, which is the first byte of the body.
-FAMILIES = {"-4": socket.AF_INET, "-6": socket.AF_INET6, "-f": 7}
-DUMPS = [("link show", RTM_GETLINK, LINK_REQUEST), ("-f bridge neigh show nud all", 30, bytes(12))]
-DUMPS += [("ntable show", RTM_GETNEIGHTBL, bytes(4)), ("netns list-id", 90, bytes(4))]
-for version in ("-4", "-6"):
-    DUMPS += [(f"{version} addr show", 22, bytes(8)), (f"{version} route show table all", RTM_GETROUTE, bytes(12))]
-    DUMPS += [(f"{version} neigh show nud all", 30, bytes(12)), (f"{version} neigh show proxy", 30, PROXIES)]
-    DUMPS += [(f"{version} rule show", 34, bytes(12))]
 
 # What is added to the words of `ip route get ADDRESS`, and the attributes that this adds to the request.
 LOOKUPS = [("", b""), (" mark 21", struct.pack("<HHI", 8, 16, 21)), (" uid 1500", struct.pack("<HHI", 8, 25, 1500))]
@@ -72,38 +63,8 @@ LISTED = [
     ("the older name of a link", lambda line: re.sub(r"\bolder\b", "newer", line), str),
 ]
 
-SCRIPTS = ("setup.sh", "links.sh")
-
-
-def shell(words):
-    return run([b"ip", *words.encode("latin-1").split()])
-
-
-def fill(section):
-    """Runs the commands of a section of beside_ip.txt, and prints those that failed."""
-    with open(os.path.join(TOP, "tests", "beside_ip.txt")) as file:
-        commands = file.read().split(f"\n[{section}]\n")[1].split("\n\n")[0].splitlines()
-    for words in commands:
-        status, _, _ = shell(re.sub(r"\\x(..)", lambda it: chr(int(it[1], 16)), words))
-        if status:
-            print(f"skipped: ip {words}")
-
-
-def ask(kind, body, flags=NLM_F_DUMP):
-    """Returns the messages of the kernel's answer to a request, without the one that ends a dump."""
-    found = []
-    with socket.socket(socket.AF_NETLINK, socket.SOCK_RAW, 0) as kernel:
-        kernel.settimeout(5)
-        kernel.send(struct.pack("<IHHII", 16 + len(body), kind, 1 | flags, 1, 0) + body)
-        while True:
-            frames = list(items(kernel.recv(1 << 18), 4))
-            found += [it for it in frames if kind_of(it) not in (NLMSG_ERROR, NLMSG_DONE)]
-            if not flags or len(frames) == 0 or kind_of(frames[-1]) in (NLMSG_ERROR, NLMSG_DONE):
-                return found
-
-
-def joined(frames):
-    return b"".join(it + bytes(-len(it) % 4) for it in frames)
+# The same for objects: what examples/captured/json allows, and the names that `ip` takes from /etc/protocols.
+LISTED_OBJECTS = [*LISTED_MEMBERS, ("the name of an IP protocol", *2 * [without("ipproto")])]
 
 
 def own_lines(links, frames, *words):
@@ -135,24 +96,31 @@ def settled(words, kind, body, flags=NLM_F_DUMP):
     return [[*dict.fromkeys(lines)] if kind == RTM_GETNEIGHTBL else lines for lines in (ours, theirs)]
 
 
-def reason_for(own, line):
-    """Returns the listed reasons for which a line of the program and one of `ip` differ, or nothing."""
-    reasons = []
-    for reason, of_ip, of_own in LISTED:
-        if (of_ip(line), of_own(own)) != (line, own):
-            line, own = of_ip(line), of_own(own)
-            reasons.append(reason)
-    return ", ".join(reasons) if own == line else ""
-
-
 def compare(what, ours, theirs, counts):
     """Prints how many lines there are and those that differ, and counts them by the reason."""
     print(f"{what}: {len(theirs)} lines")
     for own, line in zip_longest(ours, theirs, fillvalue="(no line)"):
-        reason = "equal" if own == line else reason_for(own, line)
-        counts[reason or "different"] += 1
-        if not reason:
-            print(f"    netlink_show: {own}\n    ip:           {line}")
+        told(own, line, "equal" if own == line else reason_for(own, line, LISTED), counts)
+
+
+def told(own, line, reason, counts):
+    """Counts a line or an object by the reason why it may differ, and prints both if there is none."""
+    counts[reason or "different"] += 1
+    if not reason:
+        print(f"    netlink_show: {own}\n    ip:           {line}")
+
+
+def compare_objects(words, kind, body, counts, flags=NLM_F_DUMP):
+    """Compares the objects of the program with those of `ip` for an answer of the kernel."""
+    frames, theirs = paired(words, kind, body, flags)
+    ours = own_objects(built("netlink_show", "netlink_show"), ask(RTM_GETLINK, LINK_REQUEST), frames)
+    print(f"{words}: {len(theirs)} objects")
+    if len({len(frames), len(ours), len(theirs)}) > 1:
+        told(f"{len(ours)} objects for {len(frames)} messages", f"{len(theirs)} objects", "", counts)
+    for own, frame, it in zip(ours, frames, theirs):
+        wanted = wanted_object(frame, it)
+        reason = "equal" if is_equal(own, wanted) else reason_for(own, wanted, LISTED_OBJECTS)
+        told(json.dumps(own), json.dumps(wanted), reason and f"{reason} in JSON", counts)
 
 
 def lookups(counts):
@@ -164,6 +132,7 @@ def lookups(counts):
             body += struct.pack("<HH", 4 + bits // 8, 1) + address.packed + attributes
             words = f"route get {address}{more}"
             compare(words, *settled(words, RTM_GETROUTE, body, 0), counts)
+            compare_objects(words, RTM_GETROUTE, body, counts, 0)
 
 
 def listener():
@@ -199,17 +168,11 @@ def changes(section, counts):
 def inside(script):
     """Fills new namespaces, compares all lines, and prints the numbers of lines."""
     counts = Counter()
-    with tempfile.TemporaryFile() as errors:
-        subprocess.run(["sh", os.path.join(FOLDER, script)], stdout=errors, stderr=errors, check=False)
-        errors.seek(0)
-        for words in re.findall(r"failed: (.*)", errors.read().decode("latin-1")):
-            print(f"skipped: {escaped(words)}")
-    for words in ("mount --bind /dev/null /etc/protocols", "mount -t tmpfs none /run"):
-        subprocess.run(words.split(), check=True)
-    fill(script)
+    prepare(script)
+    subprocess.run("mount --bind /dev/null /etc/protocols".split(), check=True)
     for words, kind, body in DUMPS:
-        family = FAMILIES.get(words[:2], 0)
-        compare(words, *settled(words, kind, bytes([family]) + body[1:]), counts)
+        compare(words, *settled(words, kind, body), counts)
+        compare_objects(words, kind, body, counts)
     if script == "setup.sh":
         lookups(counts)
     changes(f"{script} changes", counts)
@@ -242,8 +205,10 @@ def main():
         for count, reason in re.findall(r"^(\d+)\t(.*)$", output.decode(), re.M):
             counts[reason] += int(count)
         counts["different"] += status != 0
-    listed = sum(counts.values()) - counts["equal"] - counts["different"]
-    print(f"beside_ip: {counts['equal']} lines equal, {listed} listed, {counts['different']} different")
+    objects = counts["equal in JSON"]
+    listed = sum(counts.values()) - counts["equal"] - objects - counts["different"]
+    equal = f"{counts['equal']} lines and {objects} objects equal"
+    print(f"beside_ip: {equal}, {listed} listed, {counts['different']} different")
     sys.exit(1 if counts["different"] else 0)
 
 

@@ -37,6 +37,10 @@ def items(data, size):
         at += (length + 3) & ~3
 
 
+def joined(frames):
+    return b"".join(it + bytes(-len(it) % 4) for it in frames)
+
+
 def first(block, kind):
     """Returns the value of the first attribute of a kind, or nothing."""
     return next((it[4:] for it in items(block, 2) if number(it[2:4]) & 0x3FFF == kind), b"")

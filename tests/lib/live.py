@@ -7,11 +7,11 @@ import subprocess
 PIPES = {"stdin": subprocess.PIPE, "stdout": subprocess.PIPE, "stderr": subprocess.PIPE}
 
 
-def live_error(program, pieces, wanted):
-    """Writes pieces of input to a pipe that stays open. A piece is bytes that come before it, its own bytes and their
-    lines, which must be there as soon as the last byte was written, and not before. `wanted` is the status and the
-    error in the end. Returns what differs, or None."""
-    with subprocess.Popen([program], **PIPES) as run:
+def live_error(program, pieces, wanted, *words):
+    """Runs a program with these arguments, and writes pieces of input to a pipe that stays open. A piece is bytes that come
+    before it, its own bytes and their lines, which must be there as soon as the last byte was written, and not before.
+    `wanted` is the status and the error in the end. Returns what differs, or None."""
+    with subprocess.Popen([program, *words], **PIPES) as run:
         os.set_blocking(run.stdout.fileno(), False)
         with selectors.DefaultSelector() as ready:
             ready.register(run.stdout, selectors.EVENT_READ)

@@ -26,7 +26,7 @@ OTHER_ALLOCATORS = "aligned_alloc posix_memalign memalign valloc reallocarray mm
 
 # The result if an allocation fails while a program reads its arguments, and the result if one fails later.
 FRAME_USAGE = (2, b"", b"usage: netlink_frame normalize|show|nlas|canon|frames\n")
-SHOW_USAGE = (2, b"", b"usage: netlink_show [--label] [--time] [--bytes] < FILE\n")
+SHOW_USAGE = (2, b"", b"usage: netlink_show [--time] [--json | [--label] [--bytes]] < FILE\n")
 OUT_OF_MEMORY = (1, b"", b"out of memory\n")
 
 # The result of a test that passes, and the results of a test that returns out of memory by `?`.
@@ -167,8 +167,8 @@ def of_frame(library):
 
 def of_show(library):
     """Returns the sweeps of netlink_show: each of its datagrams, an empty input, for which it allocates to read its
-    arguments, then its buffer, and then the room for the first bytes, a pcap file and a pcapng file, and some with
-    --bytes.
+    arguments, then its buffer, and then the room for the first bytes, a pcap file and a pcapng file, some with --bytes,
+    and all with --json.
 
     The program writes the line of a message before it reads on, so the lines before a failed allocation are there."""
     program = built("netlink_show", "netlink_show")
@@ -186,9 +186,11 @@ def of_show(library):
     for name in ("links", "an error that names an attribute", "links, the last one truncated"):
         inputs[f"bytes of {name}"] = inputs[name]
     inputs["a pcapng file"] = section() + interface() + b"".join(blocks)
+    inputs |= {f"objects of {name}": data for name, data in inputs.items() if not name.startswith("bytes of ")}
 
     def sweep_of(name):
-        data, command = inputs[name], [program, *["--bytes"] * name.startswith("bytes of ")]
+        data, option = inputs[name], {"bytes": "--bytes", "objects": "--json"}.get(name.partition(" of ")[0])
+        command = [program, *filter(None, [option])]
         sweep = Sweep(library, f"netlink_show of {name}", command, data)
         usual = run(command, data)
         lines = usual[1].splitlines(keepends=True)

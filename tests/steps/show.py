@@ -1,7 +1,7 @@
 #!/usr/bin/env python3
 """Runs the built program `netlink_show` on captured datagrams, on frames for which `ip` printed lines, on what a
-monitor saw, on inputs with each error, on every prefix of a stream, on random bytes, on pcap and pcapng files, on pipes that
-stay open, with wrong arguments, and with inputs and outputs that fail.
+monitor saw, on inputs with each error, on every prefix of a stream, on random bytes, on pcap and pcapng files, all these
+also with `--json`, on pipes that stay open, with wrong arguments, and with inputs and outputs that fail.
 
 This script computes the expected lines for the captured datagrams itself, with Python's struct and ipaddress and the
 numbers of linux/if.h, if_link.h and if_addr.h. The expected lines for acknowledgements, errors and messages made here
@@ -21,7 +21,8 @@ sys.path.insert(0, os.path.join(sys.path[0], "..", "lib"))
 
 from built import TOP, FailingDevices, built, error_of, in_parallel, row, run, silent, tally  # noqa: E402 (it is in that folder)
 from byte_lines import byte_errors, frames_of, request_error  # noqa: E402
-from ip_lines import ip_errors  # noqa: E402
+from ip_lines import ip_errors, joined  # noqa: E402
+from json_lines import case_error, json_cases, object_errors, packet_errors, replayed_errors, text_errors  # noqa: E402
 from kinds import rows as kind_rows  # noqa: E402
 from live import closed_error, live_error, memory_error  # noqa: E402
 from monitor_lines import monitor_errors, monitor_rows  # noqa: E402
@@ -66,7 +67,7 @@ ADDRESS_FLAGS = [(0x2, "nodad"), (0x40, "tentative")]
 ERRNO = [*range(1, 41), *range(42, 58), *range(59, 134)]
 
 BAD = "a message is malformed"
-USAGE = (2, b"", "usage: netlink_show [--label] [--time] [--bytes] < FILE")
+USAGE = (2, b"", "usage: netlink_show [--time] [--json | [--label] [--bytes]] < FILE")
 LINE = b"7: a: <> link/netrom\n"
 # The lines of the bytes of that message.
 BYTES = b"""\
@@ -442,6 +443,90 @@ LINES += [
     for kind, size, at in ((20, 8, 2), (24, 12, 1), (28, 12, 1))
 ]
 
+# Messages, and the objects of each with `--json`: of `ip -j` 6.1 for the same values (examples/captured/json), or as
+# docs/FORMAT.md defines them.
+NUMBERS = '"nlmsg_flags":0,"nlmsg_seq":0,"nlmsg_pid":0'
+
+
+def object_text(name, rest="", flags=0):
+    return f'{{"message":"{name}","nlmsg_flags":{flags},"nlmsg_seq":0,"nlmsg_pid":0{rest and ","}{rest}}}\n'
+
+
+def link_object(name='"a"', rest="", flags=0):
+    return object_text("RTM_NEWLINK", f'"ifindex":7,"ifname":{name},"flags":[],"link_type":"netrom"{rest}', flags)
+
+
+def before(members, text):
+    return f"{{{members},{text[1:]}"
+
+
+LINK_OBJECT, INVALID = link_object(), '"code":-22,"strerror":"Invalid argument"'
+DONE_OBJECT = object_text("NLMSG_DONE", '"code":0', DUMP_INTR)
+NEIGHBOUR_MEMBERS = '"dst":"10.1.0.4","dev":"if3","lladdr":"02:00:00:00:00:03","state":["STALE"]'
+OF_NAMED = object_text("RTM_NEWNEIGH", NEIGHBOUR_MEMBERS.replace("if3", "a"))
+ROUTE_MEMBERS = '"dst":"default","gateway":"10.1.0.2","dev":"if3","flags":[]'
+ZERO_MEMBERS = '"type":"none","dst":"default","protocol":"unspec","flags":[]'
+RULE_MEMBERS = '"priority":0,"src":"all","table":"main"'
+HEADED = struct.pack("<IHHII", 17, 40, 0x8001, 7, 0xFFFFFFFF) + b"a"
+OBJECTS = [
+    (link(NAMED), LINK_OBJECT),
+    (HEADED, '{"type":40,"bytes":17,"nlmsg_flags":32769,"nlmsg_seq":7,"nlmsg_pid":4294967295}\n'),
+    (frame(22, OLD, flags=0x301), f'{{"type":22,"bytes":40,{NUMBERS.replace("0", "769", 1)}}}\n'),
+    (frame(20, b"\x2d" + bytes(7) + attribute(2, b"\x09")), f'{{"type":20,"bytes":32,{NUMBERS}}}\n'),
+    (frame(24, bytes(12)), object_text("RTM_NEWROUTE", ZERO_MEMBERS)),
+    (frame(1, b""), object_text("NLMSG_NOOP")),
+    (frame(4, b""), object_text("NLMSG_OVERRUN")),
+]
+# What the kernel says.
+OBJECTS += [
+    (error(b"", code=0, flags=0x100), object_text("NLMSG_ERROR", '"code":0', 0x100)),
+    (error(TEXT, code=0), object_text("NLMSG_ERROR", '"code":0,"text":"a b"', 0x300)),
+    (error(TEXT), object_text("NLMSG_ERROR", f'{INVALID},"text":"a b"', 0x300)),
+    (error(attribute(2, b"\x24\0\0\0") + TEXT), object_text("NLMSG_ERROR", f'{INVALID},"text":"a b; byte 36"', 0x300)),
+    (error(attribute(2, bytes(4))), object_text("NLMSG_ERROR", f'{INVALID},"text":"byte 0"', 0x300)),
+    (error(attribute(1, b'a"b\0')), object_text("NLMSG_ERROR", f'{INVALID},"text":"a\\"b"', 0x300)),
+    (error(b"", code=-41), object_text("NLMSG_ERROR", '"code":-41', 0x300)),
+    (frame(3, bytes(4), flags=2), object_text("NLMSG_DONE", '"code":0', 2)),
+    (frame(3, struct.pack("<i", -22) + TEXT, flags=0x202), object_text("NLMSG_DONE", f'{INVALID},"text":"a b"', 0x202)),
+]
+# Times and NLM_F_DUMP_INTR.
+OBJECTS += [
+    (time(1, 1_000_000) + link(NAMED), before('"sec":1,"usec":1000000', LINK_OBJECT)),
+    (time(1, 2) + 2 * frame(1, b""), before('"sec":1,"usec":2', object_text("NLMSG_NOOP")) + object_text("NLMSG_NOOP")),
+    (link(NAMED, flags=DUMP_INTR), before('"interrupted":true', link_object(flags=DUMP_INTR))),
+    (time(1, 2) + frame(3, bytes(4), flags=DUMP_INTR), before('"sec":1,"usec":2,"interrupted":true', DONE_OBJECT)),
+]
+# Strings with any bytes: names and an alias in UTF-8 and in Latin-1, an incomplete sequence, and signs that JSON escapes.
+ACCENTED, CUT = attribute(20, b"caf\xc3\xa9\0"), attribute(20, b"\xc3(\0")
+ALTERNATIVES = attribute(52, attribute(53, b"\xe9t\xe9\0") + attribute(53, b"b\0") + attribute(53, b"\xff\0"))
+OBJECTS += [
+    (link(NAMED, ACCENTED), link_object(rest=',"ifalias":"caf\xc3\xa9"')),
+    (link(NAMED, attribute(20, b"caf\xe9\0")), link_object(rest=',"ifalias":"caf\\u00e9","raw":{"ifalias":"636166e9"}')),
+    (
+        link(attribute(3, b"\xff\0"), CUT),
+        link_object('"\\u00ff"', ',"ifalias":"\\u00c3(","raw":{"ifname":"ff","ifalias":"c328"}'),
+    ),
+    (
+        link(NAMED, ALTERNATIVES),
+        link_object(rest=',"altnames":["\\u00e9t\\u00e9","b","\\u00ff"],"raw":{"altnames":["e974e9","ff"]}'),
+    ),
+    (link(attribute(3, b'a"\\\n\1\x7f\0')), link_object('"a\\"\\\\\\u000a\\u0001\\u007f"')),
+]
+# The other families.
+OBJECTS += [
+    (link(NAMED, attribute(18, attribute(1, b"veth"))), link_object(rest=',"linkinfo":{"info_kind":"veth"}')),
+    (frame(24, ROUTE), object_text("RTM_NEWROUTE", ROUTE_MEMBERS)),
+    (frame(25, ROUTE), object_text("RTM_DELROUTE", f'"deleted":true,{ROUTE_MEMBERS}')),
+    (frame(25, ROUTE, flags=ASKED), object_text("RTM_DELROUTE", f'"request":true,"deleted":true,{ROUTE_MEMBERS}', ASKED)),
+    (frame(28, NEIGHBOUR), object_text("RTM_NEWNEIGH", NEIGHBOUR_MEMBERS)),
+    (frame(29, NEIGHBOUR), object_text("RTM_DELNEIGH", f'"deleted":true,{NEIGHBOUR_MEMBERS}')),
+    (frame(30, NEIGHBOUR), object_text("RTM_GETNEIGH", f'"miss":null,{NEIGHBOUR_MEMBERS}')),
+    (link(NAMED, index=3) + frame(28, NEIGHBOUR), LINK_OBJECT.replace("7", "3") + OF_NAMED),
+    (frame(32, b"\2\0\0\0\xfe\0\0\1" + bytes(4)), object_text("RTM_NEWRULE", RULE_MEMBERS)),
+    (frame(64, b"\2\0\0\0" + attribute(1, b"ndisc\0")), object_text("RTM_NEWNEIGHTBL", '"family":"inet","name":"ndisc"')),
+    (frame(88, bytes(4) + attribute(1, b"\5\0\0\0")), object_text("RTM_NEWNSID", '"nsid":5')),
+]
+
 
 def captured_lines():
     """Returns the captured datagrams by their names, each with its lines after those before it."""
@@ -497,6 +582,28 @@ def rows():
     options = ["--bytes", "--time", "--label"]
     yield row("all options", options, (0, b"[1700000000.000005] [LINK]" + LINE + BYTES, ""), in_packets(link(NAMED)))
     yield row("bytes and labels", ["--bytes", "--label"], (0, b"[LINK]" + LINE + BYTES, ""), in_packets(link(NAMED)))
+    for data, objects in OBJECTS:
+        yield row(f"{data.hex()} as JSON", ["--json"], (0, objects.encode("latin-1"), ""), data)
+        yield row(f"{data.hex()} in packets as JSON", ["--json"], (0, objects.encode("latin-1"), ""), in_packets(data))
+    data, rest = link(NAMED) + padded(MALFORMED[0][0]), f'"error":"{MALFORMED[0][1]}",{NUMBERS}}}\n'
+    yield row(f"{data.hex()} as JSON", ["--json"], (1, (LINK_OBJECT + f'{{"byte":40,{rest}').encode(), BAD), data)
+    wanted = 1, LINK_OBJECT.encode(), f"byte 40: {STOPS[0][1]}"
+    yield row("a message that ends early as JSON", ["--json"], wanted, link(NAMED) + b"\0")
+    timed = time(1, 2) + MALFORMED[0][0]
+    yield row(f"{timed.hex()} as JSON", ["--json"], (1, f'{{"sec":1,"usec":2,"byte":24,{rest}'.encode(), BAD), timed)
+    whole = pcap_packet(bytes(40), family=16) + pcap_packet(link(NAMED) + frame(40, b"abc"))
+    objects = ['{"netlink_family":16,"bytes":40}\n', LINK_OBJECT, f'{{"type":40,"bytes":19,{NUMBERS}}}\n']
+    yield row("packets as JSON", ["--json"], (0, "".join(objects).encode(), ""), pcap_header() + whole)
+    stamped = "".join([objects[0], *[before('"sec":1700000000,"usec":5', it) for it in objects[1:]]]).encode()
+    for words in (["--json", "--time"], ["--time", "--json"]):
+        yield row(f"packets with {words}", words, (0, stamped, ""), pcap_header() + whole)
+    data = pcap_header() + pcap_packet(link(NAMED) + b"\1") + pcap_packet(b"", device=1)
+    objects = [LINK_OBJECT, f'{{"byte":96,"error":"{FRAME}length is 1 but {MINIMUM}"}}\n']
+    objects += ['{"byte":97,"error":"the device type of a packet is 1 instead of 824 (NETLINK)"}\n']
+    yield row("damaged packets as JSON", ["--json"], (1, "".join(objects).encode(), BAD), data)
+    for more in ("--bytes", "--label", "--json", "--time --time"):
+        for words in (f"--json {more}", f"{more} --json"):
+            yield row(f"arguments {words}", words.split(), USAGE, link(NAMED))
     for words in (["links"], [""], ["-h"], ["a", "b"], [b"\xff"], ["label"], ["--labels"], ["--label", "--label"], ["--time", "--time"], ["--time", "--label", "--time"]):
         yield row(f"arguments {words}", words, USAGE, link(NAMED))
 
@@ -559,6 +666,10 @@ def failing_rows(devices):
     yield from devices.unwritten("a link and an error", [], data + rejected)
     yield from devices.unwritten("an error alone", [], rejected, (1, b"", f"byte 0: {error}"))
     yield from devices.unwritten("nothing", [], b"", (0, b"", ""))
+    yield from devices.unread("netlink_show --json", ["--json"])
+    yield from devices.unwritten("an object", ["--json"], data)
+    yield from devices.unwritten("an object and an error", ["--json"], data + rejected)
+    yield silent("an object and an error", ["--json"], (1, LINK_OBJECT.encode()), data + rejected)
     yield from devices.unwritten("an argument", ["links"], data, USAGE)
     yield row("an argument and a closed input", ["links"], USAGE, closed="0<&-")
     yield silent("a link", [], (0, LINE), data)
@@ -570,16 +681,24 @@ def failing_rows(devices):
 def live_checks(program):
     """Yields what differs on pipes that stay open, that are closed early, or that carry many messages, or None. Padding
     comes late, with the next message; a packet is whole before its lines appear."""
-    messages = [(link(NAMED), LINE), (frame(40, b"abc"), b"type 40, 19 bytes\n"), LINES[0]]
-    messages += [(MALFORMED[0][0], f"byte 80: {MALFORMED[0][1]}\n".encode()), (error(TEXT), b"error -22 (Invalid argument): a b\n")]
-    pieces, at = [], 0
-    for data, line in messages:
-        pieces.append((bytes(-at % 4), data, line))
+    kind, broken = frame(40, b"abc"), MALFORMED[0]
+    messages = [(link(NAMED), LINE, LINK_OBJECT), (kind, b"type 40, 19 bytes\n", f'{{"type":40,"bytes":19,{NUMBERS}}}\n')]
+    messages += [(frame(28, NEIGHBOUR), SHOWN, object_text("RTM_NEWNEIGH", NEIGHBOUR_MEMBERS))]
+    messages += [(broken[0], f"byte 108: {broken[1]}\n".encode(), f'{{"byte":108,"error":"{broken[1]}",{NUMBERS}}}\n')]
+    said = object_text("NLMSG_ERROR", f'{INVALID},"text":"a b"', 0x300)
+    messages += [(error(TEXT), b"error -22 (Invalid argument): a b\n", said)]
+    lines, objects, at = [], [], 0
+    for data, line, text in messages:
+        lines.append((bytes(-at % 4), data, line))
+        objects.append((bytes(-at % 4), data, text.encode()))
         at += -at % 4 + len(data)
-    yield live_error(program, pieces, (1, f"{BAD}\n".encode()))
+    yield live_error(program, lines, (1, f"{BAD}\n".encode()))
+    yield live_error(program, objects, (1, f"{BAD}\n".encode()), "--json")
     two = link(NAMED) + link(NAMED)
     packets = [(pcap_header(), pcap_packet(two), LINE + LINE), (b"", pcap_packet(link(NAMED)), LINE)]
     yield live_error(program, packets, (0, b""))
+    packets = [(before, data, LINK_OBJECT.encode() * (len(lines) // len(LINE))) for before, data, lines in packets]
+    yield live_error(program, packets, (0, b""), "--json")
     start = b"".join([section(), *others("<"), interface()])
     blocks = [(start, enhanced(packed(two)), LINE + LINE), (b"".join(others("<")), simple(packed(link(NAMED))), LINE)]
     yield live_error(program, [*blocks, (section(">") + interface(">"), enhanced(packed(two), ">"), LINE + LINE)], (0, b""))
@@ -652,9 +771,15 @@ def main():
     from_file, lines = pcapng_errors(program)
     if read is None:
         print("skipped: tshark (it is not installed)")
-    bytes_of = all_frames()
+    bytes_of, inputs = all_frames(), json_cases(all_rows)
+    from_objects, objects = object_errors(program)
+    from_replays, replays = replayed_errors(program)
+    errors += [it for it in in_parallel(lambda it: case_error(program, it), inputs) if it]
+    from_packets, packets = packet_errors(program)
+    errors += [*from_objects, *from_replays, *from_packets, *text_errors(program, "all frames", joined(bytes_of), bytes_of)]
     errors += from_ip + from_monitor + from_tshark + from_blocks + from_times + from_file + [*byte_errors(program, bytes_of)]
-    counted = len(all_rows) + len(checks) + frames + messages + len(bytes_of) + (read or 0) + more + timed + lines
+    counted = len(all_rows) + len(checks) + frames + messages + 2 * len(bytes_of) + (read or 0) + more + timed + lines
+    counted += len(inputs) + objects + replays + packets
     tally("show", errors, counted - len(errors))
 
 

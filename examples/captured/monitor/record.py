@@ -8,6 +8,7 @@ what `ip` of iproute2 6.1 prints for it.
 stream.bin: the datagrams, one after another. The kernel sends each message in a datagram of its own.
 lines.txt: the line of `ip -o monitor label file` for each message, with the spaces of ../ip/README.md. For this, `ip`
 runs in namespaces without these links and without lists of names.
+objects.jsonl: the object of `ip -j` for each message (../json).
 differences.tsv, written by hand: the lines in which `netlink_show` differs on purpose, as in ../ip.
 
 The namespaces hold made-up links, addresses, routes, next hops, neighbours and rules alone. The script prints the
