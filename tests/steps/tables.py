@@ -26,7 +26,7 @@ COMMON = ("linux/if_link.h", "linux/if_arp.h", "linux/rtnetlink.h", "linux/genet
 
 HEADER = re.compile(r"\blinux/\w+\.h")
 NUMBER = re.compile(r"(?m)^(?:pub(?:\(crate\))? )?const (\w+): u(?:8|16|32) = (\d+|0x[0-9a-fA-F_]+);$")
-FIELD = re.compile(r'(?m)^(?:pub )?const (\w+): Field = \("(\w+)", (\d+), Shape::(\w+)\);$')
+FIELD = re.compile(r'(?m)^(?:pub )?const (\w+): Field = \("(\w+)", (\d+), Shape::(\w+)(?:\((\d+)\))?\);$')
 STRUCT = re.compile(r"(?m)^//.*`struct (\w+)`")
 USED = re.compile(r"(?m)^use crate::(\w+)::")
 ROW = re.compile(r'(?m)^ *\(\s*(\w+),\s*(\w+),\s*"\w*",\s')
@@ -91,7 +91,7 @@ def wrong_values(text):
     headers = dict.fromkeys([*COMMON, *HEADER.findall(text)])
     headers = [it for it in headers if has_headers([*COMMON, it])]
     numbers = {name: (value, 0) for name, value in values_in(text).items()}
-    fields = {it[1]: (struct_at(text, it.start()), it[2], (int(it[3]), SIZES.get(it[4]))) for it in FIELD.finditer(text)}
+    fields = {it[1]: (struct_at(text, it.start()), it[2], (int(it[3]), int(it[5] or SIZES.get(it[4], 0)))) for it in FIELD.finditer(text)}
     statements = {it: f'printf("%llu 0\\n", (unsigned long long)({it}));' for it in numbers}
     for name, (struct, member, _) in fields.items():
         place = f"offsetof(struct {struct}, {member}) - {STARTS.get(struct, 0)}, sizeof ((struct {struct} *)0)->{member}"

@@ -23,6 +23,29 @@ four_bytes at bytes =
     rw (sym (get_or-drop at bytes 0 0), sym (get_or-drop at bytes 1 0), sym (get_or-drop at bytes 2 0), sym (get_or-drop at bytes 3 0))
     (sym (four_front (drop at bytes)))
 
+-- the same for 8 bytes
+abbrev eight : ℕ → List ℕ → List ℕ
+eight at bytes = take 8 (drop at bytes ++ replicate 8 0)
+
+eight_front : (bytes : List ℕ)
+    → take 8 (bytes ++ replicate 8 0) ≡ slice_index bytes 0 ∷ (slice_index bytes 1 ∷ (slice_index bytes 2 ∷ (slice_index bytes 3 ∷ (slice_index bytes 4 ∷ (slice_index bytes 5 ∷ (slice_index bytes 6 ∷ (slice_index bytes 7 ∷ [])))))))
+eight_front [] = refl
+eight_front (b0 ∷ []) = refl
+eight_front (b0 ∷ (b1 ∷ [])) = refl
+eight_front (b0 ∷ (b1 ∷ (b2 ∷ []))) = refl
+eight_front (b0 ∷ (b1 ∷ (b2 ∷ (b3 ∷ [])))) = refl
+eight_front (b0 ∷ (b1 ∷ (b2 ∷ (b3 ∷ (b4 ∷ []))))) = refl
+eight_front (b0 ∷ (b1 ∷ (b2 ∷ (b3 ∷ (b4 ∷ (b5 ∷ [])))))) = refl
+eight_front (b0 ∷ (b1 ∷ (b2 ∷ (b3 ∷ (b4 ∷ (b5 ∷ (b6 ∷ []))))))) = refl
+eight_front (b0 ∷ (b1 ∷ (b2 ∷ (b3 ∷ (b4 ∷ (b5 ∷ (b6 ∷ (b7 ∷ more)))))))) = refl
+
+pub eight_bytes : (at : ℕ) (bytes : List ℕ)
+    → slice_index bytes (at + 0) ∷ (slice_index bytes (at + 1) ∷ (slice_index bytes (at + 2) ∷ (slice_index bytes (at + 3) ∷ (slice_index bytes (at + 4) ∷ (slice_index bytes (at + 5) ∷ (slice_index bytes (at + 6) ∷ (slice_index bytes (at + 7) ∷ [])))))))
+    ≡ eight at bytes
+eight_bytes at bytes =
+    rw (sym (get_or-drop at bytes 0 0), sym (get_or-drop at bytes 1 0), sym (get_or-drop at bytes 2 0), sym (get_or-drop at bytes 3 0), sym (get_or-drop at bytes 4 0), sym (get_or-drop at bytes 5 0), sym (get_or-drop at bytes 6 0), sym (get_or-drop at bytes 7 0))
+    (sym (eight_front (drop at bytes)))
+
 -- zeros at the end do not change a number
 zeros_number : (w k : ℕ) → number_le (take w (replicate k 0)) ≡ 0
 unfolding number_le
@@ -41,6 +64,9 @@ width at w bytes = let n : at + w - at ≡ w = omega arith in ap (λ (k : ℕ). 
 
 pub four_number : (at : ℕ) (bytes : List ℕ) → number_le (four at bytes) ≡ number_at at 4 bytes
 four_number at bytes = filled_number 4 4 (drop at bytes) ∙ sym (width at 4 bytes)
+
+pub eight_number : (at : ℕ) (bytes : List ℕ) → number_le (eight at bytes) ≡ number_at at 8 bytes
+eight_number at bytes = filled_number 8 8 (drop at bytes) ∙ sym (width at 8 bytes)
 
 two_front : (bytes : List ℕ) → take 2 (take 4 bytes) ≡ take 2 bytes
 two_front [] = refl
@@ -83,6 +109,11 @@ pub four_range : (at m : ℕ) (bytes : List ℕ) → at + 4 ≤ length bytes + m
 four_range at m bytes less =
     sym (range_width at 4 (bytes ++ replicate m 0) ∙ range_same at 4 m 4 bytes less (omega arith))
 
+pub eight_range : (at m : ℕ) (bytes : List ℕ) → at + 8 ≤ length bytes + m
+    → eight at bytes ≡ slice_range (bytes ++ replicate m 0) at (at + 8)
+eight_range at m bytes less =
+    sym (range_width at 8 (bytes ++ replicate m 0) ∙ range_same at 8 m 8 bytes less (omega arith))
+
 pub front_bytes : (at m : ℕ) (bytes : List ℕ) → at + 2 ≤ length bytes + m
     → take 2 (four at bytes) ≡ slice_range (bytes ++ replicate m 0) at (at + 2)
 front_bytes at m bytes less =
@@ -102,3 +133,7 @@ pub front_whole : (at : ℕ) (bytes : List ℕ) → at + 2 ≤ length bytes
     → take 2 (four at bytes) ≡ slice_range bytes at (at + 2)
 front_whole at bytes inside =
     front_bytes at 0 bytes (omega (arith, inside)) ∙ ap (λ (x : List ℕ). slice_range x at (at + 2)) (append-nil bytes)
+
+pub eight_whole : (at : ℕ) (bytes : List ℕ) → at + 8 ≤ length bytes → eight at bytes ≡ slice_range bytes at (at + 8)
+eight_whole at bytes inside =
+    eight_range at 0 bytes (omega (arith, inside)) ∙ ap (λ (x : List ℕ). slice_range x at (at + 8)) (append-nil bytes)

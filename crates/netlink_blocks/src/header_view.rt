@@ -3,10 +3,11 @@
 ghost use Rattle.std.specs.Prelude.{◌≡◌, ◌+◌, ◌≤◌, ◌++◌, drop, length, replicate, slice_index, slice_range, take};
 ghost use Rattle.netlink_packet_core.specs.Fields.{number_at};
 ghost use Rattle.netlink_packet_core.specs.Numbers.{number_be, signed};
-ghost use Rattle.netlink_shapes.specs.declared.shape.Shape.TheVariants.{Be16, Be32, I32, U16, U32, U8};
+ghost use Rattle.netlink_blocks.specs.Show.{fixed_size};
+ghost use Rattle.netlink_shapes.specs.declared.shape.Shape.TheVariants.{Be16, Be32, Be64, ExactLen, I32, U16, U32, U64, U8};
 
 use netlink_packet_core::{i32_at, u16_at, u32_at};
-use netlink_shapes::decoders::{be16_in, be32_in, i32_in, u16_in, u32_in};
+use netlink_shapes::decoders::{be16_in, be32_in, be64_in, i32_in, u16_in, u32_in, u64_in};
 use netlink_shapes::shape::Shape;
 
 /// A field of a fixed header: its name, its offset in bytes, and the shape of its value.
@@ -58,6 +59,16 @@ impl<'a> HeaderView<'a> {
         u32_in(&four_at(self.bytes, field.1))
     }
 
+    /// Returns a `u64` in native byte order.
+    #[tactic(auto, using(crate::proofs::Headers::eight_number))]
+    pub fn u64(&self, field: Field) -> u64
+        requires shape { field.2 ≡ U64 }
+        requires inside { field.1 + 8 ≤ length self.now.bytes.now + self.now.missing }
+        ensures number { result ≡ number_at field.entry.1 8 self.now.bytes.now }
+    {
+        u64_in(&eight_at(self.bytes, field.1))
+    }
+
     /// Returns an `i32` in native byte order.
     #[tactic(auto, using(crate::proofs::Headers::four_number))]
     pub fn i32(&self, field: Field) -> i32
@@ -102,6 +113,34 @@ impl<'a> HeaderView<'a> {
         }
         be32_in(&four_at(self.bytes, field.1))
     }
+
+    /// Returns a big-endian `u64`.
+    #[tactic(auto, using(crate::proofs::Headers::eight_range, crate::proofs::Headers::eight_whole))]
+    pub fn be64(&self, field: Field) -> u64
+        requires shape { field.2 ≡ Be64 }
+        requires inside { field.1 + 8 ≤ length self.now.bytes.now + self.now.missing }
+        ensures number { field.entry.1 + 8 ≤ length self.now.bytes.now
+            → result ≡ number_be (slice_range self.now.bytes.now field.entry.1 (field.entry.1 + 8)) }
+        ensures filled { result
+            ≡ number_be (slice_range (self.now.bytes.now ++ replicate self.now.missing 0) field.entry.1 (field.entry.1 + 8)) }
+    {
+        be64_in(&eight_at(self.bytes, field.1))
+    }
+
+    /// Returns the bytes of a field, such as an address. Requires that the field has the shape
+    /// `ExactLen`. The bytes that a short payload lacks are left out.
+    pub fn exact(&self, field: Field) -> &'a [u8]
+        requires shape { field.2 ≡ ExactLen (fixed_size field.2) }
+        requires inside { field.1 + fixed_size field.2 ≤ length self.now.bytes.now + self.now.missing }
+        ensures bytes { result.now ≡ take (fixed_size field.entry.2) (drop field.entry.1 self.now.bytes.now) }
+        ensures size { field.entry.1 + fixed_size field.entry.2 ≤ length self.now.bytes.now
+            → length result.now ≡ fixed_size field.entry.2 }
+    {
+        match field.2 {
+            Shape::ExactLen(size) => field_bytes(self.bytes, field.1, usize::from(size)),
+            _ => &[],
+        }
+    }
 }
 
 /// Returns the 4 bytes at an offset. Those that are missing are 0.
@@ -117,6 +156,23 @@ fn four_at(bytes: &[u8], at: usize) -> [u8; 4]
     ]
 }
 
+/// Returns the 8 bytes at an offset. Those that are missing are 0.
+#[tactic(auto, using(crate::proofs::Headers::eight_bytes))]
+fn eight_at(bytes: &[u8], at: usize) -> [u8; 8]
+    ensures { result ≡ take 8 (drop at bytes.now ++ replicate 8 0) }
+{
+    [
+        byte_at(bytes, at, 0),
+        byte_at(bytes, at, 1),
+        byte_at(bytes, at, 2),
+        byte_at(bytes, at, 3),
+        byte_at(bytes, at, 4),
+        byte_at(bytes, at, 5),
+        byte_at(bytes, at, 6),
+        byte_at(bytes, at, 7),
+    ]
+}
+
 /// Returns the byte at the sum of two offsets, or 0 if it is missing.
 fn byte_at(bytes: &[u8], at: usize, more: usize) -> u8
     ensures { result ≡ slice_index bytes.now (at + more) }
@@ -125,4 +181,19 @@ fn byte_at(bytes: &[u8], at: usize, more: usize) -> u8
         return 0;
     }
     bytes[at + more]
+}
+
+/// Returns this number of bytes of a header at an offset, or those that the header has there.
+pub fn field_bytes(header: &[u8], offset: usize, size: usize) -> &[u8]
+    ensures { result.now ≡ take size (drop offset header.now) }
+{
+    if header.len() <= offset {
+        return &[];
+    }
+    let rest = &header[offset..];
+    if rest.len() <= size {
+        rest
+    } else {
+        &rest[..size]
+    }
 }

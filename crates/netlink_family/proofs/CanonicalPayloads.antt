@@ -178,12 +178,18 @@ whole_written len items new long same =
     ∙ ap (take len) (append-nil new) ∙ take_all len new (omega (arith, long, same))
 
 -- the same for the contents of a vector that was written through a borrow
+pub text_written : (size : ℕ) (rows : List Row) (items : List ℕ) (at : ℕ) (text : List ℕ) (len : ℕ) (new seen : List ℕ)
+    → is_canonical_payload size rows items ≡ true → at + length text ≤ size → length items ≡ len → seen ≡ items → new ≡ put_at seen at text
+    → is_canonical_payload size rows (take len (new ++ drop (length new) items)) ≡ true
+text_written size rows items at text len new seen is inside long same writes =
+    let fits = canonical_long size rows items is in
+    let e : new ≡ put_at items at text = writes ∙ ap (λ (x : List ℕ). put_at x at text) same in
+    let l : length new ≡ length items = ap length e ∙ put_long items at text (omega (arith, fits, inside)) in
+    ap (is_canonical_payload size rows) (whole_written len items new long l ∙ e) ∙ text_canonical size rows items at text is inside
+
 pub put_written : (size : ℕ) (rows : List Row) (items : List ℕ) (at n w len : ℕ) (new seen : List ℕ) → is_canonical_payload size rows items ≡ true
     → at + w ≤ size → length items ≡ len → seen ≡ items → new ≡ put_at seen at (bytes_le n w)
     → is_canonical_payload size rows (take len (new ++ drop (length new) items)) ≡ true
 put_written size rows items at n w len new seen is inside long same writes =
     let wide = length-bytes_le n w in
-    let fits = canonical_long size rows items is in
-    let e : new ≡ put_at items at (bytes_le n w) = writes ∙ ap (λ (x : List ℕ). put_at x at (bytes_le n w)) same in
-    let l : length new ≡ length items = ap length e ∙ put_long items at (bytes_le n w) (omega (arith, wide, fits, inside)) in
-    ap (is_canonical_payload size rows) (whole_written len items new long l ∙ e) ∙ put_canonical size rows items at n w is inside
+    text_written size rows items at (bytes_le n w) len new seen is (omega (arith, wide, inside)) long same writes

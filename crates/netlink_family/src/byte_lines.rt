@@ -8,9 +8,9 @@ ghost use Rattle.netlink_family.specs.ByteLines.{attribute_lines, block_lines_at
 
 use crate::family::{Table, rows_of};
 use crate::show::{
-    field_bytes, fixed_size, push_indent, push_name, push_nest_line, push_number, push_value_line,
+    fixed_size, push_indent, push_name, push_nest_line, push_number, push_value_line,
 };
-use netlink_blocks::header_view::Field;
+use netlink_blocks::header_view::{Field, field_bytes};
 use netlink_packet_core::{NlaBuffer, hex_pair, nla_align};
 use netlink_shapes::choice::{NO_CHOICES, kept_shape_among};
 use netlink_shapes::rows::Rows;

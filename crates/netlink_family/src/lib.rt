@@ -13,6 +13,7 @@ mod message_index;
 mod normal;
 mod owned;
 mod push;
+mod set_fields;
 mod show;
 mod view;
 

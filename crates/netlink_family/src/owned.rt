@@ -1,6 +1,6 @@
 //! A message that owns its bytes.
 
-ghost use Rattle.std.specs.Prelude.{◌≡◌, Err, ◌+◌, ◌≤◌, ◌<◌, replicate, take, ◌++◌, ◌∷◌, [], false, true, length, ℕ, None, Some, IfErr, IfOk, IfSome, IsTrue, not, refl, vec_capacity};
+ghost use Rattle.std.specs.Prelude.{◌≡◌, Err, ◌≤◌, ◌<◌, replicate, take, ◌++◌, false, true, length, ℕ, None, Some, IfErr, IfOk, IfSome, IsTrue, not, refl, vec_capacity};
 ghost use Rattle.netlink_shapes.specs.ErrorTexts.{wants_memory};
 ghost use Rattle.netlink_family.specs.PayloadReading.{short_reading};
 ghost use Rattle.netlink_shapes.specs.Errors.{short_error};
@@ -8,17 +8,13 @@ ghost use Rattle.netlink_family.specs.Tables.{table_error};
 ghost use Rattle.netlink_family.specs.Message.{message_decoding, message_reading, is_canonical_payload};
 ghost use Rattle.netlink_shapes.specs.Shapes.{has_type, keeps_by, reading_by};
 ghost use Rattle.netlink_shapes.specs.Short.{filled, is_cut, is_short, sent};
-ghost use Rattle.netlink_packet_core.specs.Numbers.{bytes_le, unsigned};
 ghost use Rattle.netlink_packet_core.specs.Protocol.{IsNormalFrame};
-ghost use Rattle.netlink_packet_core.specs.Storage.{put_at};
-ghost use Rattle.netlink_shapes.specs.declared.shape.Shape.TheVariants.{I32, U16, U32, U8};
 
 use crate::family::{Family, Table, is_short};
 use crate::normal::{append_payload, header_room};
-use netlink_blocks::header_view::{Field, HeaderView};
+use netlink_blocks::header_view::HeaderView;
 use netlink_packet_core::{
-    NetlinkDeserializable, NetlinkHeader, NetlinkProtocol, NetlinkSerializable, put_i32, put_u16,
-    put_u32,
+    NetlinkDeserializable, NetlinkHeader, NetlinkProtocol, NetlinkSerializable,
 };
 use netlink_shapes::error::{FamilyError, header_short};
 use std::alloc::{AllocError, Global};
@@ -114,65 +110,6 @@ impl<F: Table> OwnedMessage<F> {
             bytes: &self.bytes[..F::header_len(self.message_type)],
             missing: 0,
         }
-    }
-
-    /// Sets a `u8` of the header. Requires that the field has the shape `U8` and is inside the header.
-    /// A short message becomes whole.
-    pub fn set_u8(&mut self, field: Field, value: u8)
-        requires shape { field.2 ≡ U8 }
-        requires inside { field.1 + 1 ≤ F.header_len self.old.message_type }
-        ensures written { self.new.bytes.items ≡ put_at self.old.bytes.items field.entry.1 (value ∷ []) }
-        ensures message_type { self.new.message_type ≡ self.old.message_type }
-        ensures whole { self.new.short ≡ 0 }
-    {
-        header_fits(self);
-        self.short = 0;
-        self.bytes[field.1] = value;
-    }
-
-    /// Sets a `u16` of the header. Requires that the field has the shape `U16` and is inside the header.
-    /// A short message becomes whole.
-    #[tactic(auto, using(crate::proofs::CanonicalPayloads::put_canonical))]
-    pub fn set_u16(&mut self, field: Field, value: u16)
-        requires shape { field.2 ≡ U16 }
-        requires inside { field.1 + 2 ≤ F.header_len self.old.message_type }
-        ensures written { self.new.bytes.items ≡ put_at self.old.bytes.items field.entry.1 (bytes_le value 2) }
-        ensures message_type { self.new.message_type ≡ self.old.message_type }
-        ensures whole { self.new.short ≡ 0 }
-    {
-        header_fits(self);
-        self.short = 0;
-        put_u16(&mut self.bytes, field.1, value);
-    }
-
-    /// Sets a `u32` of the header. Requires that the field has the shape `U32` and is inside the header.
-    /// A short message becomes whole.
-    #[tactic(auto, using(crate::proofs::CanonicalPayloads::put_canonical))]
-    pub fn set_u32(&mut self, field: Field, value: u32)
-        requires shape { field.2 ≡ U32 }
-        requires inside { field.1 + 4 ≤ F.header_len self.old.message_type }
-        ensures written { self.new.bytes.items ≡ put_at self.old.bytes.items field.entry.1 (bytes_le value 4) }
-        ensures message_type { self.new.message_type ≡ self.old.message_type }
-        ensures whole { self.new.short ≡ 0 }
-    {
-        header_fits(self);
-        self.short = 0;
-        put_u32(&mut self.bytes, field.1, value);
-    }
-
-    /// Sets an `i32` of the header. Requires that the field has the shape `I32` and is inside the header.
-    /// A short message becomes whole.
-    #[tactic(auto, using(crate::proofs::CanonicalPayloads::put_canonical))]
-    pub fn set_i32(&mut self, field: Field, value: i32)
-        requires shape { field.2 ≡ I32 }
-        requires inside { field.1 + 4 ≤ F.header_len self.old.message_type }
-        ensures written { self.new.bytes.items ≡ put_at self.old.bytes.items field.entry.1 (bytes_le (unsigned 4 value) 4) }
-        ensures message_type { self.new.message_type ≡ self.old.message_type }
-        ensures whole { self.new.short ≡ 0 }
-    {
-        header_fits(self);
-        self.short = 0;
-        put_i32(&mut self.bytes, field.1, value);
     }
 
     /// Decodes a payload of this message type.

@@ -7,7 +7,7 @@ ghost use Rattle.netlink_blocks.specs.Show.{value_line, block_lines, each_of, fi
 
 use crate::family::{Table, rows_of};
 use crate::view::MessageView;
-use netlink_blocks::header_view::Field;
+use netlink_blocks::header_view::{Field, field_bytes};
 use netlink_packet_core::{NlasIterator, hex_pair, push_hex};
 use netlink_shapes::choice::{NO_CHOICES, kept_shape_among};
 use netlink_shapes::decoders::{
@@ -56,21 +56,6 @@ fn push_fields(text: &mut String, fields: &[Field], header: &[u8]) -> Result<(),
         rest = more;
     }
     Ok(())
-}
-
-/// Returns this number of bytes of a header at an offset, or those that the header has there.
-pub(crate) fn field_bytes(header: &[u8], offset: usize, size: usize) -> &[u8]
-    ensures { result.now ≡ take size (drop offset header.now) }
-{
-    if header.len() <= offset {
-        return &[];
-    }
-    let rest = &header[offset..];
-    if rest.len() <= size {
-        rest
-    } else {
-        &rest[..size]
-    }
 }
 
 /// Returns the size of values of a shape; 0 if it is not fixed.

@@ -225,3 +225,75 @@ fn header_fields_are_written_and_read(rt: HostRuntime) -> Result<(), Fail> {
     assert!(rt; has_view(&message, header));
     Ok(())
 }
+
+// The other shapes of a field.
+const LONG: Field = ("long", 0, Shape::U64);
+
+const BIG_LONG: Field = ("big long", 4, Shape::Be64);
+
+const ADDRESS: Field = ("address", 2, Shape::ExactLen(6));
+
+/// Sets the long fields of a rule, one over a part of the other.
+fn set_longs(message: &mut Route) {
+    if message.message_type == RTM_NEWRULE {
+        message.set_u64(LONG, 0x0807060504030201);
+        message.set_be64(BIG_LONG, 0x1112131415161718);
+    }
+}
+
+/// Sets two big-endian fields of a rule, and its address.
+fn set_others(message: &mut Route) {
+    if message.message_type == RTM_NEWRULE {
+        message.set_be32(BIG, 0x21222324);
+        message.set_be16(BIG_SHORT, 0x3132);
+        message.set_exact(ADDRESS, &[0x41, 0x42, 0x43, 0x44, 0x45, 0x46]);
+    }
+}
+
+/// Returns the long fields, and the address, of a header of 12 bytes.
+fn longs_of<'a>(header: HeaderView<'a>) -> Option<(u64, u64, &'a [u8])> {
+    if header.missing > 12 || header.bytes.len() + header.missing < 12 {
+        return None;
+    }
+    Some((
+        header.u64(LONG),
+        header.be64(BIG_LONG),
+        header.exact(ADDRESS),
+    ))
+}
+
+#[test]
+fn long_fields_are_written_and_read(rt: HostRuntime) -> Result<(), Fail> {
+    let mut message = Route::new(rt.alloc(), RTM_NEWRULE)?;
+    set_longs(&mut message);
+    let written = [1, 2, 3, 4, 0x11, 0x12, 0x13, 0x14, 0x15, 0x16, 0x17, 0x18];
+    assert_eq!(rt; message.header().bytes, written.as_slice());
+    let address: &[u8] = &[3, 4, 0x11, 0x12, 0x13, 0x14];
+    assert!(rt;
+        longs_of(message.header()) == Some((0x1413121104030201, 0x1112131415161718, address))
+    );
+    set_others(&mut message);
+    let written = [
+        1, 2, 0x41, 0x42, 0x43, 0x44, 0x45, 0x46, 0x15, 0x16, 0x17, 0x18,
+    ];
+    assert_eq!(rt; message.header().bytes, written.as_slice());
+    Ok(())
+}
+
+/// The bytes that a short payload lacks are 0 in a number, and left out of an address.
+#[test]
+fn long_fields_of_a_short_payload_are_read(rt: HostRuntime) -> Result<(), Fail> {
+    let header = HeaderView {
+        bytes: &[2, 0, 7, 5],
+        missing: 8,
+    };
+    let address: &[u8] = &[7, 5];
+    assert!(rt; longs_of(header) == Some((0x05070002, 0, address)));
+    let header = HeaderView {
+        bytes: &[2, 0, 7, 5, 9],
+        missing: 7,
+    };
+    let address: &[u8] = &[7, 5, 9];
+    assert!(rt; longs_of(header) == Some((0x0905070002, 0x0900000000000000, address)));
+    Ok(())
+}
