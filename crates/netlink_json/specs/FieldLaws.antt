@@ -1,11 +1,10 @@
 -- Members and items, as they are written one after another.
 use Rattle.std.proofs.Common.{◌≡◌, ◌∙◌, ◌++◌, ap, refl, sym, subst, ℕ, List, [], ◌∷◌, append_assoc, append-nil, codes, map}
 use Rattle.std.proofs.lemmas.List.Sums.{fold-append}
-use Rattle.std.specs.List.{fold}
-use Rattle.netlink_json.specs.Fields.{Field, Written, absent, braced, bracketed, field_text, followed, items_of, joined, members_of, no_field, object_of, object_text, present, raw_array, raw_end, raw_field, raw_items, raw_member, raw_text, raw_value, values_text, with_field, with_fields, with_item, with_items, with_parts, with_raw_array, with_raw_items}
+use Rattle.netlink_json.specs.Fields.{Field, Written, absent, braced, bracketed, field_text, followed, items_of, joined, members_of, no_field, object_of, object_text, present, raw_array, raw_end, raw_field, raw_items, raw_member, raw_text, values_text, with_field, with_fields, with_item, with_items, with_parts, with_raw_array, with_raw_items}
 use Rattle.netlink_json.specs.Grammar.{AreLines, IsValue}
 use Rattle.netlink_json.specs.JsonLaws.{value_valid}
-use Rattle.netlink_json.specs.Json.{Items, Json, Members, array, item, items_text, json_text, member, members_text, no_items, no_members, object}
+use Rattle.netlink_json.specs.Json.{Json, Members, array, json_text, member, members_text, no_members, object}
 use Rattle.netlink_json.specs.Strings.{string_text}
 
 pair : {a b c d : List ℕ} → a ≡ b → c ≡ d → (λ (w : Written). w) (a, c) ≡ (b, d)

@@ -1,5 +1,5 @@
 -- The members of an object, written one after another.
-use Rattle.std.specs.Prelude.{ℕ, ◌≡◌, List, [], ◌∷◌, ◌++◌, map, codes, String, if◌then◌else◌, string_bytes}
+use Rattle.std.specs.Prelude.{ℕ, ◌≡◌, List, [], ◌∷◌, ◌++◌, map, codes, if◌then◌else◌, string_bytes}
 use Rattle.std.specs.List.{fold}
 use Rattle.std.specs.Str.{is_utf8}
 use Rattle.netlink_packet_core.specs.Text.{hex_text}

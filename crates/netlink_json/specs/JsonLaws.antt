@@ -1,10 +1,10 @@
 -- The texts of values are values of the grammar.
-use Rattle.std.proofs.Common.{◌≡◌, ◌∙◌, ◌<◌, ◌≤◌, ◌^◌, ◌/◌, ◌%◌, ◌+◌, ◌++◌, ◌==◌, ◌&&◌, ◌||◌, not, ap, arith, refl, sym, subst, true≢false, ℕ, zero, suc, ℤ, pos, negsuc, Bool, true, false, List, [], ◌∷◌, append-nil, append_assoc, codes, decimal, if◌then◌else◌, nat_le, nat_lt}
+use Rattle.std.proofs.Common.{◌≡◌, ◌<◌, ◌≤◌, ◌^◌, ◌/◌, ◌%◌, ◌+◌, ◌++◌, ◌==◌, ◌&&◌, ◌||◌, ap, arith, refl, sym, subst, ℕ, zero, suc, ℤ, pos, negsuc, Bool, true, false, List, [], ◌∷◌, append-nil, codes, if◌then◌else◌, nat_lt}
 use Rattle.std.proofs.lemmas.Bool.{eqb-true}
 use Rattle.std.proofs.lemmas.Fmt.{decimal_by_steps_wide}
 use Rattle.std.specs.List.{list_all}
 use Rattle.std.specs.Str.{is_utf8}
-use Rattle.netlink_packet_core.specs.Text.{hex_digit, hex_pair}
+use Rattle.netlink_packet_core.specs.Text.{hex_digit}
 use Rattle.netlink_json.specs.Grammar.{AreChars, AreItems, AreMembers, IsNatural, IsString, IsValue, is_digit, is_hex, is_plain}
 use Rattle.netlink_json.specs.Json as json
 use Rattle.netlink_json.specs.Json.{Items, Json, Members, items_text, json_text, members_text, number_text, signed_text}

@@ -1,6 +1,5 @@
 -- Strings of JSON (RFC 8259, section 7).
-use Rattle.std.specs.Prelude.{ℕ, ◌==◌, ◌%◌, ◌||◌, Bool, true, List, [], ◌∷◌, ◌++◌, codes, nat_lt, if◌then◌else◌}
-use Rattle.std.specs.List.{fold}
+use Rattle.std.specs.Prelude.{ℕ, ◌==◌, ◌%◌, ◌||◌, Bool, List, [], ◌∷◌, ◌++◌, codes, nat_lt, if◌then◌else◌}
 use Rattle.std.specs.Str.{is_utf8}
 use Rattle.netlink_packet_core.specs.Text.{hex_pair}
 

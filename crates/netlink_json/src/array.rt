@@ -1,6 +1,6 @@
 //! Arrays.
 
-ghost use Rattle.std.specs.Prelude.{◌≡◌, ◌++◌, OnOk, codes, string_bytes};
+ghost use Rattle.std.specs.Prelude.{◌≡◌, ◌++◌, OnOk, string_bytes};
 ghost use Rattle.netlink_json.specs.Fields.{AddsItem, AddsObjectItem, bracketed, items_written, no_field};
 ghost use Rattle.netlink_json.specs.Json.{text};
 

@@ -1,13 +1,13 @@
 -- What is shown as objects is lines of values of JSON.
-use Rattle.std.proofs.Common.{◌≡◌, ◌∙◌, ◌++◌, ap, refl, sym, subst, ℕ, List, [], ◌∷◌, append-nil, codes, Option, Some, None, if◌then◌else◌}
+use Rattle.std.proofs.Common.{◌≡◌, sym, subst, ℕ, List, [], ◌∷◌, Option, Some, None, if◌then◌else◌}
 use Rattle.std.specs.List.{fold}
 use Rattle.std.specs.Prelude.{Bool, true, false}
 use Rattle.netlink_json.specs.FieldLaws.{lines_after, object_line}
 use Rattle.netlink_json.specs.Grammar.{AreLines}
 use Rattle.netlink_lines.specs.Format.{Told, tell, told_from, told_nothing}
 use Rattle.netlink_lines.specs.Messages.{Check, Lines, Memory, Seen, all_lines, good, known_after, seen_lines, seen_object, unless_time}
-use Rattle.netlink_lines.specs.Objects.{Shown, bad_fields, front_parts, item_parts, line_of, netlink_fields}
-use Rattle.netlink_lines.specs.Packet.{content_object, content_shown, content_text, from_stop, is_silent, stop_line, stop_shown}
+use Rattle.netlink_lines.specs.Objects.{bad_fields, front_parts, item_parts, netlink_fields}
+use Rattle.netlink_lines.specs.Packet.{content_shown, content_text, from_stop, is_silent, stop_line, stop_shown}
 use Rattle.netlink_lines.specs.Stream.{messages_of}
 use Rattle.netlink_lines.specs.Time.{time_in}
 use Rattle.netlink_lines.specs.declared.packet.Content.{Content}

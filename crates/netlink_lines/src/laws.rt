@@ -3,9 +3,8 @@
 ghost use Rattle.std.specs.Prelude.{◌≡◌, ℕ, Bool, List, Option, true};
 ghost use Rattle.netlink_json.specs.Grammar.{AreLines};
 ghost use Rattle.netlink_lines.specs.Format.{told_from};
-ghost use Rattle.netlink_lines.specs.Messages.{Check, Memory};
 ghost use Rattle.netlink_lines.specs.Blocks.{ShowsBlocks};
-ghost use Rattle.netlink_lines.specs.Messages.{Seen};
+ghost use Rattle.netlink_lines.specs.Messages.{Check, Memory, Seen};
 ghost use Rattle.netlink_lines.specs.Packet.{HasTorn, ShowsPackets, Stamped, content_shown, stop_shown};
 ghost use Rattle.netlink_lines.specs.Stream.{ShowsMessages, messages_of};
 ghost use Rattle.netlink_lines.specs.declared.packet.Content.{Content};

@@ -1,6 +1,6 @@
 //! The packets of a pcap or pcapng file, and what each is shown as.
 
-ghost use Rattle.std.specs.Prelude.{◌≡◌, ◌<◌, ◌+◌, ◌++◌, ◌≤◌, ◌^◌, ◌⊎◌, [], IfErr, IfOk, string_bytes};
+ghost use Rattle.std.specs.Prelude.{◌≡◌, ◌<◌, ◌+◌, ◌++◌, ◌≤◌, ◌^◌, [], IfErr, IfOk, string_bytes};
 ghost use Rattle.netlink_lines.specs.Check.{check_of};
 ghost use Rattle.netlink_lines.specs.Messages.{memory_of};
 ghost use Rattle.netlink_lines.specs.Packet.{TellsDatagram, TellsExtent, TellsPacket, TellsTorn, are_zeros, content_lines, content_object, content_of, content_shown, content_text, from_stop, is_partial, is_route, is_silent, stop_line, stop_shown};

@@ -1,12 +1,12 @@
 -- Members and items that a loop writes one after another.
-use Rattle.std.proofs.Common.{◌≡◌, ◌∙◌, ◌==◌, ap, refl, sym, ℕ, Bool, true, false, List, [], ◌∷◌, if◌then◌else◌}
+use Rattle.std.proofs.Common.{◌≡◌, ◌∙◌, ◌==◌, refl, ℕ, Bool, true, false, List, [], ◌∷◌, if◌then◌else◌}
 use Rattle.std.specs.Int.Bits.{bit_and}
 use Rattle.std.specs.List.{fold}
 use denote.Ref.{Bor}
-use Rattle.netlink_json.specs.Fields.{Written, with_field, with_fields, with_item, with_items}
+use Rattle.netlink_json.specs.Fields.{Written, with_field, with_fields, with_items}
 use Rattle.netlink_json.specs.Json.{Json, text}
 use Rattle.netlink_names.specs.declared.device.Known.{Known}
-use Rattle.netlink_objects.specs.Forms.{Names, bit_names, names_in}
+use Rattle.netlink_objects.specs.Forms.{bit_names, names_in}
 use Rattle.netlink_objects.specs.Rows.{row_field, row_fields, rows_in}
 use Rattle.netlink_objects.specs.declared.form.Form.{Form}
 use Rattle.netlink_objects.specs.declared.row.Place.{Place}

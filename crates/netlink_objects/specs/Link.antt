@@ -2,7 +2,6 @@
 use Rattle.std.specs.Prelude.{ℕ, ◌==◌, not, Bool, false, true, List, [], ◌∷◌, ◌++◌, bytes_eq, codes, drop, length, map, take, Option, Some, None, if◌then◌else◌}
 use Rattle.std.specs.Fmt.{digits}
 use Rattle.std.specs.Int.Bits.{bit_and}
-use Rattle.std.specs.Option.{option_map}
 use Rattle.netlink_family.specs.Finding.{first_at, found_in}
 use Rattle.netlink_family.specs.Listing.{listed}
 use Rattle.netlink_family.specs.Strings.{until_nul}

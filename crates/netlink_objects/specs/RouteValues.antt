@@ -1,5 +1,5 @@
 -- Values of routes and of next hops.
-use Rattle.std.specs.Prelude.{ℕ, ℤ, ◌==◌, ◌&&◌, ◌||◌, ◌/◌, ◌%◌, not, Bool, false, List, [], ◌∷◌, ◌++◌, length, int_div, nat_lt, pos, Option, Some, None, codes, if◌then◌else◌}
+use Rattle.std.specs.Prelude.{ℕ, ℤ, ◌==◌, ◌||◌, ◌/◌, ◌%◌, not, Bool, false, List, [], ◌∷◌, ◌++◌, length, int_div, nat_lt, pos, Option, Some, None, codes, if◌then◌else◌}
 use Rattle.std.specs.Fmt.{digits}
 use Rattle.std.specs.Int.Bits.{bit_and}
 use Rattle.std.specs.Ordering.{int_eq}

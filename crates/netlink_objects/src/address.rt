@@ -1,6 +1,6 @@
 //! The object of an address.
 
-ghost use Rattle.std.specs.Prelude.{◌≡◌, OnOk, codes};
+ghost use Rattle.std.specs.Prelude.{◌≡◌, OnOk};
 ghost use Rattle.std.specs.Option.{option_copied};
 ghost use Rattle.netlink_json.specs.Fields.{Adds, AddsParts};
 ghost use Rattle.netlink_objects.specs.Address.{address_parts, first_flag, flag_rows, flags_in, own_rows, peer_field, place_rows};

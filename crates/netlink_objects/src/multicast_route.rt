@@ -1,6 +1,6 @@
 //! The object of a route of multicast routing.
 
-ghost use Rattle.std.specs.Prelude.{◌≡◌, IfOk, OnOk, codes, length, map, string_bytes, take};
+ghost use Rattle.std.specs.Prelude.{◌≡◌, OnOk, codes, length, map, take};
 ghost use Rattle.netlink_family.specs.Finding.{first_at};
 ghost use Rattle.netlink_family.specs.Listing.{listed};
 ghost use Rattle.netlink_family.specs.Values.{value_bytes};

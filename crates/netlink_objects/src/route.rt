@@ -1,7 +1,6 @@
 //! The object of a route.
 
-ghost use Rattle.std.specs.Prelude.{◌≡◌, IfOk, OnOk, codes, drop, string_bytes, take};
-ghost use Rattle.netlink_family.specs.Finding.{first_at};
+ghost use Rattle.std.specs.Prelude.{◌≡◌, IfOk, OnOk, codes, string_bytes};
 ghost use Rattle.netlink_json.specs.Fields.{Adds, AddsAll, AddsParts, present};
 ghost use Rattle.netlink_json.specs.Json as json;
 ghost use Rattle.netlink_objects.specs.Forms.{word_json};

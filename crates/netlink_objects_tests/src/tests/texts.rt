@@ -1,6 +1,6 @@
 //! Texts of values (RFC 8259).
 
-use netlink_json::{Array, Object};
+use netlink_json::Object;
 use std::alloc::Global;
 use std::process::Abort;
 

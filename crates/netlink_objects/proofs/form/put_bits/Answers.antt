@@ -1,7 +1,6 @@
-use Rattle.std.proofs.Common.{◌∙◌, ap, arith, List, ℕ}
+use Rattle.std.proofs.Common.{◌∙◌, ap, arith}
 use Rattle.std.proofs.lemmas.List.{take_all}
 use Rattle.std.specs.List.{fold}
-use denote.Ref.{Bor}
 use Rattle.netlink_json.specs.Fields.{items_written}
 use Rattle.netlink_objects.proofs.Loops.{bit_step, bits_all}
 use Rattle.netlink_objects.proofs.form.put_bits.Goals as goal

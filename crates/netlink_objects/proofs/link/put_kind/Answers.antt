@@ -1,4 +1,4 @@
-use Rattle.std.proofs.Common.{◌∙◌, ap, codes, List, [], ◌∷◌}
+use Rattle.std.proofs.Common.{◌∙◌, ap, codes, [], ◌∷◌}
 use Rattle.netlink_json.specs.Fields.{Field, Written, present, with_field}
 use Rattle.netlink_json.specs.Json.{text}
 use Rattle.netlink_objects.proofs.link.put_kind.Goals as goal

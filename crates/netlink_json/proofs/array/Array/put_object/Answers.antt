@@ -1,4 +1,4 @@
-use Rattle.std.proofs.Common.{◌≡◌, ◌∙◌, ◌++◌, ap, arith, ℕ, List, codes, rules, string_bytes}
+use Rattle.std.proofs.Common.{◌≡◌, ◌∙◌, ◌++◌, ap, ℕ, List, codes, rules, string_bytes}
 use Rattle.netlink_json.specs.Fields.{object_text, written}
 use Rattle.netlink_json.specs.FieldLaws.{item_object}
 use Rattle.netlink_json.proofs.array.Array.put_object.Goals as goal

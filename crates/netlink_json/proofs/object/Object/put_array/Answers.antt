@@ -1,4 +1,4 @@
-use Rattle.std.proofs.Common.{◌≡◌, ◌∙◌, ◌++◌, ap, ℕ, List, string_bytes}
+use Rattle.std.proofs.Common.{◌∙◌, ◌++◌, ap, ℕ, List, string_bytes}
 use Rattle.netlink_json.specs.Fields.{bracketed, items_written, with_raw_array}
 use Rattle.netlink_json.specs.FieldLaws.{member_array}
 use Rattle.netlink_json.proofs.object.Object.put_array.Goals as goal

@@ -1,4 +1,4 @@
-use Rattle.std.proofs.Common.{◌≡◌, ◌∙◌, ◌++◌, ap, ℕ, List, string_bytes}
+use Rattle.std.proofs.Common.{◌∙◌, ◌++◌, ap, ℕ, List, string_bytes}
 use Rattle.netlink_json.specs.Fields.{object_text, written}
 use Rattle.netlink_json.specs.FieldLaws.{member_object}
 use Rattle.netlink_json.proofs.object.Object.put_object.Goals as goal
