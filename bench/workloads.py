@@ -1,5 +1,7 @@
-"""Times the workloads of bench/workloads.txt in two built checkouts, by turns. bench/run calls this."""
+"""The workloads of bench/workloads.txt in built checkouts: their times, by turns, and their instructions. bench/run and
+bench/all call this."""
 import os
+import re
 import statistics
 import subprocess
 import sys
@@ -7,6 +9,8 @@ import time
 
 HERE = os.path.dirname(os.path.abspath(__file__))
 TURNS = 7
+# The instructions are counted at a tenth of a workload's size, or at this part of it.
+PARTS = {"links": 15}
 
 
 def workloads():
@@ -16,8 +20,9 @@ def workloads():
     return [(name, crate, words) for name, crate, *words in lines]
 
 
-def once(folder, crate, words):
-    """Runs a program in the folder bench/ of a checkout. Returns the seconds that it took, and its output."""
+def run(folder, crate, words, **how):
+    """Runs a program in the folder bench/ of a checkout, under the words of `under`. Returns the ended process."""
+    under = how.pop("under", [])
     program = os.path.join(folder, "crates", crate, "out", crate)
     bench = os.path.join(folder, "bench")
     stdin = subprocess.DEVNULL
@@ -25,17 +30,50 @@ def once(folder, crate, words):
         *words, file = words
         stdin = open(os.path.join(bench, file[1:]), "rb")
     try:
-        begun = time.perf_counter()
-        run = subprocess.run([program, *words], cwd=bench, stdin=stdin, stdout=subprocess.PIPE)
-        seconds = time.perf_counter() - begun
+        done = subprocess.run([*under, program, *words], cwd=bench, stdin=stdin, stdout=subprocess.PIPE, **how)
     except OSError as why:
         sys.exit(f"{program}: {why.strerror}; `rt run` in crates/{crate} builds it")
     finally:
         if stdin is not subprocess.DEVNULL:
             stdin.close()
-    if run.returncode:
-        sys.exit(f"{program} {' '.join(words)} ends with status {run.returncode}")
-    return seconds, run.stdout
+    if done.returncode:
+        sys.exit(f"{program} {' '.join(words)} ends with status {done.returncode}")
+    return done
+
+
+def once(folder, crate, words):
+    """Runs a workload in a checkout. Returns the seconds that it took, and its output."""
+    begun = time.perf_counter()
+    done = run(folder, crate, words)
+    return time.perf_counter() - begun, done.stdout
+
+
+def seeded(words, seed):
+    return [str(seed) if word == "SEED" else word for word in words]
+
+
+def timed(folders, seed):
+    """Yields for each workload its name, the medians of its times in each of the two folders, and whether their outputs
+    are the same."""
+    for name, crate, words in workloads():
+        times = {folder: [] for folder in folders}
+        outputs = set()
+        for turn in range(TURNS):
+            for folder in folders if turn % 2 == 0 else folders[::-1]:
+                seconds, output = once(folder, crate, seeded(words, seed))
+                times[folder].append(seconds)
+                outputs.add(output)
+        yield name, *(statistics.median(times[folder]) for folder in folders), len(outputs) == 1
+
+
+def counted(folder, name, seed):
+    """Returns the instructions of a part of a workload in a checkout."""
+    crate, words = next((crate, words) for it, crate, words in workloads() if it == name)
+    job, size, *rest = seeded(words, seed)
+    part = str(int(size) // PARTS.get(name, 10))
+    under = ["valgrind", "--tool=callgrind", "--callgrind-out-file=/dev/null"]
+    done = run(folder, crate, [job, part, *rest], under=under, stderr=subprocess.PIPE, text=True)
+    return int(re.search(r"Collected : (\d+)", done.stderr)[1])
 
 
 def compare(folders, seed):
@@ -44,17 +82,8 @@ def compare(folders, seed):
     differing = []
     print("| workload | seconds at the start | seconds now | start over now |")
     print("|---|--:|--:|--:|", flush=True)
-    for name, crate, words in workloads():
-        words = [str(seed) if word == "SEED" else word for word in words]
-        times = {folder: [] for folder in folders}
-        outputs = set()
-        for turn in range(TURNS):
-            for folder in folders if turn % 2 == 0 else folders[::-1]:
-                seconds, output = once(folder, crate, words)
-                times[folder].append(seconds)
-                outputs.add(output)
-        old, new = (statistics.median(times[folder]) for folder in folders)
+    for name, old, new, is_same in timed(folders, seed):
         print(f"| {name} | {old:.3f} | {new:.3f} | {old / new:.2f} |", flush=True)
-        differing += [name] * (len(outputs) > 1)
+        differing += [] if is_same else [name]
     if differing:
         sys.exit(f"the outputs differ: {', '.join(differing)}")
