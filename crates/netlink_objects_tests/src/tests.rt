@@ -1,6 +1,10 @@
 //! Objects of messages that are made by hand, and texts of values.
 
+mod made_routes;
+mod made_rules;
+mod mpls_and_multicast;
 mod route_objects;
+mod routes;
 mod rule_objects;
 mod table_objects;
 mod texts;
