@@ -1,0 +1,4 @@
+//! Structs and flags by the headers of Linux.
+
+mod flags;
+mod structs;
