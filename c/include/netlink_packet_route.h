@@ -49,7 +49,8 @@ enum {
     NLP_VALUE_SHORT = 45,    /* a value is shorter than its kind allows     kind, policy, offset, expected, received */
     NLP_ADDRESS_SIZE = 46,   /* an address has neither 4 nor 16 bytes       kind, policy, offset, received */
     NLP_TOO_DEEP = 47,       /* a nest inside eight others                  kind, policy, offset */
-    NLP_LATE_CHOICE = 48     /* of no payload; only nlp_route_error_text knows it */
+    NLP_LATE_CHOICE = 48,    /* of no payload; only nlp_route_error_text knows it */
+    NLP_NO_MULTIPLE = 49     /* a size is no multiple of an element's       kind, policy, offset, expected, received */
 };
 
 /* A view of a message or of a nest: parts of the payload. Only these functions need its fields. */
@@ -182,6 +183,8 @@ enum {
     NLP_SHAPE_NESTED = 16,        /* a nest, whose attributes have the shapes of `policy` */
     NLP_SHAPE_HEADER_NESTED = 17, /* the same, after a header of `size` bytes */
     NLP_SHAPE_CHOSEN = 18,        /* of the table alone: the functions write the shape that was chosen instead */
+    NLP_SHAPE_BE_I32 = 19,        /* a signed integer of 4 bytes in big-endian byte order */
+    NLP_SHAPE_ELEMENTS = 20,      /* elements of `size` bytes, one after another */
     NLP_SHAPE_ANY = 0xffff        /* of nlp_view_check: any shape */
 };
 
@@ -285,7 +288,7 @@ static inline const char *nlp_shape_name(uint16_t shape)
 {
     static const char *const names[] = { "bytes", "u8", "u16", "u32", "i32", "u64", "i64", "be16", "be32", "be64",
                                          "flag", "ip", "nul_str", "str", "exact", "min", "nest", "header nest",
-                                         "chosen" };
+                                         "chosen", "be_i32", "elements" };
     return shape < sizeof names / sizeof names[0] ? names[shape] : "any";
 }
 

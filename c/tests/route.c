@@ -84,7 +84,7 @@ static void constants(void)
         { "NLP_VALUE_SIZE", NLP_VALUE_SIZE, 42 }, { "NLP_NOT_TERMINATED", NLP_NOT_TERMINATED, 43 },
         { "NLP_INTERIOR_NUL", NLP_INTERIOR_NUL, 44 }, { "NLP_VALUE_SHORT", NLP_VALUE_SHORT, 45 },
         { "NLP_ADDRESS_SIZE", NLP_ADDRESS_SIZE, 46 }, { "NLP_TOO_DEEP", NLP_TOO_DEEP, 47 },
-        { "NLP_LATE_CHOICE", NLP_LATE_CHOICE, 48 },
+        { "NLP_LATE_CHOICE", NLP_LATE_CHOICE, 48 }, { "NLP_NO_MULTIPLE", NLP_NO_MULTIPLE, 49 },
     };
     for (size_t at = 0; at < sizeof rows / sizeof rows[0]; at++)
         expect(rows[at].name, rows[at].value == rows[at].wanted);
@@ -249,6 +249,7 @@ static void texts(void)
         { { 43, 3, 2, 8, 0, 0 }, "at byte 8, in policy 2: attribute 3 is not a string whose only NUL is its last byte" },
         { { 47, 3, 2, 8, 0, 0 }, "at byte 8, in policy 2: attribute 3 is nested too deeply" },
         { { 48, 3, 2, 8, 0, 0 }, "at byte 8, in policy 2: attribute 3 comes after an attribute whose shape it chooses" },
+        { { 49, 3, 2, 8, 4, 5 }, "at byte 8, in policy 2: attribute 3 has a value of 5 bytes, no multiple of 4" },
         { { 33, 0, 0, 0, 0, 0 }, "the attributes are too long" },
         { { 16, 0, 0, 0, 0, 0 }, "out of memory" },
     };

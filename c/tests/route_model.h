@@ -287,6 +287,7 @@ static inline size_t model_error_text(const struct nlp_route_error *e, char *tex
     case NLP_NOT_TERMINATED: size += snprintf(rest, capacity, "attribute %lu is not a string whose only NUL is its last byte", kind); break;
     case NLP_INTERIOR_NUL: size += snprintf(rest, capacity, "attribute %lu is a string with a NUL before its last byte", kind); break;
     case NLP_VALUE_SHORT: size += snprintf(rest, capacity, "attribute %lu has a value of %lu bytes instead of %lu or more", kind, received, expected); break;
+    case NLP_NO_MULTIPLE: size += snprintf(rest, capacity, "attribute %lu has a value of %lu bytes, no multiple of %lu", kind, received, expected); break;
     case NLP_ADDRESS_SIZE: size += snprintf(rest, capacity, "attribute %lu has an address of %lu bytes instead of 4 or 16", kind, received); break;
     case NLP_TOO_DEEP: size += snprintf(rest, capacity, "attribute %lu is nested too deeply", kind); break;
     case NLP_LATE_CHOICE: size += snprintf(rest, capacity, "attribute %lu comes after an attribute whose shape it chooses", kind); break;

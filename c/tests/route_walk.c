@@ -80,11 +80,12 @@ static void constants(void)
         { NLP_SHAPE_BE32, 8, "be32" }, { NLP_SHAPE_BE64, 9, "be64" }, { NLP_SHAPE_FLAG, 10, "flag" }, { NLP_SHAPE_IP, 11, "ip" },
         { NLP_SHAPE_NUL_STR, 12, "nul_str" }, { NLP_SHAPE_STR, 13, "str" }, { NLP_SHAPE_EXACT_LEN, 14, "exact" },
         { NLP_SHAPE_MIN_LEN, 15, "min" }, { NLP_SHAPE_NESTED, 16, "nest" }, { NLP_SHAPE_HEADER_NESTED, 17, "header nest" },
-        { NLP_SHAPE_CHOSEN, 18, "chosen" }, { NLP_SHAPE_ANY, 65535, "any" },
+        { NLP_SHAPE_CHOSEN, 18, "chosen" }, { NLP_SHAPE_BE_I32, 19, "be_i32" }, { NLP_SHAPE_ELEMENTS, 20, "elements" },
+        { NLP_SHAPE_ANY, 65535, "any" },
     };
     for (size_t at = 0; at < sizeof rows / sizeof rows[0]; at++)
         expect(rows[at].name, rows[at].value == rows[at].wanted && strcmp(nlp_shape_name(rows[at].wanted), rows[at].name) == 0);
-    expect("a number that is no shape", strcmp(nlp_shape_name(19), "any") == 0);
+    expect("a number that is no shape", strcmp(nlp_shape_name(21), "any") == 0);
     expect("the shapes of fields", NLP_IFI_FAMILY % 256 == NLP_SHAPE_U8 && NLP_IFI_TYPE % 256 == NLP_SHAPE_U16
         && NLP_IFI_FLAGS % 256 == NLP_SHAPE_U32 && NLP_IFI_INDEX % 256 == NLP_SHAPE_I32);
 }

@@ -41,13 +41,14 @@ fn flat_number(value: Value<'_>) -> usize {
         Value::U16(number) | Value::Be16(number) => number as usize,
         Value::U32(number) | Value::Be32(number) => number as usize,
         Value::U64(number) | Value::Be64(number) => number as usize,
-        Value::I32(number) => number.cast_unsigned() as usize,
+        Value::I32(number) | Value::BeI32(number) => number.cast_unsigned() as usize,
         Value::I64(number) => number.cast_unsigned() as usize,
         Value::ExactLen(bytes)
         | Value::Ip(bytes)
         | Value::NulStr(bytes)
         | Value::Str(bytes)
         | Value::MinLen(_, bytes)
+        | Value::Elements(_, bytes)
         | Value::Bytes(bytes) => bytes.len(),
         Value::Nested(nest) => nest.block.len(),
         Value::HeaderNested(header, nest) => header.bytes.len().wrapping_add(nest.block.len()),

@@ -1,5 +1,5 @@
 -- The attributes of a block that has the shapes of a policy.
-use Rattle.std.proofs.Common.{◌≡◌, ℕ, ◌-◌, true, List, [], refl, Option, Some, None}
+use Rattle.std.proofs.Common.{◌≡◌, ℕ, true, List, refl, Option, Some, None}
 use Rattle.netlink_packet_core.specs.Attribute.{Attribute}
 use Rattle.netlink_packet_core.specs.Numbers.{IsBytes}
 use Rattle.netlink_packet_core.specs.Reading.{attributes_in}

@@ -1,15 +1,17 @@
 -- Finding the first attribute of a kind.
-use Rattle.std.specs.Prelude.{ℕ, ℤ, List, drop, slice_index, take, Option, Some, None}
+use Rattle.std.specs.Prelude.{ℕ, ℤ, List, drop, length, slice_index, take, Option, Some, None}
 use Rattle.std.specs.Option.{option_map}
 use Rattle.netlink_packet_core.specs.Attribute.{Attribute}
 use Rattle.netlink_packet_core.specs.Numbers.{number_be, number_le, signed}
 use Rattle.netlink_packet_core.specs.Reading.{attributes_in}
 pub use Rattle.netlink_shapes.specs.Listing.{first_of}
-use Rattle.netlink_shapes.specs.Shapes.{rows_in, shape_among, within}
+use Rattle.netlink_shapes.specs.Errors.{nest_error}
+use Rattle.netlink_shapes.specs.Shapes.{Row, nest_levels, rows_in, shape_among, within}
 use Rattle.netlink_shapes.specs.Strings.{until_nul}
 use Rattle.netlink_blocks.specs.declared.block_view.BlockView.{BlockView}
+use Rattle.netlink_shapes.specs.declared.attribute_error.AttributeError.{AttributeError}
 use Rattle.netlink_shapes.specs.declared.shape.Shape.{Shape}
-use Rattle.netlink_shapes.specs.declared.shape.Shape.TheVariants.{U8, U16, U32, U64, I32, I64, Be16, Be32, Be64, ExactLen, Ip, NulStr, Str, MinLen, Nested, HeaderNested, Bytes}
+use Rattle.netlink_shapes.specs.declared.shape.Shape.TheVariants.{U8, U16, U32, U64, I32, I64, Be16, Be32, Be64, BeI32, ExactLen, Ip, NulStr, Str, MinLen, Elements, Nested, HeaderNested, Bytes}
 
 -- the first attribute of a kind, if the walk has no error
 abbrev pub first_in : ℕ → Option (List Attribute) → Option (List ℕ)
@@ -73,6 +75,10 @@ abbrev pub be64_by : Shape → Option (List ℕ) → Option ℕ
 be64_by Be64 found = option_map number_be found
 be64_by _ found = None
 
+abbrev pub be_i32_by : Shape → Option (List ℕ) → Option ℤ
+be_i32_by BeI32 found = option_map (λ value. signed 4 (number_be value)) found
+be_i32_by _ found = None
+
 -- a string without its NUL
 abbrev pub str_by : Shape → Option (List ℕ) → Option (List ℕ)
 str_by NulStr found = option_map until_nul found
@@ -92,6 +98,22 @@ abbrev pub bytes_by : Shape → Option (List ℕ) → Option (List ℕ)
 bytes_by Bytes found = found
 bytes_by (MinLen size) found = found
 bytes_by _ found = None
+
+-- the elements of a list: the size of each, and their bytes
+abbrev pub elements_by : Shape → Option (List ℕ) → Option (ℕ × List ℕ)
+elements_by (Elements size) found = option_map (λ value. (size, value)) found
+elements_by _ found = None
+
+-- the fewest bytes of a value of this shape, if it states them
+abbrev pub least_by : Shape → ℕ
+least_by (MinLen size) = size
+least_by _ = 0
+
+-- the first error of a value that is read as attributes of a policy; its offset is counted from the
+-- start of the value
+abbrev pub error_as : List Row → ℕ → Option (List ℕ) → Option AttributeError
+error_as rows policy None = None
+error_as rows policy (Some value) = nest_error nest_levels rows policy (length value) value
 
 -- the attributes of a nest, and their policy
 abbrev pub nest_by : Shape → Option (List ℕ) → Option (List ℕ)

@@ -1,18 +1,21 @@
 -- Facts about the first attribute of a kind.
-use Rattle.std.specs.Prelude.{ℕ, ◌≡◌, ◌==◌, length, IfNone, Bool, true, false, List, [], ◌∷◌, Option, Some, None, refl, if◌then◌else◌}
+use Rattle.std.specs.Prelude.{ℕ, zero, suc, ◌≡◌, ◌==◌, ◌≤◌, ◌<◌, ◌%◌, not, length, is_none, IfNone, Bool, true, false, List, [], ◌∷◌, Option, Some, None, refl, if◌then◌else◌}
 use Rattle.std.specs.List.{list_all}
 use Rattle.std.proofs.Common.{ap, arith, sym, ◌∙◌}
-use Rattle.std.proofs.lemmas.Bool.{and_parts, eqb-true}
+use Rattle.std.proofs.lemmas.Bool.{and_parts, eqb-true, leb-true}
 use Rattle.netlink_packet_core.specs.Attribute.{Attribute}
 use Rattle.netlink_packet_core.specs.ReadingLaws.{attributes_in-walk}
 use Rattle.netlink_packet_core.specs.Views.{masked}
-use Rattle.netlink_blocks.specs.Finding.{bytes_by, exact_by, first_in, found_in, i32_by, ip_by, nest_by, str_by, u16_by, u32_by, u64_by, u8_by}
+use Rattle.netlink_blocks.specs.Finding.{bytes_by, exact_by, first_in, found_in, i32_by, ip_by, least_by, nest_by, str_by, u16_by, u32_by, u64_by, u8_by}
+use Rattle.netlink_shapes.specs.ErrorLaws as errors
+use Rattle.netlink_shapes.specs.Errors.{nest_error, value_error}
 use Rattle.netlink_shapes.specs.Listing.{first_of, listed, listed_all}
 use Rattle.netlink_shapes.specs.NestLaws.{kind_has}
-use Rattle.netlink_shapes.specs.Shapes.{Scope, any_kind, fits_in, has_shape, is_shaped, nest_levels, or_first, resolved, row_at, shape_by, shape_among}
+use Rattle.netlink_shapes.specs.Shapes.{Row, Scope, any_kind, fits_in, has_shape, is_block_shaped, is_multiple, is_shaped, nest_levels, or_first, resolved, row_at, shape_by, shape_among, within}
 use Rattle.netlink_shapes.specs.Fitting.{AreShaped, fits_at}
+use Rattle.netlink_shapes.specs.declared.attribute_error.AttributeError.{AttributeError}
 use Rattle.netlink_shapes.specs.declared.shape.Shape.{Shape}
-use Rattle.netlink_shapes.specs.declared.shape.Shape.TheVariants.{U8, U16, U32, U64, I32, I64, Be16, Be32, Be64}
+use Rattle.netlink_shapes.specs.declared.shape.Shape.TheVariants.{U8, U16, U32, U64, I32, I64, Be16, Be32, Be64, BeI32, ExactLen, MinLen, Elements}
 
 -- ---- in a list
 
@@ -67,6 +70,10 @@ known_size known size by scope policy kind value shape at is fit =
     eqb-true (length value) size (sym (by value) ∙ ap (λ (s : Shape). has_shape s value) (sym is ∙ at)
     ∙ kind_has scope policy kind value fit)
 
+least_fits : (shape : Shape) (value : List ℕ) → has_shape shape value ≡ true → least_by shape ≤ length value
+least_fits (MinLen size) value is = leb-true size (length value) is
+least_fits shape value is = omega arith
+
 pub u8_size : HasSize U8 1
 u8_size = known_size U8 1 (λ v. refl)
 
@@ -93,6 +100,63 @@ be32_size = known_size Be32 4 (λ v. refl)
 
 pub be64_size : HasSize Be64 8
 be64_size = known_size Be64 8 (λ v. refl)
+
+pub be_i32_size : HasSize BeI32 4
+be_i32_size = known_size BeI32 4 (λ v. refl)
+
+-- and a value of a size or of a minimum size has as many bytes
+pub exact_size : (scope : Scope) (policy kind size : ℕ) (value : List ℕ) (shape : Shape)
+    → shape ≡ shape_among scope policy kind → shape ≡ ExactLen size → fits_in scope policy kind value ≡ true
+    → shape_among scope policy kind ≡ ExactLen (length value)
+exact_size scope policy kind size value shape at is fit =
+    let same : length value ≡ size =
+    eqb-true (length value) size (ap (λ (s : Shape). has_shape s value) (sym is ∙ at) ∙ kind_has scope policy kind value fit) in
+    sym at ∙ is ∙ ap ExactLen (sym same)
+
+pub least_size : (scope : Scope) (policy kind : ℕ) (value : List ℕ) (shape : Shape)
+    → shape ≡ shape_among scope policy kind → fits_in scope policy kind value ≡ true
+    → least_by (shape_among scope policy kind) ≤ length value
+least_size scope policy kind value shape at fit =
+    least_fits (shape_among scope policy kind) value (kind_has scope policy kind value fit)
+
+-- the elements of a list have a size, and no bytes follow them
+not_none : (size : ℕ) → not (size == 0) ≡ true → 0 < size
+not_none zero is = absurd (cc)
+not_none (suc n) is = omega arith
+
+multiple : (scope : Scope) (policy kind size : ℕ) (value : List ℕ) (shape : Shape)
+    → shape ≡ shape_among scope policy kind → shape ≡ Elements size → fits_in scope policy kind value ≡ true
+    → is_multiple (length value) size ≡ true
+multiple scope policy kind size value shape at is fit =
+    ap (λ (s : Shape). has_shape s value) (sym is ∙ at) ∙ kind_has scope policy kind value fit
+
+pub element_size : (scope : Scope) (policy kind size : ℕ) (value : List ℕ) (shape : Shape)
+    → shape ≡ shape_among scope policy kind → shape ≡ Elements size → fits_in scope policy kind value ≡ true
+    → 0 < size
+element_size scope policy kind size value shape at is fit =
+    not_none size (and_parts (not (size == 0)) _ (multiple scope policy kind size value shape at is fit)).0
+
+pub whole_elements : (scope : Scope) (policy kind size : ℕ) (value : List ℕ) (shape : Shape)
+    → shape ≡ shape_among scope policy kind → shape ≡ Elements size → fits_in scope policy kind value ≡ true
+    → length value % size ≡ 0
+whole_elements scope policy kind size value shape at is fit =
+    eqb-true (length value % size) 0
+    (and_parts (not (size == 0)) _ (multiple scope policy kind size value shape at is fit)).1
+
+pub nothing_left : (rest : List ℕ) → length rest ≡ 0 → rest ≡ []
+nothing_left [] none = refl
+nothing_left (b ∷ more) none = absurd (omega (arith, none))
+
+-- ---- a value that is read as attributes
+
+-- attributes without an error have the shapes of the policy
+pub nest_checked : (rows : List Row) (policy end : ℕ) (block : List ℕ)
+    → nest_error nest_levels rows policy end block ≡ None → is_block_shaped nest_levels rows policy block ≡ true
+nest_checked rows policy end block none =
+    let scope = within rows block in
+    sym (errors.first_shaped (value_error nest_levels scope policy)
+    (λ a. is_shaped nest_levels scope.0 (shape_among scope policy a.kind) a.value) policy end (length block) block
+    (λ at a. errors.value_shaped nest_levels scope policy at a.kind a.value)) ∙ ap (λ (o : Option AttributeError). is_none o) none
 
 -- if there is no value, what follows from it
 pub none_then : {X : Type 0} (r : Option X) {P Q : Type 0} → IfNone r P → (P → Q) → IfNone r Q

@@ -10,7 +10,7 @@ use Rattle.netlink_shapes.specs.Listing.{listed}
 use Rattle.netlink_shapes.specs.Shapes.{Field, Row, by_nest, has_shape, nest_block, nest_levels, nest_of, nest_start, row_in, Scope, shape_among, within}
 use Rattle.netlink_shapes.specs.Strings.{until_nul}
 use Rattle.netlink_shapes.specs.declared.shape.Shape.{Shape}
-use Rattle.netlink_shapes.specs.declared.shape.Shape.TheVariants.{Flag, U8, U16, U32, U64, I32, I64, Be16, Be32, Be64, ExactLen, Ip, NulStr, Str, MinLen, Nested, HeaderNested, Chosen, Bytes}
+use Rattle.netlink_shapes.specs.declared.shape.Shape.TheVariants.{Flag, U8, U16, U32, U64, I32, I64, Be16, Be32, Be64, BeI32, ExactLen, Ip, NulStr, Str, MinLen, Elements, Nested, HeaderNested, Chosen, Bytes}
 
 -- the texts of bytes, one after another
 abbrev pub each_of : (ℕ → List ℕ) → List ℕ → List ℕ
@@ -39,11 +39,13 @@ shaped_text I64 value = signed_decimal (signed 8 (number_le value))
 shaped_text Be16 value = decimal (number_be value)
 shaped_text Be32 value = decimal (number_be value)
 shaped_text Be64 value = decimal (number_be value)
+shaped_text BeI32 value = signed_decimal (signed 4 (number_be value))
 shaped_text NulStr value = each_of escaped (until_nul value)
 shaped_text Str value = each_of escaped (until_nul value)
 shaped_text (ExactLen size) value = hex_text value
 shaped_text Ip value = hex_text value
 shaped_text (MinLen size) value = hex_text value
+shaped_text (Elements size) value = hex_text value
 shaped_text (Nested policy) value = hex_text value
 shaped_text (HeaderNested size policy) value = hex_text value
 shaped_text (Chosen by policy) value = hex_text value
@@ -114,6 +116,7 @@ fixed_size I64 = 8
 fixed_size Be16 = 2
 fixed_size Be32 = 4
 fixed_size Be64 = 8
+fixed_size BeI32 = 4
 fixed_size (ExactLen size) = size
 fixed_size _ = 0
 

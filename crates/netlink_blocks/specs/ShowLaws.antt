@@ -1,5 +1,5 @@
 -- The text of an attribute and of a block, step by step.
-use Rattle.std.specs.Prelude.{ℕ, zero, suc, ◌≡◌, ◌+◌, ◌-◌, ◌<◌, List, [], ◌++◌, Option, Some, None}
+use Rattle.std.specs.Prelude.{ℕ, zero, suc, ◌≡◌, ◌+◌, ◌-◌, ◌<◌, List, ◌++◌, Option, Some, None}
 use Rattle.std.proofs.Common.{ap, arith, sym, ◌∙◌}
 use Rattle.netlink_shapes.specs.Shapes.{Scope, by_nest, nest_block, nest_of, nest_start, shape_among}
 use Rattle.netlink_blocks.specs.Show.{value_line, block_lines, label_text, nest_line, value_lines}

@@ -1,7 +1,7 @@
 -- How a decoded value relates to its bytes.
 use Rattle.std.specs.Prelude.{ℕ, ◌≡◌, Bool, true, false, nat_le, List, [], ◌∷◌, ◌++◌, length, ⊤}
 use Rattle.netlink_packet_core.specs.Numbers.{bytes_be, bytes_le, number_be, number_le, signed, unsigned}
-use Rattle.netlink_shapes.specs.Shapes.{Row, has_shape, nul_only_last, nul_terminated, rows_in}
+use Rattle.netlink_shapes.specs.Shapes.{Row, has_shape, is_multiple, nul_only_last, nul_terminated, rows_in}
 use Rattle.netlink_shapes.specs.declared.shape.Shape.{Shape}
 use Rattle.netlink_shapes.specs.declared.shape.Shape.TheVariants as shape
 use Rattle.netlink_blocks.specs.declared.value.Value.{Value}
@@ -18,11 +18,13 @@ value_shape (variant.I64 n) = shape.I64
 value_shape (variant.Be16 n) = shape.Be16
 value_shape (variant.Be32 n) = shape.Be32
 value_shape (variant.Be64 n) = shape.Be64
+value_shape (variant.BeI32 n) = shape.BeI32
 value_shape (variant.ExactLen b) = shape.ExactLen (length b.now)
 value_shape (variant.Ip b) = shape.Ip
 value_shape (variant.NulStr b) = shape.NulStr
 value_shape (variant.Str b) = shape.Str
 value_shape (variant.MinLen size b) = shape.MinLen size
+value_shape (variant.Elements size b) = shape.Elements size
 value_shape (variant.Nested inner) = shape.Nested inner.policy
 value_shape (variant.HeaderNested header inner) = shape.HeaderNested (length header.bytes.now) inner.policy
 value_shape (variant.Bytes b) = shape.Bytes
@@ -38,11 +40,13 @@ IsValueOf (variant.I64 n) bytes = n ≡ signed 8 (number_le bytes)
 IsValueOf (variant.Be16 n) bytes = n ≡ number_be bytes
 IsValueOf (variant.Be32 n) bytes = n ≡ number_be bytes
 IsValueOf (variant.Be64 n) bytes = n ≡ number_be bytes
+IsValueOf (variant.BeI32 n) bytes = n ≡ signed 4 (number_be bytes)
 IsValueOf (variant.ExactLen b) bytes = b.now ≡ bytes
 IsValueOf (variant.Ip b) bytes = b.now ≡ bytes
 IsValueOf (variant.NulStr b) bytes = b.now ≡ bytes
 IsValueOf (variant.Str b) bytes = b.now ≡ bytes
 IsValueOf (variant.MinLen size b) bytes = b.now ≡ bytes
+IsValueOf (variant.Elements size b) bytes = b.now ≡ bytes
 IsValueOf (variant.Nested inner) bytes = inner.block.now ≡ bytes
 IsValueOf (variant.HeaderNested header inner) bytes = header.bytes.now ++ inner.block.now ≡ bytes
 IsValueOf (variant.Bytes b) bytes = b.now ≡ bytes
@@ -59,11 +63,13 @@ value_bytes (variant.I64 n) = bytes_le (unsigned 8 n) 8
 value_bytes (variant.Be16 n) = bytes_be n 2
 value_bytes (variant.Be32 n) = bytes_be n 4
 value_bytes (variant.Be64 n) = bytes_be n 8
+value_bytes (variant.BeI32 n) = bytes_be (unsigned 4 n) 4
 value_bytes (variant.ExactLen b) = b.now
 value_bytes (variant.Ip b) = b.now
 value_bytes (variant.NulStr b) = b.now
 value_bytes (variant.Str b) = b.now
 value_bytes (variant.MinLen size b) = b.now
+value_bytes (variant.Elements size b) = b.now
 value_bytes (variant.Nested inner) = inner.block.now
 value_bytes (variant.HeaderNested header inner) = header.bytes.now ++ inner.block.now
 value_bytes (variant.Bytes b) = b.now
@@ -74,6 +80,7 @@ is_satisfied (variant.Ip b) = has_shape shape.Ip b.now
 is_satisfied (variant.NulStr b) = nul_terminated b.now
 is_satisfied (variant.Str b) = nul_only_last b.now
 is_satisfied (variant.MinLen size b) = nat_le size (length b.now)
+is_satisfied (variant.Elements size b) = is_multiple (length b.now) size
 is_satisfied (variant.Nested inner) = false
 is_satisfied (variant.HeaderNested header inner) = false
 is_satisfied _ = true
@@ -104,9 +111,11 @@ kept_bytes (variant.I64 n) bytes kept is = absurd (cc)
 kept_bytes (variant.Be16 n) bytes kept is = absurd (cc)
 kept_bytes (variant.Be32 n) bytes kept is = absurd (cc)
 kept_bytes (variant.Be64 n) bytes kept is = absurd (cc)
+kept_bytes (variant.BeI32 n) bytes kept is = absurd (cc)
 kept_bytes (variant.ExactLen b) bytes kept is = absurd (cc)
 kept_bytes (variant.Ip b) bytes kept is = absurd (cc)
 kept_bytes (variant.NulStr b) bytes kept is = absurd (cc)
 kept_bytes (variant.MinLen size b) bytes kept is = absurd (cc)
+kept_bytes (variant.Elements size b) bytes kept is = absurd (cc)
 kept_bytes (variant.Nested inner) bytes kept is = absurd (cc)
 kept_bytes (variant.Bytes b) bytes kept is = absurd (cc)

@@ -1,25 +1,31 @@
 //! The getters of a block of attributes, the same for messages and nests.
 
-ghost use Rattle.std.specs.Prelude.{◌≡◌, ◌↔◌, None, Some, IfNone, IfSome, IsSome, IsSomeAnd, length, true};
+ghost use Rattle.std.specs.Prelude.{◌≡◌, ◌↔◌, ◌≤◌, ◌<◌, [], None, Some, IfErr, IfNone, IfOk, IfSome, IsSome, IsSomeAnd, length, true};
+ghost use Rattle.std.specs.Option.{option_map};
+ghost use Rattle.std.specs.Slice.Iter.{chunks_exact_remainder, chunks_exact_rest, chunks_exact_size};
 ghost use Rattle.std.specs.Str.{IsUtf8};
 ghost use Rattle.netlink_packet_core.specs.Steps.{unread};
-ghost use Rattle.netlink_blocks.specs.Finding.{be16_by, be32_by, be64_by, bytes_by, exact_by, found_at, i32_by, i64_by, ip_by, nest_by, nest_header_by, policy_by, shape_at, str_by, u16_by, u32_by, u64_by, u8_by};
+ghost use Rattle.netlink_blocks.specs.Finding.{be16_by, be32_by, be64_by, be_i32_by, bytes_by, elements_by, error_as, exact_by, found_at, i32_by, i64_by, ip_by, least_by, nest_by, nest_header_by, policy_by, shape_at, str_by, u16_by, u32_by, u64_by, u8_by};
 ghost use Rattle.netlink_shapes.specs.Shapes.{fits_in, nest_start, rows_in, within};
 ghost use Rattle.netlink_shapes.specs.Fitting.{AreShaped};
 ghost use Rattle.netlink_blocks.specs.Values.{NestHasRows, IsValueOf, value_shape};
+ghost use Rattle.netlink_blocks.specs.declared.block_view.BlockView.{BlockView};
+ghost use Rattle.netlink_shapes.specs.declared.shape.Shape.TheVariants.{ExactLen};
 
 use crate::attributes::Attributes;
 use crate::block_view::BlockView;
 use crate::header_view::HeaderView;
 use crate::value::{Value, value_in};
 use netlink_packet_core::NlasIterator;
+use netlink_shapes::attribute_error::{AttributeError, error_in};
 use netlink_shapes::choice::{NO_CHOICES, chosen_by, far_row_shape, near_shape};
 use netlink_shapes::decoders::{
-    be16_in, be32_in, be64_in, bytes_until_nul, i32_in, i64_in, str_until_nul, u16_in, u32_in,
-    u64_in,
+    be_i32_in, be16_in, be32_in, be64_in, bytes_until_nul, i32_in, i64_in, str_until_nul, u16_in,
+    u32_in, u64_in,
 };
 use netlink_shapes::find::first_whole;
-use netlink_shapes::shape::{Shape, nest_block, policy_of};
+use netlink_shapes::shape::{NEST_LEVELS, Shape, nest_block, policy_of};
+use std::slice::ChunksExact;
 
 impl<'a> BlockView<'a> {
     /// Returns the shape of this kind in the block. For a kind whose shape is `Chosen`, that is the
@@ -76,6 +82,34 @@ impl<'a> BlockView<'a> {
             }),
             None => None,
         }
+    }
+
+    /// Checks the value of the first attribute of this kind as attributes of `policy`, and returns a
+    /// view of them, or `None` if there is no such attribute. It is for a kind to which no table can
+    /// give a policy, because that depends on the message's header, an outer block or the request;
+    /// such a kind has the shape `Bytes`. The shape that the table gives the kind does not matter.
+    ///
+    /// Returns the first error of these attributes, with its offset in bytes from the start of the
+    /// value. At most eight nests may be inside one another there.
+    #[tactic(auto, using(crate::specs::FindingLaws::nest_checked))]
+    pub fn nest_as(&self, kind: u16, policy: u16) -> Result<Option<BlockView<'a>>, AttributeError>
+        ensures ok { IfOk result (λ nest. option_map (λ (v : BlockView). v.block.now) nest ≡ found_at self.now kind) }
+        ensures good { IfOk result (λ _. error_as (rows_in self.now.rows.list.now) policy (found_at self.now kind) ≡ None) }
+        ensures error { IfErr result (λ e. error_as (rows_in self.now.rows.list.now) policy (found_at self.now kind) ≡ Some e) }
+        ensures policy { IfOk result (λ nest. IfSome nest (λ v. v.policy ≡ policy)) }
+        ensures rows { IfOk result (λ nest. IfSome nest (λ v. v.rows.list.now ≡ self.now.rows.list.now)) }
+    {
+        let Some(block) = self.first(kind) else {
+            return Ok(None);
+        };
+        if let Some(error) = error_in(NEST_LEVELS, self.rows, policy, block.len(), block) {
+            return Err(error);
+        }
+        Ok(Some(BlockView {
+            rows: self.rows,
+            policy,
+            block,
+        }))
     }
 
     /// Returns the header of the nest in the first attribute of this kind. Returns `None` if and
@@ -204,6 +238,18 @@ impl<'a> BlockView<'a> {
         }
     }
 
+    /// Returns the value of the first attribute of this kind. Returns `None` if and only if there
+    /// is no such attribute or the table gives the kind another shape than `BeI32`.
+    #[tactic(auto, using(crate::specs::FindingLaws::be_i32_size))]
+    pub fn be_i32(&self, kind: u16) -> Option<i32>
+        ensures { result ≡ be_i32_by (shape_at self.now kind) (found_at self.now kind) }
+    {
+        match self.shape(kind) {
+            Shape::BeI32 => Some(be_i32_in(self.first(kind)?)),
+            _ => None,
+        }
+    }
+
     /// Returns the string in the first attribute of this kind, without its NUL. Returns `None` if
     /// and only if there is no such attribute or the table gives the kind another shape than `Str`
     /// and `NulStr`.
@@ -242,10 +288,13 @@ impl<'a> BlockView<'a> {
     }
 
     /// Returns the value of the first attribute of this kind. Returns `None` if and only if there
-    /// is no such attribute or the table gives the kind another shape than `ExactLen`.
+    /// is no such attribute or the table gives the kind another shape than `ExactLen`. The value has
+    /// the number of bytes of that shape.
+    #[tactic(auto, using(crate::specs::FindingLaws::exact_size))]
     pub fn exact(&self, kind: u16) -> Option<&'a [u8]>
         ensures some { IfSome result (λ v. exact_by (shape_at self.now kind) (found_at self.now kind) ≡ Some v.now) }
         ensures none { IfNone result (exact_by (shape_at self.now kind) (found_at self.now kind) ≡ None) }
+        ensures size { IfSome result (λ v. shape_at self.now kind ≡ ExactLen (length v.now)) }
     {
         match self.shape(kind) {
             Shape::ExactLen(_) => self.first(kind),
@@ -254,13 +303,32 @@ impl<'a> BlockView<'a> {
     }
 
     /// Returns the value of the first attribute of this kind. Returns `None` if and only if there
-    /// is no such attribute or the table gives the kind another shape than `Bytes` and `MinLen`.
+    /// is no such attribute or the table gives the kind another shape than `Bytes` and `MinLen`. A
+    /// value of the shape `MinLen` has at least the number of bytes of that shape.
+    #[tactic(auto, using(crate::specs::FindingLaws::least_size))]
     pub fn bytes(&self, kind: u16) -> Option<&'a [u8]>
         ensures some { IfSome result (λ v. bytes_by (shape_at self.now kind) (found_at self.now kind) ≡ Some v.now) }
         ensures none { IfNone result (bytes_by (shape_at self.now kind) (found_at self.now kind) ≡ None) }
+        ensures least { IfSome result (λ v. least_by (shape_at self.now kind) ≤ length v.now) }
     {
         match self.shape(kind) {
             Shape::Bytes | Shape::MinLen(_) => self.first(kind),
+            _ => None,
+        }
+    }
+
+    /// Returns an iterator over the elements in the first attribute of this kind: the bytes of each,
+    /// of the size that the shape states. No byte is left after them. Returns `None` if and only if
+    /// there is no such attribute or the table gives the kind another shape than `Elements`.
+    #[tactic(auto, using(crate::specs::FindingLaws::element_size, crate::specs::FindingLaws::whole_elements, crate::specs::FindingLaws::nothing_left))]
+    pub fn elements(&self, kind: u16) -> Option<ChunksExact<'a, u8>>
+        ensures some { IfSome result (λ v. elements_by (shape_at self.now kind) (found_at self.now kind) ≡ Some (chunks_exact_size v, chunks_exact_rest v)) }
+        ensures none { IfNone result (elements_by (shape_at self.now kind) (found_at self.now kind) ≡ None) }
+        ensures size { IfSome result (λ v. 0 < chunks_exact_size v) }
+        ensures whole { IfSome result (λ v. chunks_exact_remainder v ≡ []) }
+    {
+        match self.shape(kind) {
+            Shape::Elements(size) => Some(self.first(kind)?.chunks_exact(usize::from(size))),
             _ => None,
         }
     }

@@ -1,8 +1,9 @@
 //! The getters of a block with the places of its attributes, with the contracts of those of
 //! `BlockView`.
 
-ghost use Rattle.std.specs.Prelude.{◌≡◌, None, Some, IfNone, IfSome};
-ghost use Rattle.netlink_blocks.specs.Finding.{bytes_by, exact_by, found_at, i32_by, ip_by, nest_by, policy_by, shape_at, str_by, u16_by, u32_by, u64_by, u8_by};
+ghost use Rattle.std.specs.Prelude.{◌≡◌, ◌≤◌, None, Some, IfNone, IfSome, length};
+ghost use Rattle.netlink_blocks.specs.Finding.{bytes_by, exact_by, found_at, i32_by, ip_by, least_by, nest_by, policy_by, shape_at, str_by, u16_by, u32_by, u64_by, u8_by};
+ghost use Rattle.netlink_shapes.specs.declared.shape.Shape.TheVariants.{ExactLen};
 
 use crate::block_index::BlockIndex;
 use crate::block_view::BlockView;
@@ -119,11 +120,13 @@ impl<'a> BlockIndex<'a> {
     }
 
     /// Returns the value of the first attribute of this kind. Returns `None` if and only if there
-    /// is no such attribute or the table gives the kind another shape than `ExactLen`.
-    #[tactic(auto, using(crate::specs::FindingLaws::exact_none))]
+    /// is no such attribute or the table gives the kind another shape than `ExactLen`. The value has
+    /// the number of bytes of that shape.
+    #[tactic(auto, using(crate::specs::FindingLaws::exact_none, crate::specs::FindingLaws::exact_size))]
     pub fn exact(&self, kind: u16) -> Option<&'a [u8]>
         ensures some { IfSome result (λ v. exact_by (shape_at self.now.view kind) (found_at self.now.view kind) ≡ Some v.now) }
         ensures none { IfNone result (exact_by (shape_at self.now.view kind) (found_at self.now.view kind) ≡ None) }
+        ensures size { IfSome result (λ v. shape_at self.now.view kind ≡ ExactLen (length v.now)) }
     {
         match self.shape_if_placed(kind)? {
             Shape::ExactLen(_) => self.first(kind),
@@ -132,11 +135,13 @@ impl<'a> BlockIndex<'a> {
     }
 
     /// Returns the value of the first attribute of this kind. Returns `None` if and only if there
-    /// is no such attribute or the table gives the kind another shape than `Bytes` and `MinLen`.
-    #[tactic(auto, using(crate::specs::FindingLaws::bytes_none))]
+    /// is no such attribute or the table gives the kind another shape than `Bytes` and `MinLen`. A
+    /// value of the shape `MinLen` has at least the number of bytes of that shape.
+    #[tactic(auto, using(crate::specs::FindingLaws::bytes_none, crate::specs::FindingLaws::least_size))]
     pub fn bytes(&self, kind: u16) -> Option<&'a [u8]>
         ensures some { IfSome result (λ v. bytes_by (shape_at self.now.view kind) (found_at self.now.view kind) ≡ Some v.now) }
         ensures none { IfNone result (bytes_by (shape_at self.now.view kind) (found_at self.now.view kind) ≡ None) }
+        ensures least { IfSome result (λ v. least_by (shape_at self.now.view kind) ≤ length v.now) }
     {
         match self.shape_if_placed(kind)? {
             Shape::Bytes | Shape::MinLen(_) => self.first(kind),

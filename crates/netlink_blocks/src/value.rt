@@ -8,7 +8,7 @@ ghost use Rattle.netlink_blocks.specs.Values.{NestHasRows, IsValueOf, value_shap
 use crate::block_view::BlockView;
 use crate::header_view::HeaderView;
 use netlink_shapes::decoders::{
-    be16_in, be32_in, be64_in, bytes_until_nul, i32_in, i64_in, u16_in, u32_in, u64_in,
+    be_i32_in, be16_in, be32_in, be64_in, bytes_until_nul, i32_in, i64_in, u16_in, u32_in, u64_in,
 };
 use netlink_shapes::rows::Rows;
 use netlink_shapes::shape::Shape;
@@ -36,6 +36,8 @@ pub enum Value<'a> {
     Be32(u32),
     /// A big-endian `u64`.
     Be64(u64),
+    /// A big-endian `i32`.
+    BeI32(i32),
     /// The number of bytes that the shape requires.
     ExactLen(&'a [u8]),
     /// An IP address, 4 or 16 bytes.
@@ -46,6 +48,8 @@ pub enum Value<'a> {
     Str(&'a [u8]),
     /// Bytes with this minimum size.
     MinLen(u16, &'a [u8]),
+    /// Elements of this number of bytes, one after another.
+    Elements(u16, &'a [u8]),
     /// A nest: a view of its attributes.
     Nested(BlockView<'a>),
     /// A nest after a fixed header, and a view of its attributes.
@@ -74,11 +78,13 @@ pub fn value_in<'a>(rows: Rows, shape: Shape, bytes: &'a [u8]) -> Value<'a>
         Shape::Be16 => Value::Be16(be16_in(bytes)),
         Shape::Be32 => Value::Be32(be32_in(bytes)),
         Shape::Be64 => Value::Be64(be64_in(bytes)),
+        Shape::BeI32 => Value::BeI32(be_i32_in(bytes)),
         Shape::ExactLen(_) => Value::ExactLen(bytes),
         Shape::Ip => Value::Ip(bytes),
         Shape::NulStr => Value::NulStr(bytes),
         Shape::Str => Value::Str(bytes),
         Shape::MinLen(size) => Value::MinLen(size, bytes),
+        Shape::Elements(size) => Value::Elements(size, bytes),
         Shape::Nested(policy) => nest_in(rows, policy, bytes),
         Shape::HeaderNested { size, policy } => header_nest_in(rows, size, policy, bytes),
         Shape::Chosen { .. } => unreachable!(),

@@ -16,7 +16,7 @@ use Rattle.netlink_shapes.specs.Shapes.{Row, Scope, any_kind, choice_by, is_shap
 use Rattle.netlink_shapes.specs.ListingLaws.{before_step}
 use Rattle.netlink_shapes.specs.declared.attribute_error.AttributeError.{AttributeError}
 use Rattle.netlink_shapes.specs.declared.shape.Shape.{Shape}
-use Rattle.netlink_shapes.specs.declared.shape.Shape.TheVariants.{Flag, U8, U16, U32, U64, I32, I64, Be16, Be32, Be64, ExactLen, Ip, NulStr, Str, MinLen, Nested, HeaderNested, Chosen, Bytes}
+use Rattle.netlink_shapes.specs.declared.shape.Shape.TheVariants.{Flag, U8, U16, U32, U64, I32, I64, Be16, Be32, Be64, BeI32, ExactLen, Ip, NulStr, Str, MinLen, Elements, Nested, HeaderNested, Chosen, Bytes}
 
 -- ---- a kind that chooses no shape
 
@@ -125,11 +125,13 @@ resolved_push rows all a I64 is = refl
 resolved_push rows all a Be16 is = refl
 resolved_push rows all a Be32 is = refl
 resolved_push rows all a Be64 is = refl
+resolved_push rows all a BeI32 is = refl
 resolved_push rows all a (ExactLen size) is = refl
 resolved_push rows all a Ip is = refl
 resolved_push rows all a NulStr is = refl
 resolved_push rows all a Str is = refl
 resolved_push rows all a (MinLen size) is = refl
+resolved_push rows all a (Elements size) is = refl
 resolved_push rows all a (Nested policy) is = refl
 resolved_push rows all a (HeaderNested size policy) is = refl
 resolved_push rows all a Bytes is = refl

@@ -1,7 +1,7 @@
 //! Appending attributes to an owned message.
 
-ghost use Rattle.std.specs.Prelude.{◌≡◌, ◌++◌, drop, Err, None, Some, IfErr, OnOk, false, true};
-ghost use Rattle.netlink_packet_core.specs.Attribute.{padded};
+ghost use Rattle.std.specs.Prelude.{◌≡◌, ◌≤◌, ◌++◌, drop, length, Err, None, Some, IfErr, OnOk, false, true};
+ghost use Rattle.netlink_packet_core.specs.Attribute.{padded, value_max};
 ghost use Rattle.netlink_packet_core.specs.Nla.{attribute_with};
 ghost use Rattle.netlink_shapes.specs.ErrorTexts.{wants_memory};
 ghost use Rattle.netlink_shapes.specs.Pushing.{added_error, has_room, late_error, push_error, room_error, satisfied_error};
@@ -13,7 +13,9 @@ use crate::family::Table;
 use crate::late::{added_error, late_error};
 use crate::owned::{OwnedMessage, header_fits};
 use netlink_blocks::value::Value;
-use netlink_packet_core::{NLA_BLOCK_MAX, NLA_HEADER_SIZE, NLA_VALUE_MAX, append_nla, nla_align};
+use netlink_packet_core::{
+    DecodeError, NLA_BLOCK_MAX, NLA_HEADER_SIZE, NLA_VALUE_MAX, append_nla, nla_align,
+};
 use netlink_shapes::error::FamilyError;
 use std::alloc::{AllocError, Global};
 
@@ -85,11 +87,13 @@ impl<F: Table> OwnedMessage<F> {
             Value::Be16(number) => self.append_attribute(alloc, kind, &number.to_be_bytes()),
             Value::Be32(number) => self.append_attribute(alloc, kind, &number.to_be_bytes()),
             Value::Be64(number) => self.append_attribute(alloc, kind, &number.to_be_bytes()),
+            Value::BeI32(number) => self.append_attribute(alloc, kind, &number.to_be_bytes()),
             Value::ExactLen(bytes)
             | Value::Ip(bytes)
             | Value::NulStr(bytes)
             | Value::Str(bytes)
             | Value::MinLen(_, bytes)
+            | Value::Elements(_, bytes)
             | Value::Bytes(bytes) => self.append_attribute(alloc, kind, bytes),
             Value::Nested(_) | Value::HeaderNested(_, _) => unreachable!(),
         }
@@ -152,7 +156,7 @@ impl<F: Table> OwnedMessage<F> {
         ensures unchanged_short { IfErr result (λ _. self.new.short ≡ self.old.short) }
         ensures message_type { self.new.message_type ≡ self.old.message_type }
     {
-        match append_nla(alloc, &mut self.bytes, kind, value) {
+        match append_value(alloc, &mut self.bytes, kind, value) {
             Ok(()) => {
                 self.short = 0;
                 Ok(())
@@ -169,6 +173,28 @@ impl<F: Table> OwnedMessage<F> {
         let used = self.bytes.len() - F::header_len(self.message_type);
         value.len() <= NLA_VALUE_MAX
             && used <= NLA_BLOCK_MAX - nla_align(NLA_HEADER_SIZE + value.len())
+    }
+}
+
+/// Appends an attribute to a block, as `append_nla` does. Most values have 4 bytes, which the compiler
+/// copies without a call.
+#[inline(always)]
+fn append_value(
+    alloc: Global,
+    block: &mut Vec<u8>,
+    kind: u16,
+    value: &[u8],
+) -> Result<(), DecodeError>
+    requires fits { length value.now ≤ value_max }
+    ensures ok { OnOk result
+        (block.new.items ≡ block.old.items ++ padded (attribute_with kind value.now)) }
+    ensures err { IfErr result (λ _. block.new.items ≡ block.old.items) }
+{
+    match value {
+        [first, second, third, fourth] => {
+            append_nla(alloc, block, kind, &[*first, *second, *third, *fourth])
+        }
+        _ => append_nla(alloc, block, kind, value),
     }
 }
 

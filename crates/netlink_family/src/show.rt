@@ -11,7 +11,7 @@ use netlink_blocks::header_view::{Field, field_bytes};
 use netlink_packet_core::{NlasIterator, hex_pair, push_hex};
 use netlink_shapes::choice::{NO_CHOICES, kept_shape_among};
 use netlink_shapes::decoders::{
-    be16_in, be32_in, be64_in, bytes_until_nul, i32_in, i64_in, u16_in, u32_in, u64_in,
+    be_i32_in, be16_in, be32_in, be64_in, bytes_until_nul, i32_in, i64_in, u16_in, u32_in, u64_in,
 };
 use netlink_shapes::rows::Rows;
 use netlink_shapes::shape::{
@@ -65,7 +65,7 @@ pub(crate) fn fixed_size(shape: Shape) -> usize
     match shape {
         Shape::U8 => 1,
         Shape::U16 | Shape::Be16 => 2,
-        Shape::U32 | Shape::I32 | Shape::Be32 => 4,
+        Shape::U32 | Shape::I32 | Shape::Be32 | Shape::BeI32 => 4,
         Shape::U64 | Shape::I64 | Shape::Be64 => 8,
         Shape::ExactLen(size) => usize::from(size),
         _ => 0,
@@ -249,10 +249,12 @@ fn push_value(text: &mut String, shape: Shape, value: &[u8]) -> Result<(), Alloc
         Shape::Be16 => push_number(text, u64::from(be16_in(value))),
         Shape::Be32 => push_number(text, u64::from(be32_in(value))),
         Shape::Be64 => push_number(text, be64_in(value)),
+        Shape::BeI32 => push_signed(text, i64::from(be_i32_in(value))),
         Shape::NulStr | Shape::Str => push_escaped_bytes(text, bytes_until_nul(value)),
         Shape::ExactLen(_)
         | Shape::Ip
         | Shape::MinLen(_)
+        | Shape::Elements(_)
         | Shape::Nested(_)
         | Shape::HeaderNested { .. }
         | Shape::Chosen { .. }

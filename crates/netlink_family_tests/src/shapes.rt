@@ -42,6 +42,9 @@ const ROWS: &'static [Row] = &[
         },
     ),
     (TOP, 17, "records", Shape::Nested(RECORDS)),
+    (TOP, 18, "be_i32", Shape::BeI32),
+    (TOP, 19, "pairs", Shape::Elements(4)),
+    (TOP, 20, "nothings", Shape::Elements(0)),
     (
         RECORDS,
         ANY,

@@ -2,8 +2,10 @@
 
 mod byte_lines;
 mod choices;
+mod elements;
 mod errors;
 mod getters;
+mod later;
 mod messages;
 mod nests;
 mod places;

@@ -5,7 +5,7 @@ use Rattle.netlink_family.specs.declared.error.FamilyError.{FamilyError}
 use Rattle.netlink_family.specs.declared.error.FamilyError.TheVariants.{HeaderShort, InvalidAttribute, OutOfMemory, TooLong, UnknownType}
 use Rattle.netlink_family.specs.declared.attribute_error.AttributeError.{AttributeError}
 use Rattle.netlink_family.specs.declared.attribute_error.Reason.{Reason}
-use Rattle.netlink_family.specs.declared.attribute_error.Reason.TheVariants.{InteriorNul, InvalidLength, LateChoice, NotNulTerminated, Short, TooDeep, TooSmall, Truncated, WrongAddressSize, WrongSize}
+use Rattle.netlink_family.specs.declared.attribute_error.Reason.TheVariants.{InteriorNul, InvalidLength, LateChoice, NoMultiple, NotNulTerminated, Short, TooDeep, TooSmall, Truncated, WrongAddressSize, WrongSize}
 use Rattle.netlink_route_c.specs.declared.error.ErrorNumbers.{ErrorNumbers}
 
 -- numbers without a policy and an offset
@@ -27,6 +27,7 @@ reason_numbers (WrongSize kind expected received) = with 42 kind expected receiv
 reason_numbers (NotNulTerminated kind) = with 43 kind 0 0
 reason_numbers (InteriorNul kind) = with 44 kind 0 0
 reason_numbers (TooSmall kind expected received) = with 45 kind expected received
+reason_numbers (NoMultiple kind expected received) = with 49 kind expected received
 reason_numbers (WrongAddressSize kind received) = with 46 kind 0 received
 reason_numbers (TooDeep kind) = with 47 kind 0 0
 reason_numbers (LateChoice kind) = with 48 kind 0 0
@@ -60,6 +61,7 @@ reason_from numbers =
     else if numbers.reason == 46 then Some (WrongAddressSize numbers.kind numbers.received)
     else if numbers.reason == 47 then Some (TooDeep numbers.kind)
     else if numbers.reason == 48 then Some (LateChoice numbers.kind)
+    else if numbers.reason == 49 then Some (NoMultiple numbers.kind numbers.expected numbers.received)
     else None
 
 abbrev pub attribute_from : ErrorNumbers → Reason → FamilyError
@@ -88,6 +90,7 @@ by_reason offset policy (TooSmall kind expected received) = refl
 by_reason offset policy (WrongAddressSize kind received) = refl
 by_reason offset policy (TooDeep kind) = refl
 by_reason offset policy (LateChoice kind) = refl
+by_reason offset policy (NoMultiple kind expected received) = refl
 
 pub error_again : (e : FamilyError) → error_from (numbers_of e) ≡ Some e
 error_again (UnknownType message_type) = refl

@@ -1,7 +1,7 @@
 -- The numbers of a shape, and the shape that numbers identify.
 use Rattle.std.specs.Prelude.{◌≡◌, ◌==◌, ℕ, Option, Some, None, refl, if◌then◌else◌}
 use Rattle.netlink_family.specs.declared.shape.Shape.{Shape}
-use Rattle.netlink_family.specs.declared.shape.Shape.TheVariants.{Flag, U8, U16, U32, U64, I32, I64, Be16, Be32, Be64, ExactLen, Ip, NulStr, Str, MinLen, Nested, HeaderNested, Chosen, Bytes}
+use Rattle.netlink_family.specs.declared.shape.Shape.TheVariants.{Flag, U8, U16, U32, U64, I32, I64, Be16, Be32, Be64, BeI32, ExactLen, Ip, NulStr, Str, MinLen, Elements, Nested, HeaderNested, Chosen, Bytes}
 use Rattle.netlink_route_c.specs.declared.shape.ShapeNumbers.{ShapeNumbers}
 
 abbrev pub shape_with : ℕ → ℕ → ℕ → ShapeNumbers
@@ -27,6 +27,8 @@ shape_numbers (MinLen size) = shape_with 15 size 0
 shape_numbers (Nested policy) = shape_with 16 0 policy
 shape_numbers (HeaderNested size policy) = shape_with 17 size policy
 shape_numbers (Chosen by policy) = shape_with 18 by policy
+shape_numbers BeI32 = shape_with 19 0 0
+shape_numbers (Elements size) = shape_with 20 size 0
 
 abbrev pub shape_from : ShapeNumbers → Option Shape
 shape_from numbers =
@@ -49,6 +51,8 @@ shape_from numbers =
     else if numbers.shape == 16 then Some (Nested numbers.policy)
     else if numbers.shape == 17 then Some (HeaderNested numbers.size numbers.policy)
     else if numbers.shape == 18 then Some (Chosen numbers.size numbers.policy)
+    else if numbers.shape == 19 then Some BeI32
+    else if numbers.shape == 20 then Some (Elements numbers.size)
     else None
 
 -- the numbers of a shape identify it
@@ -72,3 +76,5 @@ shape_again (MinLen size) = refl
 shape_again (Nested policy) = refl
 shape_again (HeaderNested size policy) = refl
 shape_again (Chosen by policy) = refl
+shape_again BeI32 = refl
+shape_again (Elements size) = refl

@@ -10,7 +10,8 @@ ghost use Rattle.netlink_route_c.specs.declared.results.TheConstants.{NO_MEMORY,
 use crate::output::copy_out;
 use crate::results::{
     ADDRESS_SIZE, ATTR_CUT, ATTR_LENGTH, ATTR_SHORT, HEADER_SHORT, INTERIOR_NUL, LATE_CHOICE,
-    NO_MEMORY, NO_PLACE, NOT_TERMINATED, TOO_DEEP, TOO_LONG, UNKNOWN_TYPE, VALUE_SHORT, VALUE_SIZE,
+    NO_MEMORY, NO_MULTIPLE, NO_PLACE, NOT_TERMINATED, TOO_DEEP, TOO_LONG, UNKNOWN_TYPE,
+    VALUE_SHORT, VALUE_SIZE,
 };
 use netlink_family::{AttributeError, FamilyError, Reason};
 use std::alloc::Global;
@@ -137,6 +138,11 @@ fn reason_numbers(reason: Reason) -> ErrorNumbers
             expected,
             received,
         } => with(VALUE_SHORT, kind, expected, received),
+        Reason::NoMultiple {
+            kind,
+            expected,
+            received,
+        } => with(NO_MULTIPLE, kind, expected, received),
         Reason::WrongAddressSize { kind, received } => with(ADDRESS_SIZE, kind, 0, received),
         Reason::TooDeep { kind } => with(TOO_DEEP, kind, 0, 0),
         Reason::LateChoice { kind } => with(LATE_CHOICE, kind, 0, 0),
@@ -201,6 +207,11 @@ fn reason_of(numbers: &ErrorNumbers) -> Option<Reason>
         NOT_TERMINATED => Some(Reason::NotNulTerminated { kind }),
         INTERIOR_NUL => Some(Reason::InteriorNul { kind }),
         VALUE_SHORT => Some(Reason::TooSmall {
+            kind,
+            expected,
+            received,
+        }),
+        NO_MULTIPLE => Some(Reason::NoMultiple {
             kind,
             expected,
             received,

@@ -56,5 +56,8 @@ pub const ADDRESS_SIZE: u32 = 46;
 /// An attribute is a nest inside eight others (`Reason::TooDeep`).
 pub const TOO_DEEP: u32 = 47;
 
+/// The size of a value is no multiple of that of an element (`Reason::NoMultiple`).
+pub const NO_MULTIPLE: u32 = 49;
+
 /// An attribute chooses a shape too late (`Reason::LateChoice`). No view has this error.
 pub const LATE_CHOICE: u32 = 48;

@@ -50,14 +50,19 @@ pub const HEADER_NESTED: u16 = 17;
 
 pub const CHOSEN: u16 = 18;
 
+pub const BE_I32: u16 = 19;
+
+pub const ELEMENTS: u16 = 20;
+
 /// A shape as numbers (`struct nlp_shape`).
 #[derive(Clone, Copy, Debug, PartialEq, Eq)]
 #[repr(C)]
 pub struct ShapeNumbers {
     /// The number of the shape.
     pub shape: u16,
-    /// The size in bytes of `EXACT_LEN`, the least one of `MIN_LEN`, or that of the header of
-    /// `HEADER_NESTED`; the kind that chooses for `CHOSEN`. 0 for any other shape.
+    /// The size in bytes of `EXACT_LEN`, the least one of `MIN_LEN`, that of an element of `ELEMENTS`,
+    /// or that of the header of `HEADER_NESTED`; the kind that chooses for `CHOSEN`. 0 for any other
+    /// shape.
     pub size: u16,
     /// The policy of the attributes of a nest, or the one that `CHOSEN` chooses from. 0 for any other
     /// shape.
@@ -113,6 +118,8 @@ pub(crate) fn shape_numbers(shape: Shape) -> ShapeNumbers
         Shape::Nested(policy) => shape_with(NESTED, 0, policy),
         Shape::HeaderNested { size, policy } => shape_with(HEADER_NESTED, size, policy),
         Shape::Chosen { by, policy } => shape_with(CHOSEN, by, policy),
+        Shape::BeI32 => shape_with(BE_I32, 0, 0),
+        Shape::Elements(size) => shape_with(ELEMENTS, size, 0),
     }
 }
 
@@ -153,6 +160,8 @@ pub(crate) fn shape_from(numbers: ShapeNumbers) -> Option<Shape>
         NESTED => Some(Shape::Nested(policy)),
         HEADER_NESTED => Some(Shape::HeaderNested { size, policy }),
         CHOSEN => Some(Shape::Chosen { by: size, policy }),
+        BE_I32 => Some(Shape::BeI32),
+        ELEMENTS => Some(Shape::Elements(size)),
         _ => None,
     }
 }

@@ -3,7 +3,7 @@ use Rattle.std.specs.Prelude.{ℕ, Bool, true, false, List, ◌++◌, codes, dec
 use Rattle.netlink_shapes.specs.declared.error.FamilyError.{FamilyError}
 use Rattle.netlink_shapes.specs.declared.error.FamilyError.TheVariants.{UnknownType, HeaderShort, InvalidAttribute, TooLong, OutOfMemory}
 use Rattle.netlink_shapes.specs.declared.attribute_error.Reason.{Reason}
-use Rattle.netlink_shapes.specs.declared.attribute_error.Reason.TheVariants.{Short, Truncated, InvalidLength, WrongSize, NotNulTerminated, InteriorNul, TooSmall, WrongAddressSize, TooDeep, LateChoice}
+use Rattle.netlink_shapes.specs.declared.attribute_error.Reason.TheVariants.{Short, Truncated, InvalidLength, WrongSize, NotNulTerminated, InteriorNul, TooSmall, NoMultiple, WrongAddressSize, TooDeep, LateChoice}
 use Rattle.netlink_shapes.specs.declared.attribute_error.AttributeError.{AttributeError}
 
 abbrev pub wants_memory : FamilyError → Bool
@@ -25,6 +25,9 @@ reason_text (InteriorNul kind) =
 reason_text (TooSmall kind expected received) =
     codes "attribute " ++ (decimal kind ++ (codes " has a value of " ++ (decimal received
     ++ (codes " bytes instead of " ++ (decimal expected ++ codes " or more")))))
+reason_text (NoMultiple kind expected received) =
+    codes "attribute " ++ (decimal kind ++ (codes " has a value of " ++ (decimal received
+    ++ (codes " bytes, no multiple of " ++ decimal expected))))
 reason_text (WrongAddressSize kind received) =
     codes "attribute " ++ (decimal kind
     ++ (codes " has an address of " ++ (decimal received ++ codes " bytes instead of 4 or 16")))

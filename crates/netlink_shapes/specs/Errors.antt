@@ -16,7 +16,7 @@ use Rattle.netlink_shapes.specs.declared.attribute_error.Reason.{Reason}
 use Rattle.netlink_shapes.specs.declared.attribute_error.Reason.TheVariants as reason
 use Rattle.netlink_shapes.specs.declared.attribute_error.AttributeError.{AttributeError}
 use Rattle.netlink_shapes.specs.declared.shape.Shape.{Shape}
-use Rattle.netlink_shapes.specs.declared.shape.Shape.TheVariants.{Flag, U8, U16, U32, U64, I32, I64, Be16, Be32, Be64, ExactLen, Ip, NulStr, Str, MinLen, Nested, HeaderNested, Chosen, Bytes}
+use Rattle.netlink_shapes.specs.declared.shape.Shape.TheVariants.{Flag, U8, U16, U32, U64, I32, I64, Be16, Be32, Be64, BeI32, ExactLen, Ip, NulStr, Str, MinLen, Elements, Nested, HeaderNested, Chosen, Bytes}
 
 abbrev pub error_at : ℕ → ℕ → Reason → AttributeError
 error_at policy at why = record { offset = at; policy = policy; reason = why }
@@ -46,11 +46,13 @@ reason_of I64 kind value = reason.WrongSize kind 8 (length value)
 reason_of Be16 kind value = reason.WrongSize kind 2 (length value)
 reason_of Be32 kind value = reason.WrongSize kind 4 (length value)
 reason_of Be64 kind value = reason.WrongSize kind 8 (length value)
+reason_of BeI32 kind value = reason.WrongSize kind 4 (length value)
 reason_of (ExactLen size) kind value = reason.WrongSize kind size (length value)
 reason_of Ip kind value = reason.WrongAddressSize kind (length value)
 reason_of NulStr kind value = reason.NotNulTerminated kind
 reason_of Str kind value = reason.InteriorNul kind
 reason_of (MinLen size) kind value = reason.TooSmall kind size (length value)
+reason_of (Elements size) kind value = reason.NoMultiple kind size (length value)
 reason_of (Nested policy) kind value = reason.TooDeep kind
 reason_of (HeaderNested size policy) kind value = reason.TooSmall kind size (length value)
 reason_of (Chosen by policy) kind value = reason.WrongSize kind 0 (length value)

@@ -1,5 +1,5 @@
 -- The shapes of values, and the tables of families.
-use Rattle.std.specs.Prelude.{ℕ, zero, suc, ◌≡◌, ◌==◌, ◌^◌, Bool, true, false, not, ◌&&◌, ◌||◌, List, [], ◌∷◌, length, drop, map, bytes_eq, nat_le, nat_lt, Option, Some, None, if◌then◌else◌}
+use Rattle.std.specs.Prelude.{ℕ, zero, suc, ◌≡◌, ◌==◌, ◌^◌, ◌%◌, Bool, true, false, not, ◌&&◌, ◌||◌, List, [], ◌∷◌, length, drop, map, bytes_eq, nat_le, nat_lt, Option, Some, None, if◌then◌else◌}
 use Rattle.std.specs.List.{list_all}
 use Rattle.std.specs.Option.{ForSome}
 use denote.Ref.{Bor}
@@ -11,7 +11,7 @@ use Rattle.netlink_shapes.specs.Listing.{first_of, listed}
 pub use Rattle.netlink_shapes.specs.Strings.{nul_only_last, nul_terminated}
 use Rattle.netlink_shapes.specs.Strings.{until_nul}
 use Rattle.netlink_shapes.specs.declared.shape.Shape.{Shape}
-use Rattle.netlink_shapes.specs.declared.shape.Shape.TheVariants.{Flag, U8, U16, U32, U64, I32, I64, Be16, Be32, Be64, ExactLen, Ip, NulStr, Str, MinLen, Nested, HeaderNested, Chosen, Bytes}
+use Rattle.netlink_shapes.specs.declared.shape.Shape.TheVariants.{Flag, U8, U16, U32, U64, I32, I64, Be16, Be32, Be64, BeI32, ExactLen, Ip, NulStr, Str, MinLen, Elements, Nested, HeaderNested, Chosen, Bytes}
 
 -- a row of a table: the policy that it belongs to, a kind, its name, and the shape of its values
 abbrev pub Row : Type 0
@@ -46,6 +46,10 @@ fields_in fields = named_fields fields (λ (name : Bor (List ℕ)). name.now)
 abbrev pub any_kind : ℕ
 any_kind = 65535
 
+-- a size is a multiple of that of an element, which is not 0
+abbrev pub is_multiple : ℕ → ℕ → Bool
+is_multiple size element = not (element == 0) && size % element == 0
+
 abbrev pub has_shape : Shape → List ℕ → Bool
 has_shape Flag value = length value == 0
 has_shape U8 value = length value == 1
@@ -57,11 +61,13 @@ has_shape I64 value = length value == 8
 has_shape Be16 value = length value == 2
 has_shape Be32 value = length value == 4
 has_shape Be64 value = length value == 8
+has_shape BeI32 value = length value == 4
 has_shape (ExactLen size) value = length value == size
 has_shape Ip value = length value == 4 || length value == 16
 has_shape NulStr value = nul_terminated value
 has_shape Str value = nul_only_last value
 has_shape (MinLen size) value = nat_le size (length value)
+has_shape (Elements size) value = is_multiple (length value) size
 has_shape (Nested policy) value = true
 has_shape (HeaderNested size policy) value = nat_le size (length value)
 has_shape (Chosen by policy) value = false
@@ -140,11 +146,13 @@ nest_of I64 = None
 nest_of Be16 = None
 nest_of Be32 = None
 nest_of Be64 = None
+nest_of BeI32 = None
 nest_of (ExactLen size) = None
 nest_of Ip = None
 nest_of NulStr = None
 nest_of Str = None
 nest_of (MinLen size) = None
+nest_of (Elements size) = None
 nest_of (Nested policy) = Some policy
 nest_of (HeaderNested size policy) = Some policy
 nest_of (Chosen by policy) = None

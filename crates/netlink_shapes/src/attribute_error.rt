@@ -74,6 +74,15 @@ pub enum Reason {
         /// The actual size.
         received: usize,
     },
+    /// The size of the value is no multiple of that of an element.
+    NoMultiple {
+        /// The kind of the attribute.
+        kind: u16,
+        /// The size of an element.
+        expected: usize,
+        /// The actual size.
+        received: usize,
+    },
     /// The value is an IP address of neither 4 nor 16 bytes.
     WrongAddressSize {
         /// The kind of the attribute.
@@ -136,6 +145,14 @@ impl fmt::Display for Reason {
             } => write!(
                 f,
                 "attribute {kind} has a value of {received} bytes instead of {expected} or more"
+            ),
+            Reason::NoMultiple {
+                kind,
+                expected,
+                received,
+            } => write!(
+                f,
+                "attribute {kind} has a value of {received} bytes, no multiple of {expected}"
             ),
             Reason::WrongAddressSize { kind, received } => write!(
                 f,
@@ -382,7 +399,7 @@ fn reason_of(shape: Shape, kind: u16, value: &[u8]) -> Reason
         Shape::Flag | Shape::Chosen { .. } | Shape::Bytes => 0,
         Shape::U8 => 1,
         Shape::U16 | Shape::Be16 => 2,
-        Shape::U32 | Shape::I32 | Shape::Be32 => 4,
+        Shape::U32 | Shape::I32 | Shape::Be32 | Shape::BeI32 => 4,
         Shape::U64 | Shape::I64 | Shape::Be64 => 8,
         Shape::ExactLen(size) => size as usize,
         Shape::Ip => return Reason::WrongAddressSize { kind, received },
@@ -392,6 +409,13 @@ fn reason_of(shape: Shape, kind: u16, value: &[u8]) -> Reason
             return Reason::TooSmall {
                 kind,
                 expected: size as usize,
+                received,
+            };
+        }
+        Shape::Elements(size) => {
+            return Reason::NoMultiple {
+                kind,
+                expected: usize::from(size),
                 received,
             };
         }

@@ -6,7 +6,8 @@ ghost use Rattle.netlink_packet_core.specs.Numbers.{number_be, number_le, signed
 ghost use Rattle.netlink_shapes.specs.Strings.{has_no_nul, nul_offset, nul_only_last, until_nul};
 
 use netlink_packet_core::{
-    parse_i32, parse_i64, parse_u16, parse_u16_be, parse_u32, parse_u32_be, parse_u64, parse_u64_be,
+    parse_i32, parse_i32_be, parse_i64, parse_u16, parse_u16_be, parse_u32, parse_u32_be,
+    parse_u64, parse_u64_be,
 };
 
 /// Returns the bytes before the first NUL: the string in a value of shape `Str` or `NulStr`.
@@ -129,6 +130,14 @@ pub fn be32_in(bytes: &[u8]) -> u32
     ensures { result ≡ number_be bytes.now }
 {
     parse_u32_be(bytes).unwrap()
+}
+
+/// Decodes a signed integer of 4 bytes.
+pub fn be_i32_in(bytes: &[u8]) -> i32
+    requires { length bytes.now ≡ 4 }
+    ensures { result ≡ signed 4 (number_be bytes.now) }
+{
+    parse_i32_be(bytes).unwrap()
 }
 
 /// Decodes an integer of 8 bytes.

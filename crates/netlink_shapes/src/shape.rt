@@ -4,7 +4,7 @@ ghost use Rattle.std.specs.Prelude.{◌≡◌, ◌≤◌, ◌<◌, ◌+◌, ◌*
 ghost use Rattle.std.specs.Option.{option_map};
 ghost use Rattle.netlink_packet_core.specs.Views.{masked};
 ghost use Rattle.netlink_shapes.specs.Policies.{IsPart};
-ghost use Rattle.netlink_shapes.specs.Shapes.{CachesOther, any_kind, borrowed_row, has_shape, nest_block, nest_of, nest_start, row_at, row_in, rows_in, shape_by, shape_in, nul_terminated, nul_only_last, key_before};
+ghost use Rattle.netlink_shapes.specs.Shapes.{CachesOther, any_kind, borrowed_row, has_shape, is_multiple, nest_block, nest_of, nest_start, row_at, row_in, rows_in, shape_by, shape_in, nul_terminated, nul_only_last, key_before};
 
 use crate::rows::Rows;
 use netlink_packet_core::NLA_TYPE_MASK;
@@ -33,6 +33,8 @@ pub enum Shape {
     Be32,
     /// A big-endian `u64`.
     Be64,
+    /// A big-endian `i32`.
+    BeI32,
     /// Exactly this number of bytes.
     ExactLen(u16),
     /// An IP address, 4 or 16 bytes.
@@ -43,6 +45,8 @@ pub enum Shape {
     Str,
     /// At least this number of bytes.
     MinLen(u16),
+    /// Elements of this number of bytes, one after another. No value has elements of 0 bytes.
+    Elements(u16),
     /// Attributes of this policy.
     Nested(u16),
     /// A fixed header, followed by attributes.
@@ -355,11 +359,13 @@ pub fn policy_of(shape: Shape) -> Option<u16>
         | Shape::Be16
         | Shape::Be32
         | Shape::Be64
+        | Shape::BeI32
         | Shape::ExactLen(_)
         | Shape::Ip
         | Shape::NulStr
         | Shape::Str
         | Shape::MinLen(_)
+        | Shape::Elements(_)
         | Shape::Chosen { .. }
         | Shape::Bytes => None,
     }
@@ -414,6 +420,13 @@ fn has_nul_only_last(bytes: &[u8]) -> bool
     true
 }
 
+/// Returns whether a size is a multiple of that of an element, which is not 0.
+fn is_multiple(size: usize, element: u16) -> bool
+    ensures { result ≡ is_multiple size element }
+{
+    element != 0 && size % usize::from(element) == 0
+}
+
 /// Returns whether a value has a shape. The attributes inside a nest are ignored. No value has a
 /// shape that is still to be chosen.
 #[inline(always)]
@@ -424,13 +437,14 @@ pub fn has_shape(shape: Shape, value: &[u8]) -> bool
         Shape::Flag => value.len() == 0,
         Shape::U8 => value.len() == 1,
         Shape::U16 | Shape::Be16 => value.len() == 2,
-        Shape::U32 | Shape::I32 | Shape::Be32 => value.len() == 4,
+        Shape::U32 | Shape::I32 | Shape::Be32 | Shape::BeI32 => value.len() == 4,
         Shape::U64 | Shape::I64 | Shape::Be64 => value.len() == 8,
         Shape::ExactLen(size) => value.len() == size as usize,
         Shape::Ip => value.len() == 4 || value.len() == 16,
         Shape::NulStr => is_nul_terminated(value),
         Shape::Str => has_nul_only_last(value),
         Shape::MinLen(size) => value.len() >= size as usize,
+        Shape::Elements(size) => is_multiple(value.len(), size),
         Shape::HeaderNested { size, .. } => value.len() >= size as usize,
         Shape::Chosen { .. } => false,
         Shape::Nested(_) | Shape::Bytes => true,

@@ -263,13 +263,14 @@ fn add_value(value: Value<'_>, digest: &mut Digest) {
         Value::U16(number) | Value::Be16(number) => digest.number(number as u64),
         Value::U32(number) | Value::Be32(number) => digest.number(number as u64),
         Value::U64(number) | Value::Be64(number) => digest.number(number),
-        Value::I32(number) => digest.number(number.cast_unsigned() as u64),
+        Value::I32(number) | Value::BeI32(number) => digest.number(number.cast_unsigned() as u64),
         Value::I64(number) => digest.number(number.cast_unsigned()),
         Value::ExactLen(bytes)
         | Value::Ip(bytes)
         | Value::NulStr(bytes)
         | Value::Str(bytes)
         | Value::MinLen(_, bytes)
+        | Value::Elements(_, bytes)
         | Value::Bytes(bytes) => digest.bytes(bytes),
         Value::Nested(nest) => digest.bytes(nest.block),
         Value::HeaderNested(_, nest) => digest.bytes(nest.block),

@@ -32,6 +32,8 @@ pub enum Shape {
     Be32,
     /// A big-endian `u64`.
     Be64,
+    /// A big-endian `i32`.
+    BeI32,
     /// No bytes.
     Flag,
     /// An IP address, 4 or 16 bytes.
@@ -44,6 +46,8 @@ pub enum Shape {
     ExactLen(u16),
     /// Bytes of at least this size.
     MinLen(u16),
+    /// Elements of this size, one after another.
+    Elements(u16),
     /// A nest.
     Nested {
         /// The policy of its attributes.
@@ -79,6 +83,8 @@ impl Shape {
             15 => Shape::MinLen(size),
             16 => Shape::Nested { policy },
             17 => Shape::HeaderNested { size, policy },
+            19 => Shape::BeI32,
+            20 => Shape::Elements(size),
             _ => Shape::Bytes,
         }
     }

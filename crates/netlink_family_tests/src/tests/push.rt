@@ -7,7 +7,7 @@ use netlink_packet_core::{NetlinkHeader, NetlinkMessage};
 use std::alloc::Global;
 use std::test::Fail;
 
-const NUMBERS: [u8; 104] = [
+const NUMBERS: [u8; 124] = [
     4, 0, 1, 0, // flag
     5, 0, 2, 0, 0xfe, 0, 0, 0, // u8
     6, 0, 3, 0, 0x02, 0x01, 0, 0, // u16
@@ -20,6 +20,8 @@ const NUMBERS: [u8; 104] = [
     12, 0, 10, 0, 0x01, 0x02, 0x03, 0x04, 0x05, 0x06, 0x07, 0x08, // be64
     6, 0, 11, 0, 7, 8, 0, 0, // exact
     7, 0, 15, 0, 9, 8, 7, 0, // min, with bytes beyond the minimum
+    8, 0, 18, 0, 0xff, 0xff, 0xfe, 0xd4, // be_i32
+    12, 0, 19, 0, 1, 2, 3, 4, 5, 6, 7, 8, // pairs
 ];
 
 /// Appends a value of each shape of a fixed size, and one of a minimum size.
@@ -35,7 +37,9 @@ fn push_numbers(alloc: Global, message: &mut EveryMessage) -> Result<(), FamilyE
     message.push(alloc, 9, Value::Be32(0x01020304))?;
     message.push(alloc, 10, Value::Be64(0x0102030405060708))?;
     message.push(alloc, 11, Value::ExactLen(&[7, 8]))?;
-    message.push(alloc, 15, Value::MinLen(1, &[9, 8, 7]))
+    message.push(alloc, 15, Value::MinLen(1, &[9, 8, 7]))?;
+    message.push(alloc, 18, Value::BeI32(-300))?;
+    message.push(alloc, 19, Value::Elements(4, &[1, 2, 3, 4, 5, 6, 7, 8]))
 }
 
 /// Appends a value of each shape of more than one size, and one of a kind without a row.

@@ -53,3 +53,8 @@ pub returns-in-LateChoice-clause-writes : goal.returns-in-LateChoice-clause-writ
 returns-in-LateChoice-clause-writes g c = λ plain ok.
     subst (λ e. HasWritten g.W.Write.write_str_gives c.args.f.now (reason_text e) c.write-in-LateChoice.new.self)
     (sym c.in-LateChoice.is) (c.write-in-LateChoice.ensures.writes plain ok)
+
+pub returns-in-NoMultiple-clause-writes : goal.returns-in-NoMultiple-clause-writes
+returns-in-NoMultiple-clause-writes g c = λ plain ok.
+    subst (λ e. HasWritten g.W.Write.write_str_gives c.args.f.now (reason_text e) c.write-in-NoMultiple.new.self)
+    (sym c.in-NoMultiple.is) (c.write-in-NoMultiple.ensures.writes plain ok)
