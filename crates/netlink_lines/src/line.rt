@@ -7,7 +7,7 @@ ghost use Rattle.netlink_json.specs.Fields.{AddsParts};
 ghost use Rattle.netlink_lines.specs.Members.{route_parts};
 ghost use Rattle.netlink_lines.specs.SystemErrors.{code_text};
 
-use crate::members::put_members;
+use crate::members::put_other;
 use crate::system_errors::error_name;
 use netlink_address_lines::address::address_line;
 use netlink_address_lines::neighbour::neighbour_line;
@@ -18,6 +18,8 @@ use netlink_link_lines::link::link_line;
 use netlink_names::device::Known;
 use netlink_names::known::learn_link;
 use netlink_names::name_table::{NameTable, Names};
+use netlink_objects::address::put_address;
+use netlink_objects::link::put_link;
 use netlink_route::{AllTables, LaterTables, OtherTables, RouteTables};
 use netlink_route_lines::namespace::namespace_text;
 use netlink_route_lines::route::route_entry_line;
@@ -97,13 +99,20 @@ impl Line for Joined<RouteTables> {
     }
 
     /// Appends the members of a message with the keys of `ip -j` and in its order.
+    #[tactic(auto, unfolding(crate::specs::Members::route_parts))]
     fn put_members(
         alloc: Global,
         object: &mut Object,
         known: &Names<'_>,
         message: &MessageView<'_, Joined<RouteTables>>,
     ) -> Result<(), AllocError> {
-        put_members(alloc, object, known, &message.tables())
+        match message.tables().split() {
+            Ok(link) => put_link(alloc, object, known, &link),
+            Err(other) => match other.split() {
+                Ok(address) => put_address(alloc, object, known, &address),
+                Err(other) => put_other(alloc, object, known, &other),
+            },
+        }
     }
 
     #[tactic(auto, unfolding(crate::specs::Lines::known_by))]

@@ -2,43 +2,21 @@
 
 ghost use Rattle.std.specs.Prelude.{◌≡◌, OnOk};
 ghost use Rattle.netlink_json.specs.Fields.{AddsParts};
-ghost use Rattle.netlink_lines.specs.Members.{later_parts, message_name, other_parts, route_parts};
+ghost use Rattle.netlink_lines.specs.Members.{later_parts, message_name, other_parts};
 
 use netlink_family::MessageView;
 use netlink_json::Object;
 use netlink_names::name_table::Names;
-use netlink_objects::address::put_address;
-use netlink_objects::link::put_link;
 use netlink_objects::namespace::put_namespace;
 use netlink_objects::neighbour::put_neighbour;
 use netlink_objects::neighbour_table::put_neighbour_table;
 use netlink_objects::route::put_route;
 use netlink_objects::rule::put_rule;
-use netlink_route::{AllTables, LaterTables, OtherTables};
+use netlink_route::{LaterTables, OtherTables};
 use std::alloc::{AllocError, Global};
 
-/// Appends the members of a message of route netlink.
-#[tactic(auto, unfolding(crate::specs::Members::route_parts))]
-pub(crate) fn put_members(
-    alloc: Global,
-    object: &mut Object,
-    known: &Names<'_>,
-    message: &MessageView<'_, AllTables>,
-) -> Result<(), AllocError>
-    ensures { OnOk result (AddsParts object.old object.new
-        (route_parts known.now (message.now.message_type, message.now.payload.now))) }
-{
-    match message.split() {
-        Ok(link) => put_link(alloc, object, known, &link),
-        Err(other) => match other.split() {
-            Ok(address) => put_address(alloc, object, known, &address),
-            Err(other) => put_other(alloc, object, known, &other),
-        },
-    }
-}
-
 /// Appends the members of a message about neither a link nor an address.
-fn put_other(
+pub(crate) fn put_other(
     alloc: Global,
     object: &mut Object,
     known: &Names<'_>,
