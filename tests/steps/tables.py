@@ -4,7 +4,7 @@ field of a fixed header, and its whole size; and the order of the rows.
 
     tests/steps/tables.py [FILE..]
 
-Without files, those of netlink_route and netlink_generic. A name that no header has is not compared: the headers may be
+Without files, those of netlink_route, netlink_generic and netlink_values. A name that no header has is not compared: the headers may be
 older than the table. The headers are those that a file names in comments, such as linux/neighbour.h, with the ones that
 all route netlink needs. The struct of a field is the one that the nearest comment above names, as in "The fields of
 `struct ndmsg`".
@@ -134,5 +134,5 @@ def main(paths):
 
 
 if __name__ == "__main__":
-    own = [it for name in ("netlink_route", "netlink_generic") for it in sorted(glob.glob(folder_of(name) + "/src/*.rt"))]
+    own = [it for name in ("netlink_route", "netlink_generic", "netlink_values") for it in sorted(glob.glob(folder_of(name) + "/src/*.rt"))]
     sys.exit(main(sys.argv[1:] or own))

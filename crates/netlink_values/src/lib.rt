@@ -2,7 +2,7 @@
 //!
 //! | what | type | definition |
 //! |---|---|---|
-//! | `struct rta_cacheinfo`, a struct that the kernel may extend | `StructView` | `Parts::part_of` |
+//! | `struct rta_cacheinfo`, a struct that the kernel may extend | `StructView`, with the fields of `route_structs` | `Parts::part_of` |
 //! | `UP,LOWER_UP,0x100000`, a set of flags | `Flags` | `Flags::flags_text` |
 //!
 //! A definition `File::name` is in `specs/File.antt`.
@@ -10,6 +10,7 @@
 
 pub mod flags;
 pub mod route;
+pub mod route_structs;
 pub mod struct_view;
 #[cfg(test)]
 mod tests;

@@ -1,13 +1,14 @@
 //! Structs of the kernel, by the offsets in its headers: whole, and cut before and in a field.
 
+use crate::route_structs::{
+    IFA_CACHEINFO_CSTAMP, IFA_CACHEINFO_PREFERED, IFA_CACHEINFO_TSTAMP, IFA_CACHEINFO_VALID,
+    NDA_CACHEINFO_CONFIRMED, NDA_CACHEINFO_REFCNT, NDA_CACHEINFO_UPDATED, NDA_CACHEINFO_USED,
+    PORT_RANGE_HIGH, PORT_RANGE_LOW, RTA_CACHEINFO_ERROR, RTA_CACHEINFO_EXPIRES, STATS64_RX_BYTES,
+    STATS64_RX_PACKETS, STATS64_TX_BYTES, STATS64_TX_ERRORS, STATS64_TX_PACKETS,
+};
 use crate::struct_view::StructView;
 use netlink_blocks::header_view::Field;
 use netlink_shapes::shape::Shape;
-
-/// `struct rta_cacheinfo` of linux/rtnetlink.h.
-const RTA_EXPIRES: Field = ("rta_expires", 8, Shape::I32);
-
-const RTA_ERROR: Field = ("rta_error", 12, Shape::U32);
 
 /// What a kernel sent for a route that expires in 2,999.74 seconds, in hundredths of a second.
 const CACHE: [u8; 32] = [
@@ -39,17 +40,17 @@ const BIG: Field = ("big", 8, Shape::Be64);
 #[test]
 fn a_route_has_its_cache_info(rt: HostRuntime) {
     let cache = StructView { bytes: &CACHE };
-    assert!(rt; cache.i32(RTA_EXPIRES) == Some(299_974));
-    assert!(rt; cache.u32(RTA_ERROR) == Some(0));
+    assert!(rt; cache.i32(RTA_CACHEINFO_EXPIRES) == Some(299_974));
+    assert!(rt; cache.u32(RTA_CACHEINFO_ERROR) == Some(0));
     let cut = StructView {
         bytes: &CACHE[..12],
     };
-    assert!(rt; cut.i32(RTA_EXPIRES) == Some(299_974));
-    assert!(rt; cut.u32(RTA_ERROR) == None);
+    assert!(rt; cut.i32(RTA_CACHEINFO_EXPIRES) == Some(299_974));
+    assert!(rt; cut.u32(RTA_CACHEINFO_ERROR) == None);
     let inside = StructView {
         bytes: &CACHE[..11],
     };
-    assert!(rt; inside.i32(RTA_EXPIRES) == None);
+    assert!(rt; inside.i32(RTA_CACHEINFO_EXPIRES) == None);
 }
 
 #[test]
@@ -83,4 +84,48 @@ fn a_short_value_lacks_fields(rt: HostRuntime) {
     assert!(rt; short.u64(LONG) == None);
     assert!(rt; short.i64(SIGNED) == None);
     assert!(rt; short.be64(BIG) == None);
+}
+
+/// `IFA_CACHEINFO` of an address that stays, as a kernel sent it.
+const FOREVER: [u8; 16] = [
+    0xff, 0xff, 0xff, 0xff, 0xff, 0xff, 0xff, 0xff, 0x34, 0x17, 8, 0, 0x34, 0x17, 8, 0,
+];
+
+/// `NDA_CACHEINFO` of a neighbour, as a kernel sent it.
+const AGES: [u8; 16] = [0x82, 0x17, 0, 0, 0x12, 0, 0, 0, 0x12, 0, 0, 0, 0, 0, 0, 0];
+
+/// The first counters of a link, as a kernel sent them.
+const COUNTERS: [u8; 40] = [
+    4, 0, 0, 0, 0, 0, 0, 0, 1, 0, 0, 0, 0, 0, 0, 0, 0x6c, 1, 0, 0, 0, 0, 0, 0, //
+    0x5a, 0, 0, 0, 0, 0, 0, 0, 0, 0, 0, 0, 0, 0, 0, 0,
+];
+
+#[test]
+fn captured_structs_have_their_fields(rt: HostRuntime) {
+    let address = StructView { bytes: &FOREVER };
+    assert!(rt; address.u32(IFA_CACHEINFO_PREFERED) == Some(u32::MAX));
+    assert!(rt; address.u32(IFA_CACHEINFO_VALID) == Some(u32::MAX));
+    assert!(rt; address.u32(IFA_CACHEINFO_CSTAMP) == Some(530_228));
+    assert!(rt; address.u32(IFA_CACHEINFO_TSTAMP) == Some(530_228));
+    let neighbour = StructView { bytes: &AGES };
+    assert!(rt; neighbour.u32(NDA_CACHEINFO_CONFIRMED) == Some(6_018));
+    assert!(rt; neighbour.u32(NDA_CACHEINFO_USED) == Some(18));
+    assert!(rt; neighbour.u32(NDA_CACHEINFO_UPDATED) == Some(18));
+    assert!(rt; neighbour.u32(NDA_CACHEINFO_REFCNT) == Some(0));
+}
+
+#[test]
+fn a_link_has_its_counters(rt: HostRuntime) {
+    let link = StructView { bytes: &COUNTERS };
+    assert!(rt; link.u64(STATS64_RX_PACKETS) == Some(4));
+    assert!(rt; link.u64(STATS64_TX_PACKETS) == Some(1));
+    assert!(rt; link.u64(STATS64_RX_BYTES) == Some(364));
+    assert!(rt; link.u64(STATS64_TX_BYTES) == Some(90));
+    assert!(rt; link.u64(STATS64_TX_ERRORS) == None);
+    // ports 8,000 and 9,000 by hand
+    let ports = StructView {
+        bytes: &[0x1f, 0x40, 0x23, 0x28],
+    };
+    assert!(rt; ports.be16(PORT_RANGE_LOW) == Some(8_000));
+    assert!(rt; ports.be16(PORT_RANGE_HIGH) == Some(9_000));
 }
