@@ -16,11 +16,11 @@ fn numbers_of(message: &EveryMessage, kind: u16) -> (Option<i32>, Option<i32>) {
 
 /// Returns how many elements a kind has, and the sum of their first bytes.
 fn sums_of(message: &EveryMessage, kind: u16) -> Option<(usize, usize)> {
-    let mut count = 0;
-    let mut sum = 0;
+    let mut count = 0usize;
+    let mut sum = 0usize;
     for element in message.view().elements(kind)? {
-        count = usize::min(count + 1, 9);
-        sum = usize::min(sum + first_of(element), 99);
+        count = count.wrapping_add(1);
+        sum = sum.wrapping_add(first_of(element));
     }
     Some((count, sum))
 }
