@@ -1,9 +1,9 @@
 -- The attributes of a block that has the shapes of a policy.
 use Rattle.std.proofs.Common.{◌≡◌, ℕ, true, List, refl, Option, Some, None}
-use Rattle.netlink_packet_core.specs.Attribute.{Attribute}
-use Rattle.netlink_packet_core.specs.Numbers.{IsBytes}
-use Rattle.netlink_packet_core.specs.Reading.{attributes_in}
-use Rattle.netlink_packet_core.specs.ReadingLaws.{walk-attributes_in}
+use Rattle.netlink_attributes.specs.Attribute.{Attribute}
+use Rattle.netlink_bytes.specs.Numbers.{IsBytes}
+use Rattle.netlink_attributes.specs.Reading.{attributes_in}
+use Rattle.netlink_attributes.specs.ReadingLaws.{walk-attributes_in}
 use Rattle.netlink_shapes.specs.Shapes.{Scope, all_shaped, are_shaped, nest_levels}
 use Rattle.netlink_shapes.specs.Fitting.{AreShaped, fits_at}
 

@@ -1,8 +1,8 @@
 -- The fields of a header whose payload may be shorter.
 use Rattle.std.proofs.Common.{◌≡◌, ℕ, zero, suc, ◌+◌, ◌-◌, ◌*◌, ◌≤◌, List, [], ◌∷◌, ◌++◌, length, take, drop, replicate, slice_index, slice_range, refl, ap, sym, ◌∙◌, arith, append-nil}
 use Rattle.std.proofs.lemmas.List.{drop_all, get_or-drop}
-use Rattle.netlink_packet_core.specs.Fields.{number_at}
-use Rattle.netlink_packet_core.specs.Numbers.{number_le}
+use Rattle.netlink_bytes.specs.Fields.{number_at}
+use Rattle.netlink_bytes.specs.Numbers.{number_le}
 
 -- the 4 bytes at an offset, with zeros for those that are missing
 abbrev four : ℕ → List ℕ → List ℕ

@@ -1,7 +1,7 @@
 -- How the places of a block follow its attributes.
 use Rattle.std.proofs.Common.{◌≡◌, ◌≢◌, ◌==◌, ◌∙◌, ℕ, ◌+◌, ◌-◌, ◌*◌, ◌/◌, ◌%◌, ◌<◌, Bool, true, false, List, length, drop, ap, sym, subst, arith, eqb-true, eq-eqb, length-drop, refl}
 use Rattle.std.proofs.lemmas.List.{drop-drop}
-use Rattle.netlink_packet_core.specs.Views.{attribute_of, masked}
+use Rattle.netlink_attributes.specs.Views.{attribute_of, masked}
 use Rattle.netlink_shapes.specs.ListingLaws.{first_later}
 use Rattle.netlink_blocks.specs.Index.{IsFirstAt, IsPlaceOfKind}
 use Rattle.netlink_shapes.specs.Listing.{first_of, listed}

@@ -1,9 +1,9 @@
 -- Finding the first attribute of a kind.
 use Rattle.std.specs.Prelude.{ℕ, ℤ, List, drop, length, slice_index, take, Option, Some, None}
 use Rattle.std.specs.Option.{option_map}
-use Rattle.netlink_packet_core.specs.Attribute.{Attribute}
-use Rattle.netlink_packet_core.specs.Numbers.{number_be, number_le, signed}
-use Rattle.netlink_packet_core.specs.Reading.{attributes_in}
+use Rattle.netlink_attributes.specs.Attribute.{Attribute}
+use Rattle.netlink_bytes.specs.Numbers.{number_be, number_le, signed}
+use Rattle.netlink_attributes.specs.Reading.{attributes_in}
 pub use Rattle.netlink_shapes.specs.Listing.{first_of}
 use Rattle.netlink_shapes.specs.Errors.{nest_error}
 use Rattle.netlink_shapes.specs.Shapes.{Row, nest_levels, rows_in, shape_among, within}

@@ -3,9 +3,9 @@ use Rattle.std.specs.Prelude.{ℕ, zero, suc, ◌≡◌, ◌==◌, ◌≤◌, �
 use Rattle.std.specs.List.{list_all}
 use Rattle.std.proofs.Common.{ap, arith, sym, ◌∙◌}
 use Rattle.std.proofs.lemmas.Bool.{and_parts, eqb-true, leb-true}
-use Rattle.netlink_packet_core.specs.Attribute.{Attribute}
-use Rattle.netlink_packet_core.specs.ReadingLaws.{attributes_in-walk}
-use Rattle.netlink_packet_core.specs.Views.{masked}
+use Rattle.netlink_attributes.specs.Attribute.{Attribute}
+use Rattle.netlink_attributes.specs.ReadingLaws.{attributes_in-walk}
+use Rattle.netlink_attributes.specs.Views.{masked}
 use Rattle.netlink_blocks.specs.Finding.{bytes_by, exact_by, first_in, found_in, i32_by, ip_by, least_by, nest_by, str_by, u16_by, u32_by, u64_by, u8_by}
 use Rattle.netlink_shapes.specs.ErrorLaws as errors
 use Rattle.netlink_shapes.specs.Errors.{nest_error, value_error}
@@ -30,7 +30,7 @@ by_kind scope policy kind a v rest true same shaped later gives =
     let k = mask_again a.kind kind (eqb-true (masked a.kind) kind same) in
     let w : a.value ≡ v = cc in
     ap (λ (n : ℕ). is_shaped nest_levels scope.0
-    (resolved scope (shape_by (or_first (row_at scope.0 policy n) (row_at scope.0 policy any_kind)))) v) k
+    (resolved scope policy (shape_by (or_first (row_at scope.0 policy n) (row_at scope.0 policy any_kind)))) v) k
     ∙ ap (is_shaped nest_levels scope.0 (shape_among scope policy a.kind)) (sym w) ∙ shaped
 by_kind scope policy kind a v rest false other shaped later gives = later gives
 

@@ -1,6 +1,6 @@
 -- Where the first attribute of each kind below 64 is in a block.
 use Rattle.std.specs.Prelude.{ℕ, ◌≡◌, ◌<◌, ◌-◌, ◌*◌, List, drop, slice_index, Some}
-use Rattle.netlink_packet_core.specs.Views.{HoldsAttribute, attribute_of}
+use Rattle.netlink_attributes.specs.Views.{HoldsAttribute, attribute_of}
 use Rattle.netlink_shapes.specs.Listing.{first_of, listed}
 
 -- the first attribute of a kind is at this offset

@@ -1,7 +1,7 @@
 -- What `Attributes` yields.
 use Rattle.std.specs.Prelude.{ℕ, ◌≡◌, List, [], Option, Some, None, Result, Ok, Err}
-use Rattle.netlink_packet_core.specs.Attribute.{Attribute}
-use Rattle.netlink_packet_core.specs.Walk.{Starts}
+use Rattle.netlink_attributes.specs.Attribute.{Attribute}
+use Rattle.netlink_attributes.specs.Walk.{Starts}
 use Rattle.netlink_shapes.specs.Errors.{rest_error}
 use Rattle.netlink_shapes.specs.Shapes.{Scope, shape_among}
 use Rattle.netlink_blocks.specs.Values.{NestHasRows, IsValueOf, value_shape}

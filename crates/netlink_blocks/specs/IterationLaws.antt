@@ -5,12 +5,12 @@ use Rattle.std.proofs.Common.{ap, sym, subst, ◌∙◌}
 use Rattle.std.proofs.Math.Bool.{Bool-set}
 use Rattle.std.proofs.Math.Logic.{∥∥₁_elim, ∥∥₁_map}
 use Rattle.std.proofs.lemmas.Bool.{and_parts}
-use Rattle.netlink_packet_core.specs.Attribute.{Attribute}
-use Rattle.netlink_packet_core.specs.DecodeError.{DecodeError}
-use Rattle.netlink_packet_core.specs.StartLaws.{nothing_starts}
-use Rattle.netlink_packet_core.specs.Views.{attribute_of}
-use Rattle.netlink_packet_core.specs.Walk.{Gives, Item, IsFault, Starts, Walk}
-use Rattle.netlink_packet_core.specs.WalkLaws.{starts_once, walk_once}
+use Rattle.netlink_attributes.specs.Attribute.{Attribute}
+use Rattle.netlink_bytes.specs.declared.error.DecodeError.{DecodeError}
+use Rattle.netlink_attributes.specs.StartLaws.{nothing_starts}
+use Rattle.netlink_attributes.specs.Views.{attribute_of}
+use Rattle.netlink_attributes.specs.Walk.{Gives, Item, IsFault, Starts, Walk}
+use Rattle.netlink_attributes.specs.WalkLaws.{starts_once, walk_once}
 use Rattle.netlink_shapes.specs.Shapes.{Scope, is_shaped, nest_levels, shape_among}
 use Rattle.netlink_shapes.specs.Fitting.{AreShaped, fits_at}
 use Rattle.netlink_shapes.specs.declared.shape.Shape.{Shape}

@@ -2,15 +2,15 @@
 -- Every line ends with a line feed, 10.
 use Rattle.std.specs.Prelude.{ℕ, zero, suc, ◌+◌, not, ◌==◌, ◌&&◌, List, [], ◌∷◌, ◌++◌, take, drop, nat_le, nat_lt, codes, decimal, Option, Some, None, if◌then◌else◌}
 use Rattle.std.specs.Fmt.{signed_decimal}
-use Rattle.netlink_packet_core.specs.Attribute.{Attribute}
-use Rattle.netlink_packet_core.specs.Numbers.{number_be, number_le, signed}
-use Rattle.netlink_packet_core.specs.Text.{hex_pair, hex_text}
+use Rattle.netlink_attributes.specs.Attribute.{Attribute}
+use Rattle.netlink_bytes.specs.Numbers.{number_be, number_le, signed}
+use Rattle.netlink_bytes.specs.Text.{hex_pair, hex_text}
 pub use Rattle.netlink_shapes.specs.Listing.{before_error}
 use Rattle.netlink_shapes.specs.Listing.{listed}
 use Rattle.netlink_shapes.specs.Shapes.{Field, Row, by_nest, has_shape, nest_block, nest_levels, nest_of, nest_start, row_in, Scope, shape_among, within}
 use Rattle.netlink_shapes.specs.Strings.{until_nul}
 use Rattle.netlink_shapes.specs.declared.shape.Shape.{Shape}
-use Rattle.netlink_shapes.specs.declared.shape.Shape.TheVariants.{Flag, U8, U16, U32, U64, I32, I64, Be16, Be32, Be64, BeI32, ExactLen, Ip, NulStr, Str, MinLen, Elements, Nested, HeaderNested, Chosen, Bytes}
+use Rattle.netlink_shapes.specs.declared.shape.Shape.TheVariants.{Flag, U8, U16, U32, U64, I32, I64, Be16, Be32, Be64, BeI32, ExactLen, Ip, NulStr, Str, MinLen, Elements, Nested, HeaderNested, Chosen, ChosenByNumber, Bytes}
 
 -- the texts of bytes, one after another
 abbrev pub each_of : (ℕ → List ℕ) → List ℕ → List ℕ
@@ -49,6 +49,7 @@ shaped_text (Elements size) value = hex_text value
 shaped_text (Nested policy) value = hex_text value
 shaped_text (HeaderNested size policy) value = hex_text value
 shaped_text (Chosen by policy) value = hex_text value
+shaped_text (ChosenByNumber by policy) value = hex_text value
 shaped_text Bytes value = hex_text value
 
 abbrev pub value_text : Shape → List ℕ → List ℕ

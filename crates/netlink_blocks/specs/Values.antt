@@ -1,6 +1,6 @@
 -- How a decoded value relates to its bytes.
 use Rattle.std.specs.Prelude.{ℕ, ◌≡◌, Bool, true, false, nat_le, List, [], ◌∷◌, ◌++◌, length, ⊤}
-use Rattle.netlink_packet_core.specs.Numbers.{bytes_be, bytes_le, number_be, number_le, signed, unsigned}
+use Rattle.netlink_bytes.specs.Numbers.{bytes_be, bytes_le, number_be, number_le, signed, unsigned}
 use Rattle.netlink_shapes.specs.Shapes.{Row, has_shape, is_multiple, nul_only_last, nul_terminated, rows_in}
 use Rattle.netlink_shapes.specs.declared.shape.Shape.{Shape}
 use Rattle.netlink_shapes.specs.declared.shape.Shape.TheVariants as shape

@@ -2,14 +2,14 @@
 
 ghost use Rattle.std.specs.Prelude.{◌≡◌};
 ghost use Rattle.std.specs.Iterator.{at_most};
-ghost use Rattle.netlink_packet_core.specs.Steps.{item_bound, unread};
+ghost use Rattle.netlink_attributes.specs.Steps.{item_bound, unread};
 ghost use Rattle.netlink_shapes.specs.Shapes.{CachesOther, rows_in, within};
 ghost use Rattle.netlink_shapes.specs.Choices.{AreChoices};
 ghost use Rattle.netlink_blocks.specs.Iteration.{YieldsValue};
 ghost use Rattle.netlink_shapes.specs.Fitting.{AreShaped};
 
 use crate::value::{Value, value_in};
-use netlink_packet_core::NlasIterator;
+use netlink_attributes::NlasIterator;
 use netlink_shapes::choice::{Choices, cached_shape_among};
 use netlink_shapes::rows::Rows;
 use netlink_shapes::shape::Shape;
@@ -32,7 +32,7 @@ pub struct Attributes<'a> {
     pub choices: Choices,
     pub ghost shaped: { ∥ AreShaped (within (rows_in rows.list.now) block.now) policy (unread walk) ∥₁ },
     pub ghost kept: { CachesOther (rows_in rows.list.now) policy other },
-    pub ghost chosen: { AreChoices (within (rows_in rows.list.now) block.now) choices },
+    pub ghost chosen: { AreChoices (within (rows_in rows.list.now) block.now) policy choices },
 }
 
 impl<'a> Iterator for Attributes<'a> {

@@ -1,7 +1,7 @@
 //! A block of attributes with the place of the first attribute of each kind, for many lookups.
 
 ghost use Rattle.std.specs.Prelude.{◌≡◌, ◌≢◌, ◌<◌, ◌≤◌, ◌*◌, ℕ, [], IfNone, IfSome, None, Some, drop, length, slice_index, true};
-ghost use Rattle.netlink_packet_core.specs.Views.{HoldsAttribute, attribute_of};
+ghost use Rattle.netlink_attributes.specs.Views.{HoldsAttribute, attribute_of};
 ghost use Rattle.netlink_blocks.specs.Finding.{found_at, shape_at};
 ghost use Rattle.netlink_blocks.specs.Index.{ArePlaces};
 ghost use Rattle.netlink_shapes.specs.Listing.{first_of, listed};
@@ -11,7 +11,7 @@ ghost use Rattle.std.proofs.Props.{props};
 
 use crate::block_view::BlockView;
 use crate::getters::are_shaped;
-use netlink_packet_core::{NlaBuffer, nla_align};
+use netlink_attributes::{NlaBuffer, nla_align};
 use netlink_shapes::find::{attribute_at, first_value, first_whole};
 use netlink_shapes::shape::Shape;
 

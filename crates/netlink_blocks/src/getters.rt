@@ -4,10 +4,11 @@ ghost use Rattle.std.specs.Prelude.{◌≡◌, ◌↔◌, ◌≤◌, ◌<◌, []
 ghost use Rattle.std.specs.Option.{option_map};
 ghost use Rattle.std.specs.Slice.Iter.{chunks_exact_remainder, chunks_exact_rest, chunks_exact_size};
 ghost use Rattle.std.specs.Str.{IsUtf8};
-ghost use Rattle.netlink_packet_core.specs.Steps.{unread};
+ghost use Rattle.netlink_attributes.specs.Steps.{unread};
 ghost use Rattle.netlink_blocks.specs.Finding.{be16_by, be32_by, be64_by, be_i32_by, bytes_by, elements_by, error_as, exact_by, found_at, i32_by, i64_by, ip_by, least_by, nest_by, nest_header_by, policy_by, shape_at, str_by, u16_by, u32_by, u64_by, u8_by};
-ghost use Rattle.netlink_shapes.specs.Shapes.{fits_in, nest_start, rows_in, within};
+ghost use Rattle.netlink_shapes.specs.Shapes.{fits_in, nest_start, number_by, rows_in, shape_in, within};
 ghost use Rattle.netlink_shapes.specs.Fitting.{AreShaped};
+ghost use Rattle.netlink_shapes.specs.Listing.{first_of, listed};
 ghost use Rattle.netlink_blocks.specs.Values.{NestHasRows, IsValueOf, value_shape};
 ghost use Rattle.netlink_blocks.specs.declared.block_view.BlockView.{BlockView};
 ghost use Rattle.netlink_shapes.specs.declared.shape.Shape.TheVariants.{ExactLen};
@@ -16,20 +17,20 @@ use crate::attributes::Attributes;
 use crate::block_view::BlockView;
 use crate::header_view::HeaderView;
 use crate::value::{Value, value_in};
-use netlink_packet_core::NlasIterator;
+use netlink_attributes::NlasIterator;
 use netlink_shapes::attribute_error::{AttributeError, error_in};
-use netlink_shapes::choice::{NO_CHOICES, chosen_by, far_row_shape, near_shape};
+use netlink_shapes::choice::{NO_CHOICES, chosen_by, far_row_shape, near_shape, numbered_by};
 use netlink_shapes::decoders::{
     be_i32_in, be16_in, be32_in, be64_in, bytes_until_nul, i32_in, i64_in, str_until_nul, u16_in,
     u32_in, u64_in,
 };
 use netlink_shapes::find::first_whole;
-use netlink_shapes::shape::{NEST_LEVELS, Shape, nest_block, policy_of};
+use netlink_shapes::shape::{NEST_LEVELS, Shape, nest_block, policy_of, row_shape};
 use std::slice::ChunksExact;
 
 impl<'a> BlockView<'a> {
-    /// Returns the shape of this kind in the block. For a kind whose shape is `Chosen`, that is the
-    /// shape that the first attribute of the choosing kind chooses.
+    /// Returns the shape of this kind in the block. For a kind whose shape is `Chosen` or
+    /// `ChosenByNumber`, that is the shape that the first attribute of the choosing kind chooses.
     #[inline(always)]
     pub fn shape(&self, kind: u16) -> Shape
         ensures { result ≡ shape_at self.now kind }
@@ -363,8 +364,19 @@ fn far_shape(view: &BlockView<'_>, kind: u16) -> Shape
             are_shaped(view, view.block);
             chosen_by(view.rows, policy, first_whole(view.block, by))
         }
+        Shape::ChosenByNumber { by, policy } => chosen_number(view, by, policy),
         shape => shape,
     }
+}
+
+/// Returns the shape that the first attribute of a kind chooses from a policy, by its number.
+fn chosen_number(view: &BlockView<'_>, kind: u16, policy: u16) -> Shape
+    ensures { result ≡ number_by (rows_in view.now.rows.list.now) policy
+        (shape_in (rows_in view.now.rows.list.now) view.now.policy kind) (first_of kind (listed view.now.block.now)) }
+{
+    are_shaped(view, view.block);
+    let shape = row_shape(view.rows, view.policy, kind);
+    numbered_by(view.rows, policy, shape, first_whole(view.block, kind))
 }
 
 /// A law: the attributes have the shapes of their kinds. Does nothing at run time.

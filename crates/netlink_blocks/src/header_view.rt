@@ -1,12 +1,12 @@
 //! The fixed header of a message, read in place.
 
 ghost use Rattle.std.specs.Prelude.{◌≡◌, ◌+◌, ◌≤◌, ◌++◌, drop, length, replicate, slice_index, slice_range, take};
-ghost use Rattle.netlink_packet_core.specs.Fields.{number_at};
-ghost use Rattle.netlink_packet_core.specs.Numbers.{number_be, signed};
+ghost use Rattle.netlink_bytes.specs.Fields.{number_at};
+ghost use Rattle.netlink_bytes.specs.Numbers.{number_be, signed};
 ghost use Rattle.netlink_blocks.specs.Show.{fixed_size};
 ghost use Rattle.netlink_shapes.specs.declared.shape.Shape.TheVariants.{Be16, Be32, Be64, ExactLen, I32, U16, U32, U64, U8};
 
-use netlink_packet_core::{i32_at, u16_at, u32_at};
+use netlink_bytes::{i32_at, u16_at, u32_at};
 use netlink_shapes::decoders::{be16_in, be32_in, be64_in, i32_in, u16_in, u32_in, u64_in};
 use netlink_shapes::shape::Shape;
 

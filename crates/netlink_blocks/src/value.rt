@@ -87,7 +87,7 @@ pub fn value_in<'a>(rows: Rows, shape: Shape, bytes: &'a [u8]) -> Value<'a>
         Shape::Elements(size) => Value::Elements(size, bytes),
         Shape::Nested(policy) => nest_in(rows, policy, bytes),
         Shape::HeaderNested { size, policy } => header_nest_in(rows, size, policy, bytes),
-        Shape::Chosen { .. } => unreachable!(),
+        Shape::Chosen { .. } | Shape::ChosenByNumber { .. } => unreachable!(),
         Shape::Bytes => Value::Bytes(bytes),
     }
 }

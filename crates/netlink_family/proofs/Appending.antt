@@ -12,11 +12,11 @@ use Rattle.netlink_shapes.specs.Blocks.{all_normalized, normalized, with_first}
 use Rattle.netlink_shapes.specs.ListingLaws.{first_later}
 use Rattle.netlink_shapes.specs.Listing.{first_of, listed}
 use Rattle.netlink_shapes.specs.Pushing.{chooses, is_chosen_by, is_late, keeps_shape, late_error}
-use Rattle.netlink_shapes.specs.Shapes.{Row, Scope, any_kind, choice_by, is_shaped, keep, nest_levels, or_first, reading_in, resolved, row_at, shape_among, shape_by, shape_in}
+use Rattle.netlink_shapes.specs.Shapes.{Row, Scope, any_kind, choice_by, is_shaped, keep, nest_levels, number_by, or_first, reading_in, resolved, row_at, shape_among, shape_by, shape_in}
 use Rattle.netlink_shapes.specs.ListingLaws.{before_step}
 use Rattle.netlink_shapes.specs.declared.attribute_error.AttributeError.{AttributeError}
 use Rattle.netlink_shapes.specs.declared.shape.Shape.{Shape}
-use Rattle.netlink_shapes.specs.declared.shape.Shape.TheVariants.{Flag, U8, U16, U32, U64, I32, I64, Be16, Be32, Be64, BeI32, ExactLen, Ip, NulStr, Str, MinLen, Elements, Nested, HeaderNested, Chosen, Bytes}
+use Rattle.netlink_shapes.specs.declared.shape.Shape.TheVariants.{Flag, U8, U16, U32, U64, I32, I64, Be16, Be32, Be64, BeI32, ExactLen, Ip, NulStr, Str, MinLen, Elements, Nested, HeaderNested, Chosen, ChosenByNumber, Bytes}
 
 -- ---- a kind that chooses no shape
 
@@ -112,9 +112,11 @@ first_push kind all a false other some =
 
 resolved_push : (rows : List Row) (all : List Attribute) (a : Attribute) (shape : Shape)
     → (not (is_chosen_by a.kind shape) || is_some (first_of (masked a.kind) all)) ≡ true
-    → resolved (rows, all ++ (a ∷ [])) shape ≡ resolved (rows, all) shape
+    → resolved (rows, all ++ (a ∷ [])) 0 shape ≡ resolved (rows, all) 0 shape
 resolved_push rows all a (Chosen by policy) is =
     ap (choice_by rows policy) (first_push by all a (by == masked a.kind) refl is)
+resolved_push rows all a (ChosenByNumber by policy) is =
+    ap (number_by rows policy (shape_in rows 0 by)) (first_push by all a (by == masked a.kind) refl is)
 resolved_push rows all a Flag is = refl
 resolved_push rows all a U8 is = refl
 resolved_push rows all a U16 is = refl

@@ -30,9 +30,9 @@ push_by_value size rows bytes kind value block found after is =
     (ap (λ (b : List ℕ). added_error (within rows b) kind value) (sym after) ∙ is)
 
 flat_fits : (scope : Scope) (kind : ℕ) (value : List ℕ) (s : Shape) → shape_in scope.0 0 kind ≡ s
-    → resolved scope s ≡ s → nest_of s ≡ None → has_shape s value ≡ true → fits_kind scope kind value ≡ true
+    → resolved scope 0 s ≡ s → nest_of s ≡ None → has_shape s value ≡ true → fits_kind scope kind value ≡ true
 flat_fits scope kind value s is plain flat has =
-    ap (λ (t : Shape). is_shaped nest_levels scope.0 t value) (ap (resolved scope) is ∙ plain)
+    ap (λ (t : Shape). is_shaped nest_levels scope.0 t value) (ap (resolved scope 0) is ∙ plain)
     ∙ flat_step nest_levels scope.0 s value flat ∙ has
 
 -- a value that satisfies the shape of its kind fits
@@ -75,6 +75,7 @@ either_chooses : (top : Bool) (s : Shape) (kinds : List ℕ) (later : Bool) (kin
     → (top && is_chosen_by kind s || later) ≡ has_type (if top then with_chooser s kinds else kinds) (masked kind)
 either_chooses false s kinds later kind is = is
 either_chooses true (shape.Chosen by p) kinds later kind is = ap (λ (b : Bool). by == masked kind || b) is
+either_chooses true (shape.ChosenByNumber by p) kinds later kind is = ap (λ (b : Bool). by == masked kind || b) is
 either_chooses true shape.Flag kinds later kind is = is
 either_chooses true shape.U8 kinds later kind is = is
 either_chooses true shape.U16 kinds later kind is = is

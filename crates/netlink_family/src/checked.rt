@@ -48,7 +48,7 @@ pub struct CheckedAttributes<'a, F: Table> {
     pub ghost passed: { is_none (rest_error (within (F.rows message_type) block.now) end (unread walk)) ≡ false
         → block_error (F.rows message_type) end block.now
         ≡ rest_error (within (F.rows message_type) block.now) end (unread walk) },
-    pub ghost chosen: { AreChoices (within (rows_in rows.list.now) block.now) choices },
+    pub ghost chosen: { AreChoices (within (rows_in rows.list.now) block.now) 0 choices },
 }
 
 impl<'a, F: Table> CheckedAttributes<'a, F> {

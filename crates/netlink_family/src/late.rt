@@ -98,7 +98,7 @@ fn is_chosen_by(kind: u16, shape: Shape) -> bool
     ensures { result ≡ is_chosen_by kind shape }
 {
     match shape {
-        Shape::Chosen { by, .. } => by == kind & NLA_TYPE_MASK,
+        Shape::Chosen { by, .. } | Shape::ChosenByNumber { by, .. } => by == kind & NLA_TYPE_MASK,
         _ => false,
     }
 }

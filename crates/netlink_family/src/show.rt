@@ -258,6 +258,7 @@ fn push_value(text: &mut String, shape: Shape, value: &[u8]) -> Result<(), Alloc
         | Shape::Nested(_)
         | Shape::HeaderNested { .. }
         | Shape::Chosen { .. }
+        | Shape::ChosenByNumber { .. }
         | Shape::Bytes => push_hex(text, value),
     }
 }

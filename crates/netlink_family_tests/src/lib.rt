@@ -4,6 +4,7 @@
 pub mod choices;
 pub mod getters;
 pub mod neighbours;
+pub mod numbered;
 pub mod route;
 pub mod rules;
 pub mod shapes;

@@ -8,6 +8,7 @@ mod getters;
 mod later;
 mod messages;
 mod nests;
+mod numbered;
 mod places;
 mod push;
 mod records;

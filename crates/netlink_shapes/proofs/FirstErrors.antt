@@ -1,11 +1,11 @@
 -- The invariant of the loop that looks for the first error of a block.
 use Rattle.std.proofs.Common.{◌≡◌, ◌≢◌, ℕ, ◌-◌, ◌≤◌, List, [], length, refl, sym, ap, ◌∙◌, arith, Option, Some, None, true, false}
 use Rattle.std.specs.Prelude.{is_none, is_some}
-use Rattle.netlink_packet_core.specs.Attribute.{Attribute}
-use Rattle.netlink_packet_core.specs.DecodeError.{DecodeError}
-use Rattle.netlink_packet_core.specs.StartLaws.{starts-length}
-use Rattle.netlink_packet_core.specs.Views.{attribute_of, length_field}
-use Rattle.netlink_packet_core.specs.Walk.{IsFault, Starts}
+use Rattle.netlink_attributes.specs.Attribute.{Attribute}
+use Rattle.netlink_bytes.specs.declared.error.DecodeError.{DecodeError}
+use Rattle.netlink_attributes.specs.StartLaws.{starts-length}
+use Rattle.netlink_attributes.specs.Views.{attribute_of, length_field}
+use Rattle.netlink_attributes.specs.Walk.{IsFault, Starts}
 use Rattle.netlink_shapes.specs.ErrorLaws.{left_after_start, error_malformed, error_nothing, error_step}
 use Rattle.netlink_shapes.specs.Errors.{decode_reason, error_at, error_in, left_after, value_error}
 use Rattle.netlink_shapes.specs.Shapes.{Scope, or_first}

@@ -2,11 +2,11 @@
 use Rattle.std.proofs.Common.{◌≡◌, ◌≢◌, ◌&&◌, ◌<◌, ℕ, ◌-◌, zero, suc, Bool, true, false, List, [], length, arith, refl, sym, ap, ◌∙◌, Option, Some}
 use Rattle.std.specs.Prelude.{is_none}
 use Rattle.std.proofs.lemmas.Bool.{and_left, and_right}
-use Rattle.netlink_packet_core.specs.Attribute.{Attribute}
-use Rattle.netlink_packet_core.specs.DecodeError.{DecodeError}
-use Rattle.netlink_packet_core.specs.ReadingLaws.{attributes_in-fault, attributes_in-walk}
-use Rattle.netlink_packet_core.specs.Views.{attribute_of}
-use Rattle.netlink_packet_core.specs.Walk.{IsFault, Starts}
+use Rattle.netlink_attributes.specs.Attribute.{Attribute}
+use Rattle.netlink_bytes.specs.declared.error.DecodeError.{DecodeError}
+use Rattle.netlink_attributes.specs.ReadingLaws.{attributes_in-fault, attributes_in-walk}
+use Rattle.netlink_attributes.specs.Views.{attribute_of}
+use Rattle.netlink_attributes.specs.Walk.{IsFault, Starts}
 use Rattle.netlink_shapes.specs.ErrorLaws.{error_step, first_shaped, none_of, value_shaped}
 use Rattle.netlink_shapes.specs.Errors.{first_error, value_error}
 use Rattle.netlink_shapes.specs.Shapes.{Row, Scope, all_shaped, are_shaped, by_nest, has_shape, is_block_shaped, is_shaped, nest_block, nest_of, shape_among}

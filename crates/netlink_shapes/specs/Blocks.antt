@@ -3,10 +3,10 @@
 use Rattle.std.specs.Prelude.{ℕ, ◌≡◌, Bool, ◌&&◌, List, [], ◌∷◌, length, Option, Some, None, nat_le, if◌then◌else◌}
 use Rattle.std.specs.Option.{option_map}
 use Rattle.std.specs.List.{list_all}
-use Rattle.netlink_packet_core.specs.Attribute.{Attribute, value_max}
-use Rattle.netlink_packet_core.specs.Block.{canonical_block}
-use Rattle.netlink_packet_core.specs.Nla.{attribute_with, block_max}
-use Rattle.netlink_packet_core.specs.Reading.{attributes_in}
+use Rattle.netlink_attributes.specs.Attribute.{Attribute, value_max}
+use Rattle.netlink_attributes.specs.Block.{canonical_block}
+use Rattle.netlink_attributes.specs.Nla.{attribute_with, block_max}
+use Rattle.netlink_attributes.specs.Reading.{attributes_in}
 
 -- the canonical form of a value of a kind, or nothing if the value is not valid for the kind
 abbrev pub KindReading : Type 0

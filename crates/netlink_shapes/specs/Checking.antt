@@ -3,12 +3,12 @@ use Rattle.std.proofs.Common.{◌≡◌, ◌≢◌, ◌&&◌, ℕ, ◌-◌, Bool
 use Rattle.std.specs.List.{list_all}
 use Rattle.std.specs.Prelude.{is_none, if◌then◌else◌}
 use Rattle.std.proofs.lemmas.Bool.{and_parts}
-use Rattle.netlink_packet_core.specs.Attribute.{Attribute}
-use Rattle.netlink_packet_core.specs.Block.{IsCanonicalBlock}
-use Rattle.netlink_packet_core.specs.DecodeError.{DecodeError}
-use Rattle.netlink_packet_core.specs.ReadingLaws.{attributes_in-fault, attributes_in-walk}
-use Rattle.netlink_packet_core.specs.Views.{attribute_of, length_field}
-use Rattle.netlink_packet_core.specs.Walk.{IsFault, Starts, Walk}
+use Rattle.netlink_attributes.specs.Attribute.{Attribute}
+use Rattle.netlink_attributes.specs.Block.{IsCanonicalBlock}
+use Rattle.netlink_bytes.specs.declared.error.DecodeError.{DecodeError}
+use Rattle.netlink_attributes.specs.ReadingLaws.{attributes_in-fault, attributes_in-walk}
+use Rattle.netlink_attributes.specs.Views.{attribute_of, length_field}
+use Rattle.netlink_attributes.specs.Walk.{IsFault, Starts, Walk}
 use Rattle.netlink_shapes.specs.Blocks.{all_normalized}
 use Rattle.netlink_shapes.specs.ErrorLaws.{error_step, none_of, normalized_by_rows, rest_shaped, value_shaped}
 use Rattle.netlink_shapes.specs.Errors.{rest_error, value_error}
@@ -16,7 +16,7 @@ use Rattle.netlink_shapes.specs.Listing.{listed_all}
 use Rattle.netlink_shapes.specs.Shapes.{Row, Scope, all_shaped, are_shaped, fits_kind, is_block_shaped, nest_levels, reading_by, within}
 use Rattle.netlink_shapes.specs.Fitting.{fits}
 use Rattle.netlink_shapes.specs.declared.attribute_error.AttributeError.{AttributeError}
-use Rattle.netlink_packet_core.specs.ZeroPadding.{IsZeroPadded, canonical_cons}
+use Rattle.netlink_attributes.specs.ZeroPadding.{IsZeroPadded, canonical_cons}
 
 -- ---- whether the attributes of a block have their shapes
 

@@ -4,14 +4,14 @@ use Rattle.std.specs.List.{list_all}
 use Rattle.std.specs.Option.{option_map}
 use Rattle.std.proofs.Common.{ap, arith, sym, ◌∙◌, length-drop}
 use Rattle.std.proofs.lemmas.Bool.{and_right, le-ltb, lt-ltb}
-use Rattle.netlink_packet_core.specs.Attribute.{Attribute, padded_size}
-use Rattle.netlink_packet_core.specs.DecodeError.{DecodeError}
-use Rattle.netlink_packet_core.specs.DecodeError.TheVariants.{NlaBufferTooSmall, NlaLengthMismatch, NlaInvalidLength}
-use Rattle.netlink_packet_core.specs.Reading.{attributes_in, attributes_within, starts_whole}
-use Rattle.netlink_packet_core.specs.ReadingLaws.{fault-whole, starts-whole}
-use Rattle.netlink_packet_core.specs.StartLaws.{nothing_starts, starts-attribute_of, starts-length, starts-length_field, starts-rest}
-use Rattle.netlink_packet_core.specs.Views.{attribute_of, length_field, raw_kind}
-use Rattle.netlink_packet_core.specs.Walk.{IsFault, Starts}
+use Rattle.netlink_attributes.specs.Attribute.{Attribute, padded_size}
+use Rattle.netlink_bytes.specs.declared.error.DecodeError.{DecodeError}
+use Rattle.netlink_bytes.specs.declared.error.DecodeError.TheVariants.{NlaBufferTooSmall, NlaLengthMismatch, NlaInvalidLength}
+use Rattle.netlink_attributes.specs.Reading.{attributes_in, attributes_within, starts_whole}
+use Rattle.netlink_attributes.specs.ReadingLaws.{fault-whole, starts-whole}
+use Rattle.netlink_attributes.specs.StartLaws.{nothing_starts, starts-attribute_of, starts-length, starts-length_field, starts-rest}
+use Rattle.netlink_attributes.specs.Views.{attribute_of, length_field, raw_kind}
+use Rattle.netlink_attributes.specs.Walk.{IsFault, Starts}
 use Rattle.netlink_shapes.specs.Blocks.{all_normalized, normalized, with_first}
 use Rattle.netlink_shapes.specs.Errors.{ValueError, block_error, reason_of, decode_reason, walk_reason, error_at, nest_error, rest_error, first_error, flat_error, left_after, value_error}
 use Rattle.netlink_shapes.specs.Shapes.{Row, Scope, all_shaped, by_nest, fits_kind, has_shape, is_block_shaped, is_shaped, nest_block, nest_levels, nest_of, or_first, reading_in, shape_among, within}

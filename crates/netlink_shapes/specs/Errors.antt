@@ -2,11 +2,11 @@
 -- inside nests. Out of memory is not one of these errors.
 use Rattle.std.specs.Prelude.{ℕ, zero, suc, ◌+◌, ◌-◌, ◌*◌, ◌/◌, Bool, List, [], ◌∷◌, length, drop, nat_le, nat_lt, Option, Some, None, if◌then◌else◌}
 use Rattle.std.specs.Option.{option_map}
-use Rattle.netlink_packet_core.specs.Attribute.{Attribute, padded_size}
-use Rattle.netlink_packet_core.specs.DecodeError.{DecodeError}
-use Rattle.netlink_packet_core.specs.DecodeError.TheVariants.{NlaBufferTooSmall, NlaLengthMismatch, NlaInvalidLength}
-use Rattle.netlink_packet_core.specs.Reading.{attributes_in, starts_whole}
-use Rattle.netlink_packet_core.specs.Views.{attribute_of, length_field, raw_kind}
+use Rattle.netlink_attributes.specs.Attribute.{Attribute, padded_size}
+use Rattle.netlink_bytes.specs.declared.error.DecodeError.{DecodeError}
+use Rattle.netlink_bytes.specs.declared.error.DecodeError.TheVariants.{NlaBufferTooSmall, NlaLengthMismatch, NlaInvalidLength}
+use Rattle.netlink_attributes.specs.Reading.{attributes_in, starts_whole}
+use Rattle.netlink_attributes.specs.Views.{attribute_of, length_field, raw_kind}
 use Rattle.netlink_shapes.specs.Blocks.{block_fits}
 use Rattle.netlink_shapes.specs.Shapes.{Row, Scope, by_nest, has_shape, has_type, nest_block, nest_levels, nest_of, or_first, shape_among, within}
 use Rattle.netlink_shapes.specs.Short.{is_short}
@@ -16,7 +16,7 @@ use Rattle.netlink_shapes.specs.declared.attribute_error.Reason.{Reason}
 use Rattle.netlink_shapes.specs.declared.attribute_error.Reason.TheVariants as reason
 use Rattle.netlink_shapes.specs.declared.attribute_error.AttributeError.{AttributeError}
 use Rattle.netlink_shapes.specs.declared.shape.Shape.{Shape}
-use Rattle.netlink_shapes.specs.declared.shape.Shape.TheVariants.{Flag, U8, U16, U32, U64, I32, I64, Be16, Be32, Be64, BeI32, ExactLen, Ip, NulStr, Str, MinLen, Elements, Nested, HeaderNested, Chosen, Bytes}
+use Rattle.netlink_shapes.specs.declared.shape.Shape.TheVariants.{Flag, U8, U16, U32, U64, I32, I64, Be16, Be32, Be64, BeI32, ExactLen, Ip, NulStr, Str, MinLen, Elements, Nested, HeaderNested, Chosen, ChosenByNumber, Bytes}
 
 abbrev pub error_at : ℕ → ℕ → Reason → AttributeError
 error_at policy at why = record { offset = at; policy = policy; reason = why }
@@ -56,6 +56,7 @@ reason_of (Elements size) kind value = reason.NoMultiple kind size (length value
 reason_of (Nested policy) kind value = reason.TooDeep kind
 reason_of (HeaderNested size policy) kind value = reason.TooSmall kind size (length value)
 reason_of (Chosen by policy) kind value = reason.WrongSize kind 0 (length value)
+reason_of (ChosenByNumber by policy) kind value = reason.WrongSize kind 0 (length value)
 reason_of Bytes kind value = reason.WrongSize kind 0 (length value)
 
 -- the error of a value, by the offset and the kind of its attribute

@@ -1,8 +1,8 @@
 -- Attributes that have the shapes of their kinds.
 use Rattle.std.specs.Prelude.{ℕ, ◌≡◌, Bool, true, List, None}
 use Rattle.std.specs.List.{list_all}
-use Rattle.netlink_packet_core.specs.Attribute.{Attribute}
-use Rattle.netlink_packet_core.specs.Walk.{Walk}
+use Rattle.netlink_attributes.specs.Attribute.{Attribute}
+use Rattle.netlink_attributes.specs.Walk.{Walk}
 use Rattle.netlink_shapes.specs.Shapes.{Scope, fits_in, fits_kind}
 
 abbrev pub fits : Scope → Attribute → Bool

@@ -2,9 +2,9 @@
 use Rattle.std.specs.Prelude.{ℕ, zero, suc, ◌≡◌, ◌==◌, Bool, true, false, List, [], ◌∷◌, length, drop, Option, Some, None, refl, if◌then◌else◌}
 use Rattle.std.specs.Option.{option_map}
 use Rattle.std.proofs.Common.{ap, ◌∙◌}
-use Rattle.netlink_packet_core.specs.Attribute.{Attribute, padded_size}
-use Rattle.netlink_packet_core.specs.Reading.{attributes_in, attributes_within, starts_whole}
-use Rattle.netlink_packet_core.specs.Views.{attribute_of, masked}
+use Rattle.netlink_attributes.specs.Attribute.{Attribute, padded_size}
+use Rattle.netlink_attributes.specs.Reading.{attributes_in, attributes_within, starts_whole}
+use Rattle.netlink_attributes.specs.Views.{attribute_of, masked}
 
 -- the attributes of bytes up to their end or to an error of the walk
 unfoldable pub before_error : ℕ → List ℕ → List Attribute

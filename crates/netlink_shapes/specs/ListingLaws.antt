@@ -2,15 +2,15 @@
 use Rattle.std.specs.Prelude.{ℕ, ◌≡◌, ◌≢◌, ◌==◌, length, Bool, List, [], ◌∷◌, Some, refl, if◌then◌else◌, zero, suc, ◌-◌, ◌≤◌, drop}
 use Rattle.std.proofs.Common.{ap, arith, sym, ◌∙◌, length-drop}
 use Rattle.std.proofs.lemmas.Bool.{eqb-true, eq-eqb}
-use Rattle.netlink_packet_core.specs.Attribute.{Attribute, padded_size}
-use Rattle.netlink_packet_core.specs.Views.{masked, attribute_of}
+use Rattle.netlink_attributes.specs.Attribute.{Attribute, padded_size}
+use Rattle.netlink_attributes.specs.Views.{masked, attribute_of}
 use Rattle.netlink_shapes.specs.Listing.{first_of, before_error}
 use Rattle.netlink_shapes.specs.SortedLaws.{if_not}
-use Rattle.netlink_packet_core.specs.DecodeError.{DecodeError}
-use Rattle.netlink_packet_core.specs.Reading.{starts_whole}
-use Rattle.netlink_packet_core.specs.StartLaws.{nothing_starts, starts-attribute_of, starts-length, starts-rest}
-use Rattle.netlink_packet_core.specs.Walk.{IsFault, Starts}
-use Rattle.netlink_packet_core.specs.ReadingLaws.{fault-whole, starts-whole}
+use Rattle.netlink_bytes.specs.declared.error.DecodeError.{DecodeError}
+use Rattle.netlink_attributes.specs.Reading.{starts_whole}
+use Rattle.netlink_attributes.specs.StartLaws.{nothing_starts, starts-attribute_of, starts-length, starts-rest}
+use Rattle.netlink_attributes.specs.Walk.{IsFault, Starts}
+use Rattle.netlink_attributes.specs.ReadingLaws.{fault-whole, starts-whole}
 
 pub first_here : (kind : ℕ) (a : Attribute) (more : List Attribute) → masked a.kind ≡ kind
     → first_of kind (a ∷ more) ≡ Some a.value

@@ -4,8 +4,8 @@ use Rattle.std.specs.List.{list_all}
 use Rattle.std.proofs.Common.{ap, sym, ◌∙◌}
 use Rattle.std.proofs.lemmas.Bool.{and_from, and_parts, leb-true}
 use Rattle.std.proofs.lemmas.List.{length-take-le}
-use Rattle.netlink_packet_core.specs.Attribute.{Attribute}
-use Rattle.netlink_packet_core.specs.Reading.{attributes_in}
+use Rattle.netlink_attributes.specs.Attribute.{Attribute}
+use Rattle.netlink_attributes.specs.Reading.{attributes_in}
 use Rattle.netlink_shapes.specs.Shapes.{Row, Scope, all_shaped, by_nest, fits_in, has_shape, is_block_shaped, is_shaped, nest_block, nest_fits, nest_levels, nest_of, shape_among, within}
 use Rattle.netlink_shapes.specs.declared.shape.Shape.{Shape}
 use Rattle.netlink_shapes.specs.declared.shape.Shape.TheVariants.{HeaderNested}

@@ -1,9 +1,9 @@
 -- Attributes that are read and written one by one.
 use Rattle.std.proofs.Common.{◌≡◌, ℕ, List, [], ◌∷◌, ◌++◌, refl, sym, ap, ◌∙◌, Option, Some, None, append-nil, append_assoc}
 use Rattle.std.specs.Option.{option_map}
-use Rattle.netlink_packet_core.specs.Attribute.{Attribute, padded}
-use Rattle.netlink_packet_core.specs.Block.{canonical_block}
-use Rattle.netlink_packet_core.specs.Nla.{attribute_with}
+use Rattle.netlink_attributes.specs.Attribute.{Attribute, padded}
+use Rattle.netlink_attributes.specs.Block.{canonical_block}
+use Rattle.netlink_attributes.specs.Nla.{attribute_with}
 use Rattle.netlink_shapes.specs.Blocks.{KindReading, all_normalized, normalized, with_first}
 
 -- two lists appended, if there are two

@@ -3,7 +3,7 @@ use Rattle.std.proofs.Common.{ℕ, ◌≡◌, ◌==◌, ◌+◌, ◌<◌, ◌≤
 use Rattle.std.specs.Prelude.{◌||◌, bytes_eq, if◌then◌else◌}
 use Rattle.std.proofs.lemmas.Bool.{and_parts, eqb-true}
 use Rattle.std.proofs.lemmas.List.{drop_more}
-use Rattle.netlink_packet_core.specs.Views.{masked}
+use Rattle.netlink_attributes.specs.Views.{masked}
 use Rattle.netlink_shapes.specs.Policies.{IsPart, of_policy}
 use Rattle.netlink_shapes.specs.Pushing.{chooses, is_chosen_by}
 use Rattle.netlink_shapes.specs.Shapes.{Row, any_kind, are_sorted, choice_at, is_before, or_first, row_at, rows_in, shape_by, shape_in, sorted_from, stored_row}

@@ -2,16 +2,16 @@
 use Rattle.std.specs.Prelude.{ℕ, ◌+◌, ◌-◌, ◌==◌, Bool, false, not, ◌&&◌, ◌||◌, List, [], ◌∷◌, drop, is_some, length, nat_le, Option, Some, None, if◌then◌else◌}
 use Rattle.std.specs.List.{list_all}
 use Rattle.std.specs.Option.{option_map}
-use Rattle.netlink_packet_core.specs.Attribute.{padding, value_max}
-use Rattle.netlink_packet_core.specs.Nla.{block_max}
-use Rattle.netlink_packet_core.specs.Views.{masked}
+use Rattle.netlink_attributes.specs.Attribute.{padding, value_max}
+use Rattle.netlink_attributes.specs.Nla.{block_max}
+use Rattle.netlink_attributes.specs.Views.{masked}
 use Rattle.netlink_shapes.specs.Errors.{error_at, value_error}
 use Rattle.netlink_shapes.specs.Listing.{first_of}
 use Rattle.netlink_shapes.specs.Shapes.{Row, Scope, nest_levels, or_first, shape_in, within}
 use Rattle.netlink_shapes.specs.declared.attribute_error.AttributeError.{AttributeError}
 use Rattle.netlink_shapes.specs.declared.attribute_error.Reason.TheVariants.{LateChoice}
 use Rattle.netlink_shapes.specs.declared.shape.Shape.{Shape}
-use Rattle.netlink_shapes.specs.declared.shape.Shape.TheVariants.{Chosen}
+use Rattle.netlink_shapes.specs.declared.shape.Shape.TheVariants.{Chosen, ChosenByNumber}
 use Rattle.netlink_shapes.specs.declared.error.FamilyError.{FamilyError}
 use Rattle.netlink_shapes.specs.declared.error.FamilyError.TheVariants.{InvalidAttribute, TooLong}
 
@@ -28,6 +28,7 @@ room_error size bytes value = if has_room size bytes value then None else Some T
 -- a shape is chosen by the attributes of a kind
 abbrev pub is_chosen_by : ℕ → Shape → Bool
 is_chosen_by kind (Chosen by policy) = by == masked kind
+is_chosen_by kind (ChosenByNumber by policy) = by == masked kind
 is_chosen_by kind _ = false
 
 -- a kind chooses the shape of some kind in policy 0
@@ -38,6 +39,7 @@ chooses (row ∷ rows) kind = row.0 == 0 && is_chosen_by kind row.3 || chooses r
 -- the kinds that choose the shape of some kind in policy 0
 abbrev pub with_chooser : Shape → List ℕ → List ℕ
 with_chooser (Chosen by policy) kinds = by ∷ kinds
+with_chooser (ChosenByNumber by policy) kinds = by ∷ kinds
 with_chooser shape kinds = kinds
 
 abbrev pub choosers : List Row → List ℕ

@@ -1,17 +1,18 @@
 -- The shapes of values, and the tables of families.
-use Rattle.std.specs.Prelude.{ℕ, zero, suc, ◌≡◌, ◌==◌, ◌^◌, ◌%◌, Bool, true, false, not, ◌&&◌, ◌||◌, List, [], ◌∷◌, length, drop, map, bytes_eq, nat_le, nat_lt, Option, Some, None, if◌then◌else◌}
+use Rattle.std.specs.Prelude.{ℕ, zero, suc, ◌≡◌, ◌==◌, ◌^◌, ◌%◌, Bool, true, false, not, ◌&&◌, ◌||◌, List, [], ◌∷◌, length, drop, map, bytes_eq, slice_index, nat_le, nat_lt, Option, Some, None, if◌then◌else◌}
 use Rattle.std.specs.List.{list_all}
 use Rattle.std.specs.Option.{ForSome}
 use denote.Ref.{Bor}
-use Rattle.netlink_packet_core.specs.Attribute.{Attribute}
-use Rattle.netlink_packet_core.specs.Reading.{attributes_in}
-use Rattle.netlink_packet_core.specs.Views.{masked}
+use Rattle.netlink_attributes.specs.Attribute.{Attribute}
+use Rattle.netlink_bytes.specs.Numbers.{number_be, number_le}
+use Rattle.netlink_attributes.specs.Reading.{attributes_in}
+use Rattle.netlink_attributes.specs.Views.{masked}
 use Rattle.netlink_shapes.specs.Blocks.{KeepsValues, KindReading, ValueReading}
 use Rattle.netlink_shapes.specs.Listing.{first_of, listed}
 pub use Rattle.netlink_shapes.specs.Strings.{nul_only_last, nul_terminated}
 use Rattle.netlink_shapes.specs.Strings.{until_nul}
 use Rattle.netlink_shapes.specs.declared.shape.Shape.{Shape}
-use Rattle.netlink_shapes.specs.declared.shape.Shape.TheVariants.{Flag, U8, U16, U32, U64, I32, I64, Be16, Be32, Be64, BeI32, ExactLen, Ip, NulStr, Str, MinLen, Elements, Nested, HeaderNested, Chosen, Bytes}
+use Rattle.netlink_shapes.specs.declared.shape.Shape.TheVariants.{Flag, U8, U16, U32, U64, I32, I64, Be16, Be32, Be64, BeI32, ExactLen, Ip, NulStr, Str, MinLen, Elements, Nested, HeaderNested, Chosen, ChosenByNumber, Bytes}
 
 -- a row of a table: the policy that it belongs to, a kind, its name, and the shape of its values
 abbrev pub Row : Type 0
@@ -71,6 +72,7 @@ has_shape (Elements size) value = is_multiple (length value) size
 has_shape (Nested policy) value = true
 has_shape (HeaderNested size policy) value = nat_le size (length value)
 has_shape (Chosen by policy) value = false
+has_shape (ChosenByNumber by policy) value = false
 has_shape Bytes value = true
 
 -- the first row of a policy and a kind
@@ -123,14 +125,42 @@ abbrev pub choice_by : List Row → ℕ → Option (List ℕ) → Shape
 choice_by rows policy None = Bytes
 choice_by rows policy (Some value) = choice_at rows policy (until_nul value)
 
--- a chosen shape is chosen by the first attribute of its choosing kind
-abbrev pub resolved : Scope → Shape → Shape
-resolved scope (Chosen by policy) = choice_by scope.0 policy (first_of by scope.1)
-resolved scope shape = shape
+-- the number that a value of a shape is; none if the shape is not that of an unsigned integer
+abbrev pub number_in : Shape → List ℕ → Option ℕ
+number_in U8 value = Some (slice_index value 0)
+number_in U16 value = Some (number_le value)
+number_in U32 value = Some (number_le value)
+number_in U64 value = Some (number_le value)
+number_in Be16 value = Some (number_be value)
+number_in Be32 value = Some (number_be value)
+number_in Be64 value = Some (number_be value)
+number_in _ value = None
+
+-- the same, and none if the value does not have the shape
+abbrev pub number_of : Shape → List ℕ → Option ℕ
+number_of shape value = if has_shape shape value then number_in shape value else None
+
+-- the shape in the row of a policy whose kind is the number; `Bytes` if there is none
+abbrev pub number_at : List Row → ℕ → Option ℕ → Shape
+number_at rows policy None = Bytes
+number_at rows policy (Some n) = if nat_lt n any_kind then shape_by (row_at rows policy n) else Bytes
+
+-- the shape that a value of this shape chooses by its number; `Bytes` without a value
+abbrev pub number_by : List Row → ℕ → Shape → Option (List ℕ) → Shape
+number_by rows policy by None = Bytes
+number_by rows policy by (Some value) = number_at rows policy (number_of by value)
+
+-- the first attribute of the choosing kind chooses; a number is read by the shape of that kind in the
+-- policy of the block
+abbrev pub resolved : Scope → ℕ → Shape → Shape
+resolved scope policy (Chosen by choices) = choice_by scope.0 choices (first_of by scope.1)
+resolved scope policy (ChosenByNumber by choices) =
+    number_by scope.0 choices (shape_in scope.0 policy by) (first_of by scope.1)
+resolved scope policy shape = shape
 
 -- the shape of a kind in a policy, in a block
 abbrev pub shape_among : Scope → ℕ → ℕ → Shape
-shape_among scope policy kind = resolved scope (shape_in scope.0 policy kind)
+shape_among scope policy kind = resolved scope policy (shape_in scope.0 policy kind)
 
 -- ---- nests
 
@@ -156,6 +186,7 @@ nest_of (Elements size) = None
 nest_of (Nested policy) = Some policy
 nest_of (HeaderNested size policy) = Some policy
 nest_of (Chosen by policy) = None
+nest_of (ChosenByNumber by policy) = None
 nest_of Bytes = None
 
 -- the size of the header before the attributes of a nest

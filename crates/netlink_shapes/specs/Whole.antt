@@ -1,7 +1,7 @@
 -- Blocks without an error of the walk.
 use Rattle.std.specs.Prelude.{ℕ, List, None}
-use Rattle.netlink_packet_core.specs.Attribute.{Attribute}
-use Rattle.netlink_packet_core.specs.Walk.{Walk}
+use Rattle.netlink_attributes.specs.Attribute.{Attribute}
+use Rattle.netlink_attributes.specs.Walk.{Walk}
 
 -- walking the bytes yields attributes, and then the end
 abbrev pub IsWhole : List ℕ → Type 0

@@ -1,9 +1,9 @@
 -- Steps of a walk without an error.
 use Rattle.std.proofs.Common.{◌≡◌, ◌∙◌, ℕ, ◌+◌, ◌<◌, ◌≤◌, ◌%◌, List, [], ◌∷◌, length, drop, ap, sym, subst, arith, None, Some}
-use Rattle.netlink_packet_core.specs.Attribute.{Attribute, padded_size}
-use Rattle.netlink_packet_core.specs.StartLaws.{starts-attribute_of, starts-length, starts-length_field, starts-rest}
-use Rattle.netlink_packet_core.specs.Views.{HoldsAttribute, attribute_of, length_field, masked}
-use Rattle.netlink_packet_core.specs.Walk.{Starts, Walk}
+use Rattle.netlink_attributes.specs.Attribute.{Attribute, padded_size}
+use Rattle.netlink_attributes.specs.StartLaws.{starts-attribute_of, starts-length, starts-length_field, starts-rest}
+use Rattle.netlink_attributes.specs.Views.{HoldsAttribute, attribute_of, length_field, masked}
+use Rattle.netlink_attributes.specs.Walk.{Starts, Walk}
 use Rattle.netlink_shapes.specs.ListingLaws.{first_here}
 use Rattle.netlink_shapes.specs.Listing.{first_of, listed}
 use Rattle.netlink_shapes.specs.ListingLaws.{before_step}

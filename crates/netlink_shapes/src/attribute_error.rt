@@ -9,7 +9,8 @@ ghost use Rattle.netlink_shapes.specs.Shapes.{has_shape, nest_of, rows_in, shape
 use crate::choice::{NO_CHOICES, own_shape_among, shape_among};
 use crate::rows::Rows;
 use crate::shape::{Shape, TOP, has_shape, nest_block, policy_of, policy_rows};
-use netlink_packet_core::{DecodeError, NlasIterator, nla_align};
+use netlink_attributes::{NlasIterator, nla_align};
+use netlink_bytes::DecodeError;
 use std::fmt;
 
 /// The size of two attributes with values of 4 bytes.
@@ -396,7 +397,7 @@ fn reason_of(shape: Shape, kind: u16, value: &[u8]) -> Reason
 {
     let received = value.len();
     let expected = match shape {
-        Shape::Flag | Shape::Chosen { .. } | Shape::Bytes => 0,
+        Shape::Flag | Shape::Chosen { .. } | Shape::ChosenByNumber { .. } | Shape::Bytes => 0,
         Shape::U8 => 1,
         Shape::U16 | Shape::Be16 => 2,
         Shape::U32 | Shape::I32 | Shape::Be32 | Shape::BeI32 => 4,

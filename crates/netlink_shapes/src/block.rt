@@ -2,11 +2,11 @@
 
 ghost use Rattle.std.specs.Option.{option_map};
 ghost use Rattle.std.specs.Prelude.{◌≡◌, ◌&&◌, ◌<◌, ◌^◌, ◌≤◌, ◌++◌, List, None, Option, Some, IfErr, IfSome, IsTrue, OnOk, drop, false, is_some, length, replicate, take, true};
-ghost use Rattle.netlink_packet_core.specs.Attribute.{Attribute, padding, value_max};
-ghost use Rattle.netlink_packet_core.specs.Block.{canonical_block, IsCanonicalBlock};
-ghost use Rattle.netlink_packet_core.specs.DecodeError.{DecodeError};
-ghost use Rattle.netlink_packet_core.specs.Steps.{unread};
-ghost use Rattle.netlink_packet_core.specs.Walk.{Walk};
+ghost use Rattle.netlink_attributes.specs.Attribute.{Attribute, padding, value_max};
+ghost use Rattle.netlink_attributes.specs.Block.{canonical_block, IsCanonicalBlock};
+ghost use Rattle.netlink_bytes.specs.declared.error.DecodeError.{DecodeError};
+ghost use Rattle.netlink_attributes.specs.Steps.{unread};
+ghost use Rattle.netlink_attributes.specs.Walk.{Walk};
 ghost use Rattle.netlink_shapes.specs.Blocks.{all_normalized};
 ghost use Rattle.netlink_shapes.specs.Choices.{AreChoices};
 ghost use Rattle.netlink_shapes.specs.ErrorTexts.{wants_memory};
@@ -19,7 +19,7 @@ use crate::error::FamilyError;
 use crate::nest::is_shaped;
 use crate::rows::Rows;
 use crate::shape::{NEST_LEVELS, Shape, TOP, has_shape, policy_of};
-use netlink_packet_core::{NlasIterator, append_nla, is_zero_padded};
+use netlink_attributes::{NlasIterator, append_nla, is_zero_padded};
 use std::alloc::{AllocError, Global};
 
 /// Appends the attributes of `block` in canonical form. The block ends at offset `end` of the
@@ -119,11 +119,11 @@ fn fits_kind(
     value: &[u8],
 ) -> bool
     requires other { CachesOther (rows_in rows.list.now) 0 other.old }
-    requires choices { AreChoices (within (rows_in rows.list.now) block.now) choices.old }
+    requires choices { AreChoices (within (rows_in rows.list.now) block.now) 0 choices.old }
     requires fits { length value.now ≤ value_max }
     ensures fits { result ≡ fits_kind (within (rows_in rows.list.now) block.now) kind value.now }
     ensures other { CachesOther (rows_in rows.list.now) 0 other.new }
-    ensures choices { AreChoices (within (rows_in rows.list.now) block.now) choices.new }
+    ensures choices { AreChoices (within (rows_in rows.list.now) block.now) 0 choices.new }
 {
     let shape = cached_shape_among(rows, TOP, block, kind, other, choices);
     fits_shape(rows, block, shape, kind, value)

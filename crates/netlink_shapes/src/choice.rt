@@ -4,15 +4,15 @@ ghost use Rattle.std.specs.Prelude.{ℕ, ◌≡◌, ◌==◌, ◌&&◌, IfNone, 
 ghost use Rattle.netlink_shapes.specs.Choices.{AreChoices};
 ghost use Rattle.netlink_shapes.specs.Listing.{first_of, listed};
 ghost use Rattle.netlink_shapes.specs.Policies.{IsPart};
-ghost use Rattle.netlink_shapes.specs.Shapes.{CachesOther, choice_at, choice_by, resolved, rows_in, shape_among, shape_in, within};
+ghost use Rattle.netlink_shapes.specs.Shapes.{CachesOther, choice_at, choice_by, number_at, number_by, resolved, rows_in, shape_among, shape_in, within};
 
-use crate::decoders::bytes_until_nul;
+use crate::decoders::{bytes_until_nul, number_of};
 use crate::find::first_value;
 use crate::rows::Rows;
 use crate::shape::{
-    ANY, Shape, TOP, cached_shape, near_row, row_shape, rows_after, searched_shape,
+    ANY, Shape, TOP, cached_shape, near_row, row_shape, rows_after, search_row, searched_shape,
 };
-use netlink_packet_core::NLA_TYPE_MASK;
+use netlink_attributes::NLA_TYPE_MASK;
 
 /// Up to this many rows, reading all is faster than searching for the first row of a policy.
 const FIRST: usize = 8;
@@ -22,7 +22,7 @@ const FIRST: usize = 8;
 pub(crate) fn shape_among(rows: Rows, policy: u16, block: &[u8], kind: u16) -> Shape
     ensures { result ≡ shape_among (within (rows_in rows.list.now) block.now) policy kind }
 {
-    resolved(rows, block, row_shape(rows, policy, kind))
+    resolved(rows, policy, block, row_shape(rows, policy, kind))
 }
 
 /// Returns the shape of a kind if its row is found without a search and no value chooses it. Only
@@ -35,7 +35,7 @@ pub fn near_shape(rows: Rows, policy: u16, kind: u16) -> Option<Shape>
         return None;
     }
     match near_row(rows, policy, kind & NLA_TYPE_MASK)?.3 {
-        Shape::Chosen { .. } => None,
+        Shape::Chosen { .. } | Shape::ChosenByNumber { .. } => None,
         shape => Some(shape),
     }
 }
@@ -62,11 +62,11 @@ pub fn kept_shape_among(
     kind: u16,
     choices: &mut Choices,
 ) -> Shape
-    requires choices { AreChoices (within (rows_in rows.list.now) block.now) choices.old }
+    requires choices { AreChoices (within (rows_in rows.list.now) block.now) policy choices.old }
     ensures shape { result ≡ shape_among (within (rows_in rows.list.now) block.now) policy kind }
-    ensures choices { AreChoices (within (rows_in rows.list.now) block.now) choices.new }
+    ensures choices { AreChoices (within (rows_in rows.list.now) block.now) policy choices.new }
 {
-    kept(rows, block, row_shape(rows, policy, kind), choices)
+    kept(rows, policy, block, row_shape(rows, policy, kind), choices)
 }
 
 /// Returns the shape of a kind in a policy, among the attributes of a block. Looks the kind up in
@@ -81,11 +81,11 @@ pub(crate) fn own_shape_among(
     choices: &mut Choices,
 ) -> Shape
     requires own { IsPart policy (rows_in rows.list.now) (rows_in own.list.now) }
-    requires choices { AreChoices (within (rows_in rows.list.now) block.now) choices.old }
+    requires choices { AreChoices (within (rows_in rows.list.now) block.now) policy choices.old }
     ensures shape { result ≡ shape_among (within (rows_in rows.list.now) block.now) policy kind }
-    ensures choices { AreChoices (within (rows_in rows.list.now) block.now) choices.new }
+    ensures choices { AreChoices (within (rows_in rows.list.now) block.now) policy choices.new }
 {
-    kept(rows, block, row_shape(own, policy, kind), choices)
+    kept(rows, policy, block, row_shape(own, policy, kind), choices)
 }
 
 /// Returns the shape of a kind in a policy, among the attributes of a block. Looks the kind up in
@@ -103,12 +103,18 @@ pub(crate) fn cached_own_shape(
 ) -> Shape
     requires own { IsPart policy (rows_in rows.list.now) (rows_in own.list.now) }
     requires other { CachesOther (rows_in own.list.now) policy other.old }
-    requires choices { AreChoices (within (rows_in rows.list.now) block.now) choices.old }
+    requires choices { AreChoices (within (rows_in rows.list.now) block.now) policy choices.old }
     ensures shape { result ≡ shape_among (within (rows_in rows.list.now) block.now) policy kind }
     ensures other { CachesOther (rows_in own.list.now) policy other.new }
-    ensures choices { AreChoices (within (rows_in rows.list.now) block.now) choices.new }
+    ensures choices { AreChoices (within (rows_in rows.list.now) block.now) policy choices.new }
 {
-    kept(rows, block, cached_shape(own, policy, kind, other), choices)
+    kept(
+        rows,
+        policy,
+        block,
+        cached_shape(own, policy, kind, other),
+        choices,
+    )
 }
 
 /// Returns the shape of a kind in a policy, among the attributes of a block. Keeps the shape of the
@@ -123,13 +129,14 @@ pub fn cached_shape_among(
     choices: &mut Choices,
 ) -> Shape
     requires other { CachesOther (rows_in rows.list.now) policy other.old }
-    requires choices { AreChoices (within (rows_in rows.list.now) block.now) choices.old }
+    requires choices { AreChoices (within (rows_in rows.list.now) block.now) policy choices.old }
     ensures shape { result ≡ shape_among (within (rows_in rows.list.now) block.now) policy kind }
     ensures other { CachesOther (rows_in rows.list.now) policy other.new }
-    ensures choices { AreChoices (within (rows_in rows.list.now) block.now) choices.new }
+    ensures choices { AreChoices (within (rows_in rows.list.now) block.now) policy choices.new }
 {
     kept(
         rows,
+        policy,
         block,
         cached_shape(rows, policy, kind, other),
         choices,
@@ -147,14 +154,18 @@ pub struct Choice {
     pub shape: Shape,
 }
 
-/// The last two shapes that attributes of a block chose. So a block of many attributes is walked once
-/// for each kind that chooses, even if two choose by turns.
+/// The last two shapes that strings chose in a block, and the last two that numbers chose. So a block
+/// of many attributes is walked once for each kind that chooses, even if two choose by turns.
 #[derive(Clone, Copy, Debug, PartialEq, Eq)]
 pub struct Choices {
-    /// The one that was looked up last.
+    /// What a string chose last.
     pub last: Choice,
-    /// The one before it.
+    /// What a string chose before that.
     pub before: Choice,
+    /// What a number chose last.
+    pub last_number: Choice,
+    /// What a number chose before that.
+    pub before_number: Choice,
 }
 
 /// What attributes of a kind choose that no attribute has, since its number is larger than any.
@@ -168,67 +179,136 @@ const NO_CHOICE: Choice = Choice {
 pub const NO_CHOICES: Choices = Choices {
     last: NO_CHOICE,
     before: NO_CHOICE,
+    last_number: NO_CHOICE,
+    before_number: NO_CHOICE,
 };
 
-/// Returns the chosen shape, or the shape itself if it is not chosen by a value. Keeps what was chosen.
+/// Returns the chosen shape, or the shape itself if no value chooses it. Keeps what was chosen.
 #[inline(always)]
-fn kept(rows: Rows, block: &[u8], shape: Shape, choices: &mut Choices) -> Shape
-    requires choices { AreChoices (within (rows_in rows.list.now) block.now) choices.old }
-    ensures shape { result ≡ resolved (within (rows_in rows.list.now) block.now) shape }
-    ensures choices { AreChoices (within (rows_in rows.list.now) block.now) choices.new }
+fn kept(rows: Rows, policy: u16, block: &[u8], shape: Shape, choices: &mut Choices) -> Shape
+    requires choices { AreChoices (within (rows_in rows.list.now) block.now) policy choices.old }
+    ensures shape { result ≡ resolved (within (rows_in rows.list.now) block.now) policy shape }
+    ensures choices { AreChoices (within (rows_in rows.list.now) block.now) policy choices.new }
 {
     match shape {
-        Shape::Chosen { by, policy } => kept_choice(rows, policy, block, by, choices),
+        Shape::Chosen { by, policy: names } => {
+            kept_choice(rows, policy, block, by, names, choices)
+        }
+        Shape::ChosenByNumber {
+            by,
+            policy: numbers,
+        } => kept_number(rows, policy, block, by, numbers, choices),
         _ => shape,
     }
 }
 
-/// Returns the shape that the first attribute of a kind chooses. Walks the block only if it is not one
-/// of the last two that were looked up.
+/// Returns the shape that the first attribute of a kind chooses by its string. Walks the block only
+/// if it is not one of the last two.
 #[inline(always)]
-fn kept_choice(rows: Rows, policy: u16, block: &[u8], by: u16, choices: &mut Choices) -> Shape
-    requires choices { AreChoices (within (rows_in rows.list.now) block.now) choices.old }
-    ensures shape { result ≡ choice_by (rows_in rows.list.now) policy (first_of by (listed block.now)) }
-    ensures choices { AreChoices (within (rows_in rows.list.now) block.now) choices.new }
+fn kept_choice(
+    rows: Rows,
+    policy: u16,
+    block: &[u8],
+    by: u16,
+    names: u16,
+    choices: &mut Choices,
+) -> Shape
+    requires choices { AreChoices (within (rows_in rows.list.now) block.now) policy choices.old }
+    ensures shape { result ≡ choice_by (rows_in rows.list.now) names (first_of by (listed block.now)) }
+    ensures choices { AreChoices (within (rows_in rows.list.now) block.now) policy choices.new }
 {
-    if choices.last.by == by && choices.last.policy == policy {
+    if choices.last.by == by && choices.last.policy == names {
         return choices.last.shape;
     }
-    if choices.before.by == by && choices.before.policy == policy {
+    if choices.before.by == by && choices.before.policy == names {
         return choices.before.shape;
     }
-    let mut fresh = *choices;
-    new_choice(rows, policy, block, by, &mut fresh);
-    *choices = fresh;
+    new_choice(rows, policy, block, by, names, choices);
     choices.last.shape
 }
 
-/// Walks the block for a choice, and keeps it as the last one. It is a separate function so that its
-/// callers stay small, and returns nothing so that they have no space for a shape to clear.
+/// Walks the block for a choice by a string, and keeps it as the last one. It is a separate function
+/// so that its callers stay small, and returns nothing so that they have no space for a shape to
+/// clear. Only the contract uses `policy`, the block's, for the choices by numbers, which do not change.
 #[inline(never)]
-fn new_choice(rows: Rows, policy: u16, block: &[u8], by: u16, choices: &mut Choices)
-    requires choices { AreChoices (within (rows_in rows.list.now) block.now) choices.old }
-    ensures last { choices.new.last.shape ≡ choice_by (rows_in rows.list.now) policy (first_of by (listed block.now)) }
-    ensures choices { AreChoices (within (rows_in rows.list.now) block.now) choices.new }
+fn new_choice(rows: Rows, policy: u16, block: &[u8], by: u16, names: u16, choices: &mut Choices)
+    requires choices { AreChoices (within (rows_in rows.list.now) block.now) policy choices.old }
+    ensures last { choices.new.last.shape ≡ choice_by (rows_in rows.list.now) names (first_of by (listed block.now)) }
+    ensures choices { AreChoices (within (rows_in rows.list.now) block.now) policy choices.new }
 {
-    let shape = chosen_by(rows, policy, first_value(block, by));
+    let shape = chosen_by(rows, names, first_value(block, by));
     choices.before = choices.last;
-    choices.last = Choice { by, policy, shape };
+    choices.last = Choice {
+        by,
+        policy: names,
+        shape,
+    };
 }
 
-/// Returns the chosen shape, or the shape itself if it is not chosen by a value.
+/// Returns the shape that the first attribute of a kind chooses by its number, in a block of this
+/// policy. Walks the block only if it is not one of the last two.
 #[inline(always)]
-fn resolved(rows: Rows, block: &[u8], shape: Shape) -> Shape
-    ensures { result ≡ resolved (within (rows_in rows.list.now) block.now) shape }
+fn kept_number(
+    rows: Rows,
+    policy: u16,
+    block: &[u8],
+    by: u16,
+    numbers: u16,
+    choices: &mut Choices,
+) -> Shape
+    requires choices { AreChoices (within (rows_in rows.list.now) block.now) policy choices.old }
+    ensures shape { result ≡ number_by (rows_in rows.list.now) numbers (shape_in (rows_in rows.list.now) policy by)
+        (first_of by (listed block.now)) }
+    ensures choices { AreChoices (within (rows_in rows.list.now) block.now) policy choices.new }
+{
+    if choices.last_number.by == by && choices.last_number.policy == numbers {
+        return choices.last_number.shape;
+    }
+    if choices.before_number.by == by && choices.before_number.policy == numbers {
+        return choices.before_number.shape;
+    }
+    new_number(rows, policy, block, by, numbers, choices);
+    choices.last_number.shape
+}
+
+/// Walks the block for a choice by a number, as `new_choice` does for one by a string.
+#[inline(never)]
+fn new_number(rows: Rows, policy: u16, block: &[u8], by: u16, numbers: u16, choices: &mut Choices)
+    requires choices { AreChoices (within (rows_in rows.list.now) block.now) policy choices.old }
+    ensures last { choices.new.last_number.shape ≡ number_by (rows_in rows.list.now) numbers
+        (shape_in (rows_in rows.list.now) policy by) (first_of by (listed block.now)) }
+    ensures choices { AreChoices (within (rows_in rows.list.now) block.now) policy choices.new }
+{
+    let shape = numbered_shape(rows, policy, numbers, block, by);
+    choices.before_number = choices.last_number;
+    choices.last_number = Choice {
+        by,
+        policy: numbers,
+        shape,
+    };
+}
+
+/// Returns the shape of an attribute of a block of this policy, given the shape in its row: what the
+/// first attribute of the choosing kind chooses, or the row's shape itself if no value chooses it.
+#[inline(always)]
+pub fn resolved(rows: Rows, policy: u16, block: &[u8], shape: Shape) -> Shape
+    ensures { result ≡ resolved (within (rows_in rows.list.now) block.now) policy shape }
 {
     match shape {
-        Shape::Chosen { by, policy } => chosen_shape(rows, policy, block, by),
+        Shape::Chosen {
+            by,
+            policy: choices,
+        } => chosen_shape(rows, choices, block, by),
+        Shape::ChosenByNumber {
+            by,
+            policy: choices,
+        } => numbered_shape(rows, policy, choices, block, by),
         _ => shape,
     }
 }
 
-/// Returns the shape that the first attribute of a kind chooses. It is a separate function so that its
-/// callers stay small.
+/// Returns the shape that the first attribute of a kind chooses by its string. It is a separate
+/// function so that its callers stay small.
 #[inline(never)]
 fn chosen_shape(rows: Rows, policy: u16, block: &[u8], by: u16) -> Shape
     ensures { result ≡ choice_by (rows_in rows.list.now) policy (first_of by (listed block.now)) }
@@ -236,7 +316,51 @@ fn chosen_shape(rows: Rows, policy: u16, block: &[u8], by: u16) -> Shape
     chosen_by(rows, policy, first_value(block, by))
 }
 
-/// Returns the shape that the value of an attribute chooses; `Bytes` without an attribute.
+/// Returns the shape that the first attribute of a kind chooses by its number, in a block of this
+/// policy. It is a separate function for the same reason.
+#[inline(never)]
+fn numbered_shape(rows: Rows, policy: u16, choices: u16, block: &[u8], by: u16) -> Shape
+    ensures { result ≡ number_by (rows_in rows.list.now) choices (shape_in (rows_in rows.list.now) policy by)
+        (first_of by (listed block.now)) }
+{
+    numbered_by(
+        rows,
+        choices,
+        row_shape(rows, policy, by),
+        first_value(block, by),
+    )
+}
+
+/// Returns the shape that a number chooses from a policy: `by` is the shape by which `value` is read.
+/// Returns `Bytes` without a value, if `by` is not the shape of an unsigned integer, if the value does
+/// not have it, and if the policy has no row for the number.
+#[inline(always)]
+pub fn numbered_by(rows: Rows, policy: u16, by: Shape, value: Option<&[u8]>) -> Shape
+    ensures some { IfSome value.entry (λ v. result ≡ number_by (rows_in rows.list.now) policy by (Some v.now)) }
+    ensures none { IfNone value.entry (result ≡ number_by (rows_in rows.list.now) policy by None) }
+{
+    match value {
+        Some(value) => number_at(rows, policy, number_of(by, value)),
+        None => Shape::Bytes,
+    }
+}
+
+/// Returns the shape in the row of a policy whose kind is a number; `Bytes` if there is none.
+fn number_at(rows: Rows, policy: u16, number: Option<u64>) -> Shape
+    ensures { result ≡ number_at (rows_in rows.list.now) policy number }
+{
+    match number {
+        Some(number) if number < u64::from(ANY) => {
+            match search_row(rows, policy, number as u16) {
+                Some(row) => row.3,
+                None => Shape::Bytes,
+            }
+        }
+        _ => Shape::Bytes,
+    }
+}
+
+/// Returns the shape that the string of an attribute chooses; `Bytes` without an attribute.
 #[inline(always)]
 pub fn chosen_by(rows: Rows, policy: u16, value: Option<&[u8]>) -> Shape
     ensures some { IfSome value.entry (λ v. result ≡ choice_by (rows_in rows.list.now) policy (Some v.now)) }

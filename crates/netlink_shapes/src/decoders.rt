@@ -2,10 +2,12 @@
 
 ghost use Rattle.std.specs.Prelude.{◌≡◌, ◌≤◌, ◌⊎◌, ◌↔◌, [], ◌∷◌, ◌++◌, IfSome, IsSome, drop, length, true};
 ghost use Rattle.std.specs.Str.{IsUtf8};
-ghost use Rattle.netlink_packet_core.specs.Numbers.{number_be, number_le, signed};
+ghost use Rattle.netlink_bytes.specs.Numbers.{number_be, number_le, signed};
+ghost use Rattle.netlink_shapes.specs.Shapes.{number_of};
 ghost use Rattle.netlink_shapes.specs.Strings.{has_no_nul, nul_offset, nul_only_last, until_nul};
 
-use netlink_packet_core::{
+use crate::shape::{Shape, has_shape};
+use netlink_bytes::{
     parse_i32, parse_i32_be, parse_i64, parse_u16, parse_u16_be, parse_u32, parse_u32_be,
     parse_u64, parse_u64_be,
 };
@@ -146,4 +148,24 @@ pub fn be64_in(bytes: &[u8]) -> u64
     ensures { result ≡ number_be bytes.now }
 {
     parse_u64_be(bytes).unwrap()
+}
+
+/// Decodes a value by its shape. Returns `None` if the shape is not that of an unsigned integer, or
+/// the value does not have it.
+pub(crate) fn number_of(shape: Shape, value: &[u8]) -> Option<u64>
+    ensures { result ≡ number_of shape value.now }
+{
+    if !has_shape(shape, value) {
+        return None;
+    }
+    match shape {
+        Shape::U8 => Some(u64::from(value[0])),
+        Shape::U16 => Some(u64::from(u16_in(value))),
+        Shape::U32 => Some(u64::from(u32_in(value))),
+        Shape::U64 => Some(u64_in(value)),
+        Shape::Be16 => Some(u64::from(be16_in(value))),
+        Shape::Be32 => Some(u64::from(be32_in(value))),
+        Shape::Be64 => Some(be64_in(value)),
+        _ => None,
+    }
 }

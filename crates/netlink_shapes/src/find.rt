@@ -1,11 +1,11 @@
 //! Finding the first attribute of a kind.
 
 ghost use Rattle.std.specs.Prelude.{◌≡◌, ◌<◌, IfNone, IfSome, None, Some, drop, length};
-ghost use Rattle.netlink_packet_core.specs.Views.{HoldsAttribute, shown};
+ghost use Rattle.netlink_attributes.specs.Views.{HoldsAttribute, shown};
 ghost use Rattle.netlink_shapes.specs.Listing.{first_of, listed};
 ghost use Rattle.netlink_shapes.specs.Whole.{IsWhole};
 
-use netlink_packet_core::{NlaBuffer, nla_align};
+use netlink_attributes::{NlaBuffer, nla_align};
 
 /// Returns the value of the first attribute of a kind, whatever its flag bits. Returns `None` if no
 /// such attribute precedes an error of the walk.

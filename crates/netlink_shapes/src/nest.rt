@@ -7,7 +7,7 @@ use crate::attribute_error::rows_for;
 use crate::choice::{NO_CHOICES, cached_own_shape};
 use crate::rows::Rows;
 use crate::shape::{Shape, has_shape, nest_block, policy_of};
-use netlink_packet_core::NlasIterator;
+use netlink_attributes::NlasIterator;
 
 /// Returns whether a value has a shape that is already known. Nests in it may be `levels` deep.
 #[inline(always)]

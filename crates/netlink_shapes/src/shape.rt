@@ -2,12 +2,12 @@
 
 ghost use Rattle.std.specs.Prelude.{◌≡◌, ◌≤◌, ◌<◌, ◌+◌, ◌*◌, ◌==◌, ◌&&◌, IfSome, None, Some, true, if◌then◌else◌, drop, length};
 ghost use Rattle.std.specs.Option.{option_map};
-ghost use Rattle.netlink_packet_core.specs.Views.{masked};
+ghost use Rattle.netlink_attributes.specs.Views.{masked};
 ghost use Rattle.netlink_shapes.specs.Policies.{IsPart};
 ghost use Rattle.netlink_shapes.specs.Shapes.{CachesOther, any_kind, borrowed_row, has_shape, is_multiple, nest_block, nest_of, nest_start, row_at, row_in, rows_in, shape_by, shape_in, nul_terminated, nul_only_last, key_before};
 
 use crate::rows::Rows;
-use netlink_packet_core::NLA_TYPE_MASK;
+use netlink_attributes::NLA_TYPE_MASK;
 
 /// The shape of an attribute's value. Integers are in native byte order, except those named `Be`,
 /// which are big-endian.
@@ -56,7 +56,9 @@ pub enum Shape {
         /// The policy of the attributes.
         policy: u16,
     },
-    /// A shape that is chosen by the value of another attribute of the same block.
+    /// Any bytes.
+    Bytes,
+    /// A shape that is chosen by a string, the value of another attribute of the same block.
     Chosen {
         /// The kind of that attribute. The first one of the block counts, even after the chosen one.
         by: u16,
@@ -64,8 +66,16 @@ pub enum Shape {
         /// is what the value chooses. Any other value chooses `Bytes`, and so does none at all.
         policy: u16,
     },
-    /// Any bytes.
-    Bytes,
+    /// A shape that is chosen by a number, the value of another attribute of the same block.
+    ChosenByNumber {
+        /// The kind of that attribute. The first one of the block counts, even after the chosen one.
+        /// Its value is read by the shape of its kind in the block's policy, an unsigned integer; any
+        /// other shape chooses `Bytes`.
+        by: u16,
+        /// The policy with a row for each number: its kind is the number, below `ANY`, and its shape
+        /// is what the number chooses. Any other number chooses `Bytes`, and so does none at all.
+        policy: u16,
+    },
 }
 
 /// A row of a table: a policy (`TOP` for the attributes of the message itself), a kind of
@@ -204,7 +214,7 @@ fn earlier(at: usize, greater: u16, kind: u16) -> usize
 /// Returns the row of a policy and a kind, by `search`. It is a separate function so that its callers
 /// stay small.
 #[inline(never)]
-fn search_row(rows: Rows, policy: u16, kind: u16) -> Option<&'static Row>
+pub(crate) fn search_row(rows: Rows, policy: u16, kind: u16) -> Option<&'static Row>
     ensures { option_map borrowed_row result ≡ row_at (rows_in rows.list.now) policy kind }
 {
     search(rows, policy, kind)
@@ -367,6 +377,7 @@ pub fn policy_of(shape: Shape) -> Option<u16>
         | Shape::MinLen(_)
         | Shape::Elements(_)
         | Shape::Chosen { .. }
+        | Shape::ChosenByNumber { .. }
         | Shape::Bytes => None,
     }
 }
@@ -446,7 +457,7 @@ pub fn has_shape(shape: Shape, value: &[u8]) -> bool
         Shape::MinLen(size) => value.len() >= size as usize,
         Shape::Elements(size) => is_multiple(value.len(), size),
         Shape::HeaderNested { size, .. } => value.len() >= size as usize,
-        Shape::Chosen { .. } => false,
+        Shape::Chosen { .. } | Shape::ChosenByNumber { .. } => false,
         Shape::Nested(_) | Shape::Bytes => true,
     }
 }

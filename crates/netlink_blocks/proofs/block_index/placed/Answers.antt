@@ -1,6 +1,6 @@
 use Rattle.std.proofs.Common.{◌≡◌, ◌∙◌, ◌<◌, ℕ, List, ap, arith, drop, drop-drop, length-drop, refl, slice_index, subst, sym}
 use Rattle.std.proofs.lemmas.List.{get_or-replicate}
-use Rattle.netlink_packet_core.specs.Views.{attribute_of, length_field, masked, raw_kind}
+use Rattle.netlink_attributes.specs.Views.{attribute_of, length_field, masked, raw_kind}
 use Rattle.netlink_shapes.specs.Whole.{IsWhole}
 use Rattle.netlink_blocks.proofs.Indexing.{place_next}
 use Rattle.netlink_shapes.specs.WholeWalks.{whole_next}

@@ -79,7 +79,7 @@ push_attribute-returns-in_ok-push_nest_line-in-Some t c =
     (ap nest_of (sym c.requires.shape) ∙ sym c.policy_of.ensures ∙ c.in-Some.is) some)))
 
 pub push_block-loop-nla-init : goal.push_block-loop-nla-init
-push_block-loop-nla-init t c = (refl, none_chosen (within (rows_in c.args.rows.list.now) c.args.block.now), omega arith, λ i. omega (arith, c.type_inv.block i))
+push_block-loop-nla-init t c = (refl, none_chosen (within (rows_in c.args.rows.list.now) c.args.block.now) c.args.policy, omega arith, λ i. omega (arith, c.type_inv.block i))
 
 pub push_block-loop-nla-preserved : goal.push_block-loop-nla-preserved
 push_block-loop-nla-preserved t c =

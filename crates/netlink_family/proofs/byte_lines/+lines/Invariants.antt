@@ -16,7 +16,7 @@ abbrev pub invariant-push_block-loop-nla : goal.invariant-push_block-loop-nla
 invariant-push_block-loop-nla l =
     (string_bytes l.fn.text ++ block_lines_at l.fault l.levels (rows_in l.rows.list.now) l.policy l.depth l.end l.block
     ≡ string_bytes l.text ++ block_rest l.fault l.levels (within (rows_in l.rows.list.now) l.block) l.policy l.depth l.end l.rest)
-    × AreChoices (within (rows_in l.rows.list.now) l.block) l.choices
+    × AreChoices (within (rows_in l.rows.list.now) l.block) l.policy l.choices
     × (length l.rest ≤ length l.block) × IsBytes l.rest
 
 abbrev pub decreases-push_block-loop-nla : goal.decreases-push_block-loop-nla

@@ -42,7 +42,7 @@ push_attribute-returns-in_ok-push_block-in-Some t c =
     (sym c.policy_of.ensures ∙ c.in-Some.is) some))
 
 pub push_block-loop-item-init : goal.push_block-loop-item-init
-push_block-loop-item-init t c = (search rules, none_chosen (within (rows_in c.args.rows.list.now) c.args.block.now))
+push_block-loop-item-init t c = (search rules, none_chosen (within (rows_in c.args.rows.list.now) c.args.block.now) c.args.policy)
 
 pub push_block-loop-item-preserved : goal.push_block-loop-item-preserved
 push_block-loop-item-preserved t c =

@@ -16,4 +16,4 @@ abbrev pub invariant-push_block-loop-item : goal.invariant-push_block-loop-item
 invariant-push_block-loop-item l =
     (string_bytes l.fn.text ++ lines_in (value_lines l.levels (within (rows_in l.rows.list.now) l.block) l.policy l.depth) l.block
     ≡ string_bytes l.text ++ lines_in (value_lines l.levels (within (rows_in l.rows.list.now) l.block) l.policy l.depth) (unread l.item-iterator))
-    × AreChoices (within (rows_in l.rows.list.now) l.block) l.choices
+    × AreChoices (within (rows_in l.rows.list.now) l.block) l.policy l.choices

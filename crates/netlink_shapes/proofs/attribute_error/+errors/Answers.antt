@@ -1,8 +1,8 @@
 use Rattle.std.proofs.Common.{arith, rules, sym, ap, ◌∙◌, ◌≡◌, ◌<◌, ◌-◌, ◌+◌, ◌&&◌, length, List, ℕ, Option, Some, refl, true, false}
 use Rattle.std.specs.Prelude.{is_none, is_some}
 use Rattle.std.proofs.lemmas.Bool.{and_parts}
-use Rattle.netlink_packet_core.specs.Steps.{unread}
-use Rattle.netlink_packet_core.specs.Views.{attribute_of, length_field}
+use Rattle.netlink_attributes.specs.Steps.{unread}
+use Rattle.netlink_attributes.specs.Views.{attribute_of, length_field}
 use Rattle.netlink_shapes.specs.ErrorLaws.{value_deep, value_flat, value_nest, value_other}
 use Rattle.netlink_shapes.specs.Shapes.{has_shape, nest_of, rows_in, within}
 use Rattle.netlink_shapes.specs.Errors.{error_at, error_in, nest_error}
@@ -49,7 +49,7 @@ shape_error-returns-then-is_fine t c = λ around same.
     same (is_nothing (nest_of c.args.shape) fine.0) fine.1)
 
 pub error_in-loop-item-init : goal.error_in-loop-item-init
-error_in-loop-item-init t c = (search rules, none_chosen (within (rows_in c.args.rows.list.now) c.args.block.now))
+error_in-loop-item-init t c = (search rules, none_chosen (within (rows_in c.args.rows.list.now) c.args.block.now) c.args.policy)
 
 pub error_in-returns-then-is_some : goal.error_in-returns-then-is_some
 error_in-returns-then-is_some t c =

@@ -1,5 +1,5 @@
 use Rattle.std.proofs.Common.{◌+◌, ◌*◌}
-use Rattle.netlink_packet_core.specs.Steps.{unread}
+use Rattle.netlink_attributes.specs.Steps.{unread}
 use Rattle.netlink_shapes.specs.Choices.{AreChoices}
 use Rattle.netlink_shapes.specs.Shapes.{rows_in, within}
 use Rattle.netlink_shapes.proofs.FirstErrors.{AreFine}
@@ -17,4 +17,4 @@ decreases-error_in l = 3 * l.levels + 2
 abbrev pub invariant-error_in-loop-item : goal.invariant-error_in-loop-item
 invariant-error_in-loop-item l =
     AreFine l.levels (within (rows_in l.rows.list.now) l.block) l.policy l.end l.block l.left (unread l.item-iterator)
-    × AreChoices (within (rows_in l.rows.list.now) l.block) l.choices
+    × AreChoices (within (rows_in l.rows.list.now) l.block) l.policy l.choices

@@ -1,8 +1,8 @@
 use Rattle.std.proofs.Common.{◌≡◌, Some, None, List, ℕ, [], ◌∷◌, ◌++◌, ap, ◌∙◌, rules, sym, append-nil}
-use Rattle.netlink_packet_core.specs.Attribute.{Attribute}
-use Rattle.netlink_packet_core.specs.Progress.{passes_ends, passes_faults, passes_push}
-use Rattle.netlink_packet_core.specs.Steps.{unread}
-use Rattle.netlink_packet_core.specs.Views.{attribute_of}
+use Rattle.netlink_attributes.specs.Attribute.{Attribute}
+use Rattle.netlink_attributes.specs.Progress.{passes_ends, passes_faults, passes_push}
+use Rattle.netlink_attributes.specs.Steps.{unread}
+use Rattle.netlink_attributes.specs.Views.{attribute_of}
 use Rattle.netlink_shapes.specs.Normalizing.{more_written}
 use Rattle.netlink_shapes.proofs.block.append_attributes.Goals as goal
 

@@ -1,8 +1,8 @@
 use Rattle.std.proofs.Common.{◌≡◌, ◌++◌, List}
-use Rattle.netlink_packet_core.specs.Attribute.{Attribute}
-use Rattle.netlink_packet_core.specs.Block.{canonical_block}
-use Rattle.netlink_packet_core.specs.Progress.{Passes}
-use Rattle.netlink_packet_core.specs.Steps.{unread}
+use Rattle.netlink_attributes.specs.Attribute.{Attribute}
+use Rattle.netlink_attributes.specs.Block.{canonical_block}
+use Rattle.netlink_attributes.specs.Progress.{Passes}
+use Rattle.netlink_attributes.specs.Steps.{unread}
 use Rattle.netlink_shapes.proofs.block.append_attributes.Given as goal
 
 -- some attributes are passed, and they are written

@@ -1,7 +1,7 @@
 use Rattle.std.proofs.Common.{◌≡◌, true, None, Option, List, ℕ, ◌++◌, ap, sym, subst, ◌∙◌, rules}
-use Rattle.netlink_packet_core.specs.BlockLaws.{canonical_walk}
-use Rattle.netlink_packet_core.specs.DecodeError.{DecodeError}
-use Rattle.netlink_packet_core.specs.Walk.{Walk}
+use Rattle.netlink_attributes.specs.BlockLaws.{canonical_walk}
+use Rattle.netlink_bytes.specs.declared.error.DecodeError.{DecodeError}
+use Rattle.netlink_attributes.specs.Walk.{Walk}
 use Rattle.netlink_shapes.specs.Shapes.{is_block_shaped, nest_levels, rows_in, within}
 use Rattle.netlink_shapes.specs.Checking.{has_no_error, shaped_normalized}
 use Rattle.netlink_shapes.proofs.block.append_block.Goals as goal

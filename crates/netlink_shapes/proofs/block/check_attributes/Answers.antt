@@ -1,10 +1,10 @@
 use Rattle.std.proofs.Common.{Bor, List, ℕ, ap, rules, sym, ◌∙◌, ◌≡◌, true, false}
-use Rattle.netlink_packet_core.specs.Steps.{unread}
-use Rattle.netlink_packet_core.specs.Views.{attribute_of}
+use Rattle.netlink_attributes.specs.Steps.{unread}
+use Rattle.netlink_attributes.specs.Views.{attribute_of}
 use Rattle.netlink_shapes.specs.Shapes.{rows_in, within}
 use Rattle.netlink_shapes.specs.Checking.{all_checked, malformed_next, ends_canonical, more_checked, none_checked, misfit_next}
 use Rattle.netlink_shapes.specs.Choices.{none_chosen}
-use Rattle.netlink_packet_core.specs.ZeroPadding.{same_zeros}
+use Rattle.netlink_attributes.specs.ZeroPadding.{same_zeros}
 use Rattle.netlink_shapes.proofs.block.check_attributes.Goals as goal
 
 pub loop-item-init : goal.loop-item-init
@@ -12,7 +12,7 @@ loop-item-init c =
     let same : unread c.into_iter-item-iterator.result ≡ unread c.args.walk = search rules in (
       none_checked (within (rows_in c.args.rows.list.now) c.args.block.now) (unread c.args.walk) _ c.args.is_asked same,
       λ shape none. absurd (cc),
-      none_chosen (within (rows_in c.args.rows.list.now) c.args.block.now),
+      none_chosen (within (rows_in c.args.rows.list.now) c.args.block.now) 0,
     )
 
 pub returns-then-not-fits_kind : goal.returns-then-not-fits_kind

@@ -1,6 +1,6 @@
 use Rattle.std.proofs.Common.{List, ℕ, ap, arith, drop, length-drop, subst, sym, Bor}
 use Rattle.std.proofs.lemmas.List.{take_rest}
-use Rattle.netlink_packet_core.specs.Views.{HoldsAttribute}
+use Rattle.netlink_attributes.specs.Views.{HoldsAttribute}
 use Rattle.netlink_shapes.specs.WholeWalks.{whole_here}
 use Rattle.netlink_shapes.proofs.find.attribute_at.Goals as goal
 

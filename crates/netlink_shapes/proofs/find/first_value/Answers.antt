@@ -1,9 +1,9 @@
 use Rattle.std.proofs.Common.{ℕ, ◌+◌, ◌≤◌, ◌<◌, ◌%◌, List, ◌∷◌, ◌≡◌, ◌≢◌, ap, arith, drop, refl, subst, sym, ◌∙◌, Some, Bor}
 use Rattle.std.proofs.lemmas.List.{drop_all, take_rest}
-use Rattle.netlink_packet_core.specs.NumberLaws.{IsBytes-drop}
-use Rattle.netlink_packet_core.specs.Numbers.{IsBytes}
-use Rattle.netlink_packet_core.specs.StartLaws.{starts_held}
-use Rattle.netlink_packet_core.specs.Views.{HoldsAttribute, attribute_of, length_field, masked, raw_kind, shown}
+use Rattle.netlink_bytes.specs.NumberLaws.{IsBytes-drop}
+use Rattle.netlink_bytes.specs.Numbers.{IsBytes}
+use Rattle.netlink_attributes.specs.StartLaws.{starts_held}
+use Rattle.netlink_attributes.specs.Views.{HoldsAttribute, attribute_of, length_field, masked, raw_kind, shown}
 use Rattle.netlink_shapes.specs.ListingLaws.{first_here, first_later}
 use Rattle.netlink_shapes.specs.Listing.{first_of, listed}
 use Rattle.netlink_shapes.specs.ListingLaws.{before_malformed, before_nothing, before_step}

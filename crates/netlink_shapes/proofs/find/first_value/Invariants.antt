@@ -1,5 +1,5 @@
 use Rattle.std.proofs.Common.{◌≡◌, length}
-use Rattle.netlink_packet_core.specs.Numbers.{IsBytes}
+use Rattle.netlink_bytes.specs.Numbers.{IsBytes}
 use Rattle.netlink_shapes.specs.Listing.{first_of, listed}
 use Rattle.netlink_shapes.proofs.find.first_value.Given as goal
 

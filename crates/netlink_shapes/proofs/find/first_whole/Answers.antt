@@ -1,7 +1,7 @@
 use Rattle.std.proofs.Common.{ℕ, ◌+◌, List, ◌≡◌, ◌≢◌, ap, arith, drop, length-drop, subst, sym, ◌∙◌, Some}
 use Rattle.std.proofs.lemmas.List.{drop-drop, drop_all}
-use Rattle.netlink_packet_core.specs.Attribute.{Attribute}
-use Rattle.netlink_packet_core.specs.Views.{attribute_of, length_field, masked, raw_kind}
+use Rattle.netlink_attributes.specs.Attribute.{Attribute}
+use Rattle.netlink_attributes.specs.Views.{attribute_of, length_field, masked, raw_kind}
 use Rattle.netlink_shapes.specs.ListingLaws.{first_later}
 use Rattle.netlink_shapes.specs.Listing.{first_of, listed}
 use Rattle.netlink_shapes.specs.ListingLaws.{before_nothing, before_step}

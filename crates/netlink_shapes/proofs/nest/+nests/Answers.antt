@@ -1,7 +1,7 @@
 use Rattle.std.proofs.Common.{arith, rules, refl, sym, ap, ◌∙◌, ◌≡◌, ◌<◌, ◌-◌, [], length, List, ℕ, true, false}
 use Rattle.std.proofs.lemmas.List.{nil_from_length}
-use Rattle.netlink_packet_core.specs.Steps.{unread}
-use Rattle.netlink_packet_core.specs.Views.{attribute_of}
+use Rattle.netlink_attributes.specs.Steps.{unread}
+use Rattle.netlink_attributes.specs.Views.{attribute_of}
 use Rattle.netlink_shapes.specs.NestLaws.{flat_step}
 use Rattle.netlink_shapes.specs.Choices.{none_chosen}
 use Rattle.netlink_shapes.specs.Shapes.{are_shaped, has_shape, is_block_shaped, nest_block, rows_in, within}
@@ -48,7 +48,7 @@ is_block_shaped-loop-item-init t c =
     let same : unread c.into_iter-item-iterator.result ≡ c.args.block.now = search rules in (
       ap (are_shaped c.args.levels (within (rows_in c.args.rows.list.now) c.args.block.now) c.args.policy) (sym same),
       λ shape none. absurd (cc),
-      none_chosen (within (rows_in c.args.rows.list.now) c.args.block.now),
+      none_chosen (within (rows_in c.args.rows.list.now) c.args.block.now) c.args.policy,
     )
 
 pub is_block_shaped-returns-then-not-is_shaped : goal.is_block_shaped-returns-then-not-is_shaped

@@ -1,5 +1,5 @@
 use Rattle.std.proofs.Common.{◌+◌, ◌*◌, ◌≡◌}
-use Rattle.netlink_packet_core.specs.Steps.{unread}
+use Rattle.netlink_attributes.specs.Steps.{unread}
 use Rattle.netlink_shapes.specs.Choices.{AreChoices}
 use Rattle.netlink_shapes.specs.Shapes.{CachesOther, are_shaped, rows_in, within}
 use Rattle.netlink_shapes.proofs.nest.+nests.Given as goal
@@ -15,4 +15,4 @@ invariant-is_block_shaped-loop-item l =
     (are_shaped l.levels (within (rows_in l.rows.list.now) l.block) l.policy l.block
     ≡ are_shaped l.levels (within (rows_in l.rows.list.now) l.block) l.policy (unread l.item-iterator))
     × CachesOther (rows_in l.own.list.now) l.policy l.other
-    × AreChoices (within (rows_in l.rows.list.now) l.block) l.choices
+    × AreChoices (within (rows_in l.rows.list.now) l.block) l.policy l.choices

@@ -1,7 +1,7 @@
 use Rattle.std.proofs.Common.{◌≡◌, ℕ, List, ap, refl, ◌∙◌}
-use Rattle.netlink_packet_core.specs.Attribute.{Attribute}
-use Rattle.netlink_packet_core.specs.Steps.{unread}
-use Rattle.netlink_packet_core.specs.Views.{attribute_of, raw_kind}
+use Rattle.netlink_attributes.specs.Attribute.{Attribute}
+use Rattle.netlink_attributes.specs.Steps.{unread}
+use Rattle.netlink_attributes.specs.Views.{attribute_of, raw_kind}
 use Rattle.netlink_shapes.specs.NestLaws.{shaped_has, shaped_nests}
 use Rattle.netlink_shapes.specs.Shapes.{nest_levels, rows_in, shape_among, within}
 use Rattle.netlink_blocks.specs.IterationLaws.{shaped_good, shaped_rest, shaped_value}

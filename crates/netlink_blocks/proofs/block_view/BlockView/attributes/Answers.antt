@@ -9,4 +9,4 @@ invariant_of-result-clause-shaped c =
     ∣ subst (λ (b : List ℕ). AreShaped (within (rows_in c.args.self.now.rows.list.now) c.args.self.now.block.now) c.args.self.now.policy b) (sym c.new.ensures.keeps) c.are_shaped.ensures ∣₁
 
 pub invariant_of-result-clause-chosen : goal.invariant_of-result-clause-chosen
-invariant_of-result-clause-chosen c = none_chosen (within (rows_in c.args.self.now.rows.list.now) c.args.self.now.block.now)
+invariant_of-result-clause-chosen c = none_chosen (within (rows_in c.args.self.now.rows.list.now) c.args.self.now.block.now) c.args.self.now.policy

@@ -16,9 +16,9 @@ returns-then-is_short-clause-later g c =
     [] (unread c.new.result) own short none
 
 pub invariant_of-result-clause-chosen : goal.invariant_of-result-clause-chosen
-invariant_of-result-clause-chosen g c = none_chosen (within (rows_in c.rows_of-rows.result.list.now) [])
+invariant_of-result-clause-chosen g c = none_chosen (within (rows_in c.rows_of-rows.result.list.now) []) 0
 
 pub invariant_of-result-2-clause-chosen : goal.invariant_of-result-2-clause-chosen
 invariant_of-result-2-clause-chosen g c =
     none_chosen (within (rows_in c.rows_of-rows.result.list.now)
-    (take (length c.args.payload.now - c.header_len-size.result) (drop c.header_len-size.result c.args.payload.now)))
+    (take (length c.args.payload.now - c.header_len-size.result) (drop c.header_len-size.result c.args.payload.now))) 0
