@@ -58,7 +58,6 @@ LISTED = [
     ("the reasons of protodown", lambda line: re.sub(r" protodown_reason <[^>]*>", "", line), str),
     ("a time of 1,000 s or more", str, lambda line: re.sub(r"[\d.]{5,}(?=s )", lambda it: f"{float(it[0]):g}", line)),
     ("the name of an IP protocol", *2 * [lambda line: re.sub(r" ipproto \S+", "", line)]),
-    ("the encapsulation of a route", lambda line: re.sub(r" encap ip6? .*? (?=via|dev)", " ", line), str),
     ("a link address of no bytes", lambda line: line.replace(" lladdr 08 ", " "), str),
     ("the older name of a link", lambda line: re.sub(r"\bolder\b", "newer", line), str),
 ]

@@ -38,6 +38,7 @@ for unused in (23, 27, 31, 35, 65, 91):
 DESCRIBED = (0, 2, 7, 10, 28, 128, 129)
 REQUEST, DUMP, KIND_BITS = 1, 0x300, 3
 INFO_KIND, INFO_DATA = "1", "2"
+ENCAP_TYPE, ENCAP = "21", "22"
 
 
 def whole_at(block):
@@ -54,9 +55,14 @@ def attributes(block):
         at += (size + 3) & ~3
 
 
+def value_of(block, kind):
+    """Returns the value of the first attribute of a kind in a block, or None."""
+    return next((it for _at, one, it in attributes(block) if str(one & 0x3FFF) == kind), None)
+
+
 def row_of(kinds, block, kind, top):
     """Returns the name, the form, its number and the kinds inside of a kind among others in a block. The kind of a link
-    decides what IFLA_INFO_DATA has: the first one."""
+    decides what IFLA_INFO_DATA has, and the type of an encapsulation what RTA_ENCAP has: the first one."""
     if kinds is None:  # a next hop, whose kind is its flags and its hops
         return None, "header", 4, top
     kind &= 0x3FFF
@@ -66,10 +72,16 @@ def row_of(kinds, block, kind, top):
     _number, name, form, size, inside = found
     links = [it for it in kinds if it[2] == "link"]
     if links and found[0] == INFO_DATA:
-        value = next((it for _at, one, it in attributes(block) if str(one & 0x3FFF) == INFO_KIND), None)
+        value = value_of(block, INFO_KIND)
         chosen = [it for it in links if value is not None and it[1].encode() == value.split(b"\0")[0]]
         if chosen:  # kinds of links that share a policy share its kinds, each of which is listed with one of them
             form, inside = "nest", [kind for it in links if it[3] == chosen[0][3] for kind in it[4]]
+    encapsulations = {it[0]: it[4] for it in kinds if it[2] == "encapsulation"}
+    if encapsulations and found[0] == ENCAP:
+        value = value_of(block, ENCAP_TYPE) or b""
+        chosen = encapsulations.get(f"&{number(value)}") if len(value) == 2 else None
+        if chosen:
+            form, inside = "nest", chosen
     if form == "header":
         inside = top
     return None if name == "-" else name, form, size, inside
@@ -82,6 +94,8 @@ def has_form(form, size, value):
         return b"\0" not in value[:-1]
     if form == "address":
         return len(value) in (4, 16)
+    if form == "elements":
+        return len(value) % size == 0
     return {"flag": not value, "exact": len(value) == size}.get(form, len(value) >= size if form in ("least", "header") else True)
 
 

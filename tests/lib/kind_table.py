@@ -11,7 +11,8 @@ INTEGERS = {"u8": 1, "u16": 2, "u32": 4, "u64": 8, "s32": 4, "s64": 8, "be16": 2
 
 def families():
     """Yields the message type, the size of the header, the fields and the kinds of each family. A kind is a list: its
-    number, its name, its form, the number after that, and the kinds in it."""
+    number, its name, its form, the number after that, and the kinds in it. The number of an encapsulation follows a
+    `&`, so that it is no kind."""
     found = []
     with open(TABLE, encoding="utf-8") as file:
         for line in file:
@@ -25,6 +26,8 @@ def families():
                     kinds = kinds[-1][4]
                 if words[0] == "=":
                     words = [*words[:2], "link", words[2]]
+                if words[0] == "&":
+                    words = [f"&{words[2]}", words[1], "encapsulation", words[3]]
                 kinds.append([words[0], words[1], words[2], int((words + ["0"])[3]), []])
     return found
 

@@ -3,9 +3,9 @@
 
 It counts instructions by valgrind's callgrind. A block of attributes may take at most 4.4 times the instructions if it
 has four times the attributes. A view of a block of 64 KB whose shapes another attribute chooses may take at most 1.5
-times as many as one of as many attributes of any bytes, if any bytes are what it chooses. A message that changes the
-name of a link may take at most 1.5 times as many if 65,536 links are known instead of 1,000. A call that takes much
-less than that did not read its input.
+times as many as one of as many attributes of any bytes, if any bytes are what it chooses; outside nests, where each
+attribute takes fewer, 1.6 times. A message that changes the name of a link may take at most 1.5 times as many if 65,536
+links are known instead of 1,000. A call that takes much less than that did not read its input.
 """
 
 import os
@@ -19,15 +19,18 @@ sys.path.insert(0, os.path.join(sys.path[0], "..", "lib"))
 from built import built, in_parallel, run, tally  # noqa: E402 (it is in that folder)
 from expected import Expected, differs  # noqa: E402
 
-NEWLINK, DELLINK = 16, 17
+NEWLINK, DELLINK, NEWROUTE = 16, 17, 24
 IFNAME, LINKINFO = 3, 18
 INFO_KIND, INFO_DATA, INFO_XSTATS, SLAVE_KIND, SLAVE_DATA = 1, 2, 3, 4, 5
+NEWDST, ENCAP_TYPE, ENCAP = 19, 21, 22  # RTA_NEWDST, RTA_ENCAP_TYPE, RTA_ENCAP
 
 # How many attributes a block has, and the least and the most times the instructions of the smaller one that the larger
 # one may take.
 FEW, MANY, TIMES = 2000, 8000, (2, 4.4)
 # How many attributes a block of 64 KB has, and the same in comparison with a block of any bytes.
 WHOLE, TIMES_OF_BYTES = 16000, (1, 1.5)
+# The same for the attributes of a message, which are looked up faster than those in a nest.
+TIMES_OUTSIDE_NESTS = (1, 1.6)
 # How many links are known, the same for a message, and how many messages change names.
 FEW_LINKS, MANY_LINKS, TIMES_A_LINK, CHANGES = 1000, 65536, (0.5, 1.5), 500
 
@@ -41,6 +44,9 @@ CALLS = {
     "iteration": GROWTH + "a_nest_of_standard_input_is_iterated",
     "try_push": GROWTH + "a_nest_of_standard_input_is_appended",
 }
+# Those for a route, whose own attributes are the block.
+ROUTE_CALLS = {it: CALLS[it] for it in ("normalize", "deserialize and show", "MessageView", "CheckedAttributes")}
+ROUTE_CALLS["iteration"] = GROWTH + "attributes_of_standard_input_are_iterated"
 
 
 def attribute(kind, value=b""):
@@ -60,8 +66,15 @@ BLOCKS = {
     "data before a malformed attribute": lambda count: count * attribute(INFO_DATA) + b"\3\0\0\0",
 }
 
-# The attributes of any bytes with which the first two are compared, whose data may be any bytes too.
-BYTES = WHOLE * attribute(INFO_XSTATS)
+# The attributes of a route, whose RTA_ENCAP_TYPE chooses the shape of each RTA_ENCAP, by the number of these.
+ENCAPSULATIONS = {
+    "encapsulations without a type": lambda count: count * attribute(ENCAP),
+    "encapsulations before a type without a table": lambda count: (
+        count * attribute(ENCAP) + attribute(ENCAP_TYPE, b"\xff\0")
+    ),
+    "encapsulations before their type": lambda count: count * attribute(ENCAP) + attribute(ENCAP_TYPE, b"\1\0"),
+    "encapsulations before a malformed attribute": lambda count: count * attribute(ENCAP) + b"\3\0\0\0",
+}
 
 
 def link(message_type, index, block):
@@ -73,6 +86,11 @@ def link(message_type, index, block):
 def of_kind(block):
     """Returns a message about a link with these attributes in IFLA_LINKINFO."""
     return link(NEWLINK, 1, attribute(LINKINFO, block))
+
+
+def route(block):
+    """Returns a message about a route with these attributes."""
+    return struct.pack("<IHHII", 28 + len(block), NEWROUTE, 0, 1, 0) + bytes(12) + block
 
 
 def named(index, name):
@@ -87,20 +105,29 @@ NAMES = {
 }
 
 
+def block_cases(call, words, message, blocks, other, times):
+    """Yields the cases of a call for messages with these blocks. A view of one with the first or the second block,
+    whose attributes may have any bytes, is compared with one that has attributes of the kind `other`, of any bytes
+    too."""
+    for what, block in blocks.items():
+        few, many = [message(block(count)) for count in (FEW, MANY)]
+        none = message(block(0))
+        yield f"{call}, {what}", words, ((none, few), (none, many)), TIMES
+        if call == "MessageView" and what in [*blocks][:2]:
+            pairs = ((message(b""), message(WHOLE * attribute(other))), (none, message(block(WHOLE))))
+            yield f"{call}, {what}, and any bytes", words, pairs, times
+
+
 def cases():
     """Yields each case: its name, the program with its words, the two inputs, each with one that it begins with or that
     has no attributes, and the least and the most times the instructions of the first that the second may take."""
     show = built("netlink_show", "netlink_show")
     tests = built("netlink_route_tests_tests", "netlink_route_tests")
-    words = {"netlink_show": [show], **{name: [tests, test] for name, test in CALLS.items()}}
-    for call, them in words.items():
-        for what, block in BLOCKS.items():
-            few, many = [of_kind(block(count)) for count in (FEW, MANY)]
-            none = of_kind(block(0))
-            yield f"{call}, {what}", them, ((none, few), (none, many)), TIMES
-            if call == "MessageView" and what in [*BLOCKS][:2]:
-                pairs = ((of_kind(b""), of_kind(BYTES)), (none, of_kind(block(WHOLE))))
-                yield f"{call}, {what}, and any bytes", them, pairs, TIMES_OF_BYTES
+    for call, test in {"netlink_show": None, **CALLS}.items():
+        yield from block_cases(call, [tests, test] if test else [show], of_kind, BLOCKS, INFO_XSTATS, TIMES_OF_BYTES)
+    for call, test in {"netlink_show": None, **ROUTE_CALLS}.items():
+        words = [tests, test] if test else [show]
+        yield from block_cases(call, words, route, ENCAPSULATIONS, NEWDST, TIMES_OUTSIDE_NESTS)
     known = {count: b"".join(named(it, f"link{it}") for it in range(1, count + 1)) for count in (FEW_LINKS, MANY_LINKS)}
     for what, changes in NAMES.items():
         pairs = tuple((links, links + changes(count)) for count, links in known.items())

@@ -6,7 +6,8 @@ be the one that this script makes: the names, and the values by their form and b
 byte short or long, or has another form, must be rejected, with the error text that this script makes: with the kind, the
 offset of the attribute, the policy and the sizes. So must a frame whose nest is cut within an attribute.
 
-The attributes of a kind of link are in IFLA_INFO_DATA, before or after IFLA_INFO_KIND. The first kind counts.
+The attributes of a kind of link are in IFLA_INFO_DATA, before or after IFLA_INFO_KIND. The first kind counts. Those of an
+encapsulation are in RTA_ENCAP, before or after RTA_ENCAP_TYPE, and the first type counts.
 """
 
 import os
@@ -24,6 +25,7 @@ SHOWS = "tests::captured::standard_input_is_shown"
 RESULT = b"\ntest result: ok\n"
 NESTED, QUERY = 0x8000, 0x4000  # NLA_F_NESTED and the other flag bit, NLA_F_NET_BYTEORDER
 INFO_KIND, INFO_DATA, GATEWAY = 1, 2, 5  # IFLA_INFO_KIND, IFLA_INFO_DATA, RTA_GATEWAY
+ENCAP_TYPE, ENCAP = 21, 22  # RTA_ENCAP_TYPE, RTA_ENCAP
 
 
 def attribute(kind, value):
@@ -48,6 +50,9 @@ def values(kind, form, size):
     if form == "least":
         text = f"attribute {kind} has a value of {size - 1} bytes instead of {size} or more"
         return [count[:size], count[: size + 1]], [(bytes(size - 1), text)]
+    if form == "elements":
+        text = "attribute {} has a value of {} bytes, no multiple of {}"
+        return [b"", count[:size], count[: 3 * size]], [(bytes(it), text.format(kind, it, size)) for it in (size - 1, size + 1)]
     size, text = INTEGERS[form], "attribute {} has a value of {} bytes instead of {}"
     return [count[:size], b"\xff" * size], [(bytes(it), text.format(kind, it, size)) for it in (size - 1, size + 1)]
 
@@ -83,6 +88,26 @@ def links(name, policy, inside, offset):
     error = f"at byte {offset + len(without + other) + 4}, in policy {policy}: 1 bytes are too few for an attribute"
     yield without + other + data, None, error
     yield other + without + data, ["IFLA_INFO_KIND: other", text, "IFLA_INFO_DATA: 01"], None
+
+
+def encapsulations(number, policy, inside, offset):
+    """Yields the cases of an encapsulation, within a route."""
+    own, other = (attribute(ENCAP_TYPE, struct.pack("<H", it)) for it in (number, 256 + number))
+    text, other_text = (f"RTA_ENCAP_TYPE: {it}" for it in (number, 256 + number))
+    for block, lines, error in blocks(inside, offset + len(own) + 4, policy):
+        lines = [text, "RTA_ENCAP:", *indented(lines)] if lines else None
+        yield own + attribute(ENCAP, block), lines, error
+    for block, lines, error in blocks(inside, offset + 4, policy):
+        lines = ["RTA_ENCAP:", *indented(lines), text] if lines else None
+        yield attribute(ENCAP | NESTED, block) + own, lines, error
+    for kind, size in (ENCAP, 7), (ENCAP | NESTED, 5):
+        cut = attribute(int(inside[0][0]), bytes(4))[:size]
+        error = f"at byte {offset + len(own) + 4}, in policy {policy}: an attribute of 8 bytes is truncated to {size}"
+        yield own + attribute(kind, cut), None, error
+    data = attribute(ENCAP, b"\1")
+    error = f"at byte {offset + len(own + other) + 4}, in policy {policy}: 1 bytes are too few for an attribute"
+    yield own + other + data, None, error
+    yield other + own + data, [other_text, text, "RTA_ENCAP: 01"], None
 
 
 def hop(flags, hops, index, attributes=b"", size=8):
@@ -127,6 +152,9 @@ def blocks(kinds, offset, policy):
     for kind, name, form, size, inside in kinds:
         if form == "link":
             yield from links(name, size, inside, offset)
+            continue
+        if form == "encapsulation":
+            yield from encapsulations(int(kind[1:]), size, inside, offset)
             continue
         kind = int(kind)
         if form == "nest":

@@ -4,10 +4,10 @@ field of a fixed header, and its whole size; and the order of the rows.
 
     tests/steps/tables.py [FILE..]
 
-Without files, those of netlink_route, netlink_generic and netlink_values. A name that no header has is not compared: the headers may be
-older than the table. The headers are those that a file names in comments, such as linux/neighbour.h, with the ones that
-all route netlink needs. The struct of a field is the one that the nearest comment above names, as in "The fields of
-`struct ndmsg`".
+Without files, those of netlink_route, netlink_generic and netlink_values. A name that no header has is not compared: the
+headers may be older than the table. The headers are those that a file names in comments, such as linux/neighbour.h, in a
+list also without `linux/`, with the ones that all route netlink needs. The struct of a field is the one that the nearest
+comment above names, as in "The fields of `struct ndmsg`".
 """
 
 import glob
@@ -24,7 +24,7 @@ from toolchain import compiler  # noqa: E402
 
 COMMON = ("linux/if_link.h", "linux/if_arp.h", "linux/rtnetlink.h", "linux/genetlink.h")
 
-HEADER = re.compile(r"\blinux/\w+\.h")
+HEADER = re.compile(r"(?<![\w/])(?:linux/)?(\w+\.h)\b")
 NUMBER = re.compile(r"(?m)^(?:pub(?:\(crate\))? )?const (\w+): u(?:8|16|32) = (\d+|0x[0-9a-fA-F_]+);$")
 FIELD = re.compile(r'(?m)^(?:pub )?const (\w+): Field = \("(\w+)", (\d+), Shape::(\w+)(?:\((\d+)\))?\);$')
 STRUCT = re.compile(r"(?m)^//.*`struct (\w+)`")
@@ -88,7 +88,7 @@ def has_headers(names):
 
 def wrong_values(text):
     """Yields for each constant and field that the headers have its name, and how it differs or None."""
-    headers = dict.fromkeys([*COMMON, *HEADER.findall(text)])
+    headers = dict.fromkeys([*COMMON, *(f"linux/{it}" for it in HEADER.findall(text))])
     headers = [it for it in headers if has_headers([*COMMON, it])]
     numbers = {name: (value, 0) for name, value in values_in(text).items()}
     fields = {it[1]: (struct_at(text, it.start()), it[2], (int(it[3]), int(it[5] or SIZES.get(it[4], 0)))) for it in FIELD.finditer(text)}

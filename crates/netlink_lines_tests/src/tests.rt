@@ -1,6 +1,7 @@
 //! Lines of messages that are made by hand, runs, and texts of numbers and bytes.
 
 mod byte_lines;
+mod encap_lines;
 mod lines;
 mod link_lines;
 mod mpls_lines;

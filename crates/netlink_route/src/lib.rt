@@ -4,6 +4,7 @@
 #![tactic(auto)]
 
 pub mod addresses;
+pub mod encapsulations;
 pub mod link_kinds;
 mod link_rows;
 pub mod links;
@@ -13,6 +14,7 @@ pub mod neighbour_tables;
 pub mod neighbours;
 mod next_hops;
 mod route;
+mod route_rows;
 pub mod routes;
 pub mod rules;
 

@@ -2,9 +2,12 @@
 
 ghost use Rattle.std.specs.Prelude.{◌==◌, refl};
 ghost use Rattle.netlink_family.specs.Shapes.{named, named_fields};
-ghost use Rattle.netlink_route.specs.declared.routes.TheConstants.{FIELDS, ROWS, RTM_GETROUTE, TYPES};
+ghost use Rattle.netlink_route.specs.declared.route_rows.TheConstants.{ROWS};
+ghost use Rattle.netlink_route.specs.declared.routes.TheConstants.{FIELDS, RTM_GETROUTE, TYPES};
 
-use netlink_family::{ANY, Family, Field, OwnedMessage, Row, Shape, TOP, Table, is_among};
+use crate::route_rows::ROWS;
+use netlink_family::{Family, Field, OwnedMessage, Row, Shape, Table, is_among};
+use netlink_packet_core::NLA_TYPE_MASK;
 
 pub const RTM_NEWROUTE: u16 = 24;
 
@@ -143,78 +146,6 @@ const FIELDS: &'static [Field] = &[
     RTM_FLAGS,
 ];
 
-// The kernel's `rtm_ipv4_policy`, `rtm_ipv6_policy`, `rtm_mpls_policy`, `fib_gw_from_via`,
-// `rtnl_put_cacheinfo` and `ip_metrics_convert`. `RTA_EXPIRES` of a multicast route has 8 bytes
-// (`mr_fill_mroute`), that of a request 4.
-const ROWS: &'static [Row] = &[
-    (TOP, RTA_DST, "RTA_DST", Shape::Ip),
-    (TOP, RTA_SRC, "RTA_SRC", Shape::Ip),
-    (TOP, RTA_IIF, "RTA_IIF", Shape::U32),
-    (TOP, RTA_OIF, "RTA_OIF", Shape::U32),
-    (TOP, RTA_GATEWAY, "RTA_GATEWAY", Shape::Ip),
-    (TOP, RTA_PRIORITY, "RTA_PRIORITY", Shape::U32),
-    (TOP, RTA_PREFSRC, "RTA_PREFSRC", Shape::Ip),
-    (TOP, RTA_METRICS, "RTA_METRICS", Shape::Nested(METRICS)),
-    (
-        TOP,
-        RTA_MULTIPATH,
-        "RTA_MULTIPATH",
-        Shape::Nested(NEXT_HOPS),
-    ),
-    (TOP, 10, "RTA_PROTOINFO", Shape::Bytes),
-    (TOP, RTA_FLOW, "RTA_FLOW", Shape::U32),
-    (TOP, RTA_CACHEINFO, "RTA_CACHEINFO", Shape::MinLen(32)),
-    (TOP, 13, "RTA_SESSION", Shape::Bytes),
-    (TOP, 14, "RTA_MP_ALGO", Shape::Bytes),
-    (TOP, RTA_TABLE, "RTA_TABLE", Shape::U32),
-    (TOP, RTA_MARK, "RTA_MARK", Shape::U32),
-    (TOP, RTA_MFC_STATS, "RTA_MFC_STATS", Shape::MinLen(24)),
-    (TOP, RTA_VIA, "RTA_VIA", Shape::MinLen(2)),
-    (TOP, RTA_NEWDST, "RTA_NEWDST", Shape::Bytes),
-    (TOP, RTA_PREF, "RTA_PREF", Shape::U8),
-    (TOP, RTA_ENCAP_TYPE, "RTA_ENCAP_TYPE", Shape::U16),
-    (TOP, RTA_ENCAP, "RTA_ENCAP", Shape::Bytes),
-    (TOP, RTA_EXPIRES, "RTA_EXPIRES", Shape::MinLen(4)),
-    (TOP, 24, "RTA_PAD", Shape::Bytes),
-    (TOP, RTA_UID, "RTA_UID", Shape::U32),
-    (TOP, RTA_TTL_PROPAGATE, "RTA_TTL_PROPAGATE", Shape::U8),
-    (TOP, RTA_IP_PROTO, "RTA_IP_PROTO", Shape::U8),
-    (TOP, RTA_SPORT, "RTA_SPORT", Shape::Be16),
-    (TOP, RTA_DPORT, "RTA_DPORT", Shape::Be16),
-    (TOP, RTA_NH_ID, "RTA_NH_ID", Shape::U32),
-    (METRICS, RTAX_LOCK, "RTAX_LOCK", Shape::U32),
-    (METRICS, RTAX_MTU, "RTAX_MTU", Shape::U32),
-    (METRICS, RTAX_WINDOW, "RTAX_WINDOW", Shape::U32),
-    (METRICS, RTAX_RTT, "RTAX_RTT", Shape::U32),
-    (METRICS, RTAX_RTTVAR, "RTAX_RTTVAR", Shape::U32),
-    (METRICS, RTAX_SSTHRESH, "RTAX_SSTHRESH", Shape::U32),
-    (METRICS, RTAX_CWND, "RTAX_CWND", Shape::U32),
-    (METRICS, RTAX_ADVMSS, "RTAX_ADVMSS", Shape::U32),
-    (METRICS, RTAX_REORDERING, "RTAX_REORDERING", Shape::U32),
-    (METRICS, RTAX_HOPLIMIT, "RTAX_HOPLIMIT", Shape::U32),
-    (METRICS, RTAX_INITCWND, "RTAX_INITCWND", Shape::U32),
-    (METRICS, RTAX_FEATURES, "RTAX_FEATURES", Shape::U32),
-    (METRICS, RTAX_RTO_MIN, "RTAX_RTO_MIN", Shape::U32),
-    (METRICS, RTAX_INITRWND, "RTAX_INITRWND", Shape::U32),
-    (METRICS, RTAX_QUICKACK, "RTAX_QUICKACK", Shape::U32),
-    (METRICS, RTAX_CC_ALGO, "RTAX_CC_ALGO", Shape::Str),
-    (
-        METRICS,
-        RTAX_FASTOPEN_NO_COOKIE,
-        "RTAX_FASTOPEN_NO_COOKIE",
-        Shape::U32,
-    ),
-    (
-        NEXT_HOPS,
-        ANY,
-        "",
-        Shape::HeaderNested {
-            size: 4,
-            policy: TOP,
-        },
-    ),
-];
-
 /// The family of routes.
 #[derive(Clone, Copy, Debug, PartialEq, Eq)]
 pub struct Routes;
@@ -250,9 +181,8 @@ impl Table for Routes {
         FIELDS
     }
 
-    #[tactic(auto, using(netlink_family::specs::PushingLaws::none_choose))]
-    fn chooses_shape(_message_type: u16, _kind: u16) -> bool {
-        false
+    fn chooses_shape(_message_type: u16, kind: u16) -> bool {
+        kind & NLA_TYPE_MASK == RTA_ENCAP_TYPE
     }
 
     ghost sorted = { λ _. refl };

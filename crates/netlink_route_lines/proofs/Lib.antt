@@ -1,3 +1,4 @@
+pub mod Chosen
 pub mod Hops
 pub mod Labels
 pub mod Pieces

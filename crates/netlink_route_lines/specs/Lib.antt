@@ -1,3 +1,4 @@
+pub mod Encap
 pub mod IpProtocols
 pub mod Mpls
 pub mod Multicast

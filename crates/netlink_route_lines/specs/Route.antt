@@ -6,11 +6,12 @@ use Rattle.std.specs.Option.{option_map}
 use Rattle.netlink_family.specs.Finding.{first_at}
 use Rattle.netlink_packet_core.specs.Fields.{number_at}
 use Rattle.netlink_packet_core.specs.Numbers.{number_le}
-use Rattle.netlink_route.specs.declared.routes.TheConstants.{RTA_CACHEINFO, RTA_DST, RTA_FLOW, RTA_GATEWAY, RTA_IIF, RTA_MARK, RTA_METRICS, RTA_MULTIPATH, RTA_NEWDST, RTA_NH_ID, RTA_OIF, RTA_PREF, RTA_PREFSRC, RTA_PRIORITY, RTA_SRC, RTA_TABLE, RTA_TTL_PROPAGATE, RTA_UID, RTA_VIA}
+use Rattle.netlink_route.specs.declared.routes.TheConstants.{RTA_CACHEINFO, RTA_DST, RTA_ENCAP, RTA_ENCAP_TYPE, RTA_FLOW, RTA_GATEWAY, RTA_IIF, RTA_MARK, RTA_METRICS, RTA_MULTIPATH, RTA_NEWDST, RTA_NH_ID, RTA_OIF, RTA_PREF, RTA_PREFSRC, RTA_PRIORITY, RTA_SRC, RTA_TABLE, RTA_TTL_PROPAGATE, RTA_UID, RTA_VIA}
 use Rattle.netlink_words.specs.Parts.{or_empty}
 use Rattle.netlink_names.specs.Device.{device_part}
 use Rattle.netlink_words.specs.NumberNames.{protocol_text, route_type_text, scope_text, table_text}
 use Rattle.netlink_words.specs.Parts.{host_length, keyed, number_part, prefix_text, realms_part, tos_part, when, with_parts}
+use Rattle.netlink_route_lines.specs.Encap.{encap_part}
 use Rattle.netlink_route_lines.specs.Mpls.{label_target, new_labels, propagation_part}
 use Rattle.netlink_route_lines.specs.Multicast.{is_multicast, multicast_line}
 use Rattle.netlink_route_lines.specs.RouteCache.{cache_part, lifetime_parts}
@@ -51,7 +52,7 @@ abbrev pub source_text : List ℕ → List ℕ
 source_text payload =
     prefix_text (route_bytes payload RTA_SRC) (route_byte payload 2) (host_length (route_byte payload 0))
 
--- the verb, type, destination, source, id of the next hop, new labels, type of service
+-- the verb, type, destination, source, id of the next hop, new labels, encapsulation, type of service
 unfoldable pub route_front : ℕ → List ℕ → List (List ℕ)
 route_front t payload =
     when (t == 25) (codes "Deleted")
@@ -61,6 +62,7 @@ route_front t payload =
     ∷ keyed (codes "from") (source_text payload)
     ∷ number_part (codes "nhid") (route_number payload RTA_NH_ID)
     ∷ new_labels (route_byte payload 0) (route_bytes payload RTA_NEWDST)
+    ∷ encap_part (route_number payload RTA_ENCAP_TYPE) (first_at 12 payload RTA_ENCAP)
     ∷ tos_part (route_byte payload 3) ∷ []
 
 -- the gateway and the link

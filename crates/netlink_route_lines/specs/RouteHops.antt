@@ -11,11 +11,12 @@ use Rattle.netlink_family.specs.declared.shape.Shape.TheVariants.{HeaderNested}
 use Rattle.netlink_family.specs.declared.value.Value.{Value}
 use Rattle.netlink_packet_core.specs.Attribute.{Attribute}
 use Rattle.netlink_packet_core.specs.Numbers.{number_le}
-use Rattle.netlink_route.specs.declared.routes.TheConstants.{NEXT_HOPS, RTA_FLOW, RTA_GATEWAY, RTA_NEWDST, RTA_VIA}
+use Rattle.netlink_route.specs.declared.routes.TheConstants.{NEXT_HOPS, RTA_ENCAP, RTA_ENCAP_TYPE, RTA_FLOW, RTA_GATEWAY, RTA_NEWDST, RTA_VIA}
 use Rattle.netlink_words.specs.Parts.{or_empty}
 use Rattle.netlink_names.specs.Device.{device_part}
 use Rattle.netlink_words.specs.NumberNames.{family_text}
 use Rattle.netlink_words.specs.Parts.{keyed, realms_part, with_parts}
+use Rattle.netlink_route_lines.specs.Encap.{encap_part}
 use Rattle.netlink_route_lines.specs.Mpls.{new_labels}
 use Rattle.netlink_route_lines.specs.RouteFlags.{hop_flags_text}
 use Rattle.netlink_words.specs.Text.{bytes_text, ip_words}
@@ -45,6 +46,7 @@ weight_part family word = if family == 28 then [] else codes "weight " ++ decima
 unfoldable pub hop_parts : List Known → ℕ → ℕ → List ℕ → List ℕ → List (List ℕ)
 hop_parts known family word index block =
     codes "nexthop"
+    ∷ encap_part (option_map number_le (found_in block RTA_ENCAP_TYPE)) (found_in block RTA_ENCAP)
     ∷ new_labels family (or_empty (found_in block RTA_NEWDST))
     ∷ keyed (codes "via") (ip_words (or_empty (found_in block RTA_GATEWAY)))
     ∷ via_part (or_empty (found_in block RTA_VIA))

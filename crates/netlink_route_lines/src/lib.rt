@@ -16,6 +16,11 @@
 //! | `100/200`, labels of MPLS | `mpls::labels_text` | `Mpls::labels_text` |
 //! | `nhid 10` | `route::push_front` | `Route::route_front` |
 //! | `as to 200` | `route::push_labels` | `Mpls::new_labels` |
+//! | `encap mpls`, `encap ip` and the other types | `encap::push_encap` | `Encap::encap_part` |
+//! | `100/200` and `ttl 5` of MPLS | `encap::push_mpls` | `Encap::mpls_parts` |
+//! | `id 5`, `src 0.0.0.0` and `dst 10.1.0.9` of a tunnel | `encap::push_ends` | `Encap::tunnel_ends` |
+//! | `ttl 64` and `tos 0`, or `hoplimit 64` and `tc 0` | `encap::push_rest` | `Encap::tunnel_rest` |
+//! | `key`, `csum` and `seq` | `encap::push_flags` | `Encap::tunnel_flags` |
 //! | `tos 0x10` | `netlink_words::parts::push_tos` | `netlink_words::Parts::tos_part` |
 //! | `via 10.1.0.3` | `route_hops::push_next` | `Route::route_next` |
 //! | `via inet6 fe80::1` | `route_hops::push_via` | `RouteHops::via_part` |
@@ -42,6 +47,7 @@
 //! | `pref medium` | `route_flags::push_preference` | `RouteFlags::preference_text` |
 //! | `ttl-propogate enabled` | `mpls::push_propagation` | `Mpls::propagation_part` |
 //! | `nexthop` | `route_hops::push_hop_parts` | `RouteHops::hop_parts` |
+//! | `encap ip`, and what follows it in a route | `route_hops::push_hop_encap` | `Encap::encap_part` |
 //! | `as to 200` | `route_hops::push_hop_labels` | `Mpls::new_labels` |
 //! | `via 10.1.0.3` | `route_hops::push_next` | `RouteHops::hop_parts` |
 //! | `via inet6 fe80::1` | `route_hops::push_via` | `RouteHops::via_part` |
@@ -109,6 +115,7 @@
 //! | `unassigned` in place of an id | `namespace::push_id` | `Namespace::id_part` |
 #![tactic(auto)]
 
+pub mod encap;
 pub mod ip_protocols;
 pub mod mpls;
 pub mod multicast;
@@ -121,3 +128,4 @@ pub mod route_metrics;
 pub mod rule;
 pub mod rule_ends;
 pub mod rule_matches;
+mod values;

@@ -10,6 +10,7 @@ ghost use Rattle.netlink_words.specs.Parts.{AddsPart, AddsParts};
 ghost use Rattle.netlink_route_lines.specs.Multicast.{incoming_part, is_multicast, multicast_line, multicast_table, outgoing_list, outgoing_text, pair_text, route_parts, state_parts, with_outgoing, word_or_unknown};
 ghost use Rattle.netlink_route_lines.specs.RouteHops.{IsHop, IsHops};
 
+use crate::values::{ip_of, u32_of};
 use netlink_family::{BlockView, MessageIndex, Table, Value};
 use netlink_names::device::{device_name, push_device};
 use netlink_names::name_table::Names;
@@ -19,7 +20,7 @@ use netlink_route::routes::{
     RTA_DST, RTA_IIF, RTA_MULTIPATH, RTA_SRC, RTM_DELROUTE, RTM_FLAGS, RTM_GETROUTE,
 };
 use netlink_words::number_names::push_table;
-use netlink_words::parts::{or_empty, push_key, push_keyed, push_part, push_when};
+use netlink_words::parts::{push_key, push_keyed, push_part, push_when};
 use netlink_words::text::ip_words;
 use std::alloc::{AllocError, Global};
 
@@ -77,10 +78,10 @@ fn push_route(
 {
     push_when(text, route.message.message_type == RTM_DELROUTE, "Deleted")?;
     push_when(text, route.message.message_type == RTM_GETROUTE, "Get")?;
-    let source = or_empty(route.index().ip(RTA_SRC));
-    let group = or_empty(route.index().ip(RTA_DST));
+    let source = ip_of(route, RTA_SRC);
+    let group = ip_of(route, RTA_DST);
     push_part(text, pair_text(alloc, source, group)?.as_str())?;
-    push_incoming(text, known, route.index().u32(RTA_IIF))?;
+    push_incoming(text, known, u32_of(route, RTA_IIF))?;
     push_keyed(text, "Oifs:", outgoing_list(alloc, known, route)?.as_str())
 }
 

@@ -2,26 +2,30 @@
 
 ghost use Rattle.std.specs.Prelude.{◌≡◌, IfOk, OnOk, codes, string_bytes};
 ghost use Rattle.std.specs.Option.{option_map};
-ghost use Rattle.netlink_route.specs.declared.routes.TheConstants.{RTA_DST, RTA_GATEWAY, RTA_NEWDST, RTA_PREFSRC, RTA_SRC, RTA_VIA};
+ghost use Rattle.netlink_family.specs.Finding.{first_at};
+ghost use Rattle.netlink_route.specs.declared.routes.TheConstants.{RTA_DST, RTA_ENCAP, RTA_ENCAP_TYPE, RTA_GATEWAY, RTA_NEWDST, RTA_PREFSRC, RTA_SRC, RTA_VIA};
 ghost use Rattle.netlink_words.specs.Parts.{AddsPart, AddsParts, keyed, prefix_text};
+ghost use Rattle.netlink_route_lines.specs.Encap.{encap_part};
 ghost use Rattle.netlink_route_lines.specs.Mpls.{new_labels};
 ghost use Rattle.netlink_route_lines.specs.Multicast.{multicast_line};
-ghost use Rattle.netlink_route_lines.specs.Route.{installer_part, is_own, is_shown, kept_parts, last_parts, origin_parts, route_byte, route_bytes, route_entry_line, route_front, route_next, route_table, route_words, scope_part, table_part, target_text, type_part, with_rest, word_or_default};
+ghost use Rattle.netlink_route_lines.specs.Route.{installer_part, is_own, is_shown, kept_parts, last_parts, origin_parts, route_byte, route_bytes, route_entry_line, route_front, route_next, route_number, route_table, route_words, scope_part, table_part, target_text, type_part, with_rest, word_or_default};
 
+use crate::encap::push_encap;
 use crate::mpls::{AF_MPLS, push_label_target, push_new_labels, push_propagation};
 use crate::multicast::{RT_TABLE_MAIN, is_multicast, multicast_line};
 use crate::route_cache::{push_cache, push_lifetime, push_mark};
 use crate::route_flags::{push_hop_flags, push_preference_part};
 use crate::route_hops::{push_hops, push_next};
 use crate::route_metrics::push_metrics;
+use crate::values::{ip_of, u8_of, u32_of};
 use netlink_family::{MessageIndex, MessageView};
 use netlink_names::device::{Known, push_device};
 use netlink_names::name_table::Names;
 use netlink_route::Routes;
 use netlink_route::routes::{
-    RTA_CACHEINFO, RTA_DST, RTA_FLOW, RTA_GATEWAY, RTA_IIF, RTA_MARK, RTA_NEWDST, RTA_NH_ID,
-    RTA_OIF, RTA_PREF, RTA_PREFSRC, RTA_PRIORITY, RTA_SRC, RTA_TABLE, RTA_TTL_PROPAGATE, RTA_UID,
-    RTA_VIA, RTM_DELROUTE, RTM_DST_LEN, RTM_FAMILY, RTM_FLAGS, RTM_GETROUTE, RTM_PROTOCOL,
+    RTA_CACHEINFO, RTA_DST, RTA_ENCAP_TYPE, RTA_FLOW, RTA_GATEWAY, RTA_IIF, RTA_MARK, RTA_NEWDST,
+    RTA_NH_ID, RTA_OIF, RTA_PREF, RTA_PREFSRC, RTA_PRIORITY, RTA_SRC, RTA_TABLE, RTA_TTL_PROPAGATE,
+    RTA_UID, RTA_VIA, RTM_DELROUTE, RTM_DST_LEN, RTM_FAMILY, RTM_FLAGS, RTM_GETROUTE, RTM_PROTOCOL,
     RTM_SCOPE, RTM_SRC_LEN, RTM_TABLE, RTM_TOS, RTM_TYPE,
 };
 use netlink_words::number_names::{push_protocol, push_scope, push_table, route_type_text};
@@ -119,7 +123,7 @@ fn route_words(
 }
 
 /// Appends the verb, the type of the route, the destination, the source, the id of the next hop, the
-/// new labels and the type of service.
+/// new labels, the encapsulation and the type of service.
 #[tactic(auto, unfolding(crate::specs::Route::route_front))]
 fn push_front(
     alloc: Global,
@@ -136,8 +140,9 @@ fn push_front(
     let whole = host_length(route.header().u8(RTM_FAMILY));
     let from = source_of(route);
     push_source(alloc, text, from, route.header().u8(RTM_SRC_LEN), whole)?;
-    push_number(text, "nhid", route.index().u32(RTA_NH_ID))?;
+    push_number(text, "nhid", u32_of(route, RTA_NH_ID))?;
     push_labels(alloc, text, route)?;
+    push_own_encap(alloc, text, route)?;
     push_tos(alloc, text, route.header().u8(RTM_TOS))
 }
 
@@ -217,14 +222,14 @@ fn push_source(
 fn target_of<'a>(route: &MessageIndex<'a, Routes>) -> &'a [u8]
     ensures { result.now ≡ route_bytes route.now.message.payload.now RTA_DST }
 {
-    or_empty(route.index().ip(RTA_DST))
+    ip_of(route, RTA_DST)
 }
 
 /// Returns the address of the source; empty if there is none.
 pub fn source_of<'a>(route: &MessageIndex<'a, Routes>) -> &'a [u8]
     ensures { result.now ≡ route_bytes route.now.message.payload.now RTA_SRC }
 {
-    or_empty(route.index().ip(RTA_SRC))
+    ip_of(route, RTA_SRC)
 }
 
 /// Appends the new labels of a route of MPLS.
@@ -250,6 +255,23 @@ pub fn new_labels_of<'a>(route: &MessageIndex<'a, Routes>) -> &'a [u8]
     or_empty(route.index().bytes(RTA_NEWDST))
 }
 
+/// Appends the encapsulation, if there is one.
+#[tactic(auto, unfolding(crate::specs::Encap::encap_part, netlink_words::specs::Parts::with_part))]
+fn push_own_encap(
+    alloc: Global,
+    text: &mut String,
+    route: &MessageIndex<'_, Routes>,
+) -> Result<(), AllocError>
+    ensures { OnOk result (AddsPart text.old text.new
+        (encap_part (route_number route.now.message.payload.now RTA_ENCAP_TYPE) (first_at 12 route.now.message.payload.now RTA_ENCAP))) }
+{
+    let index = route.index();
+    match index.u16(RTA_ENCAP_TYPE) {
+        None => Ok(()),
+        Some(kind) => push_encap(alloc, text, kind, &index.view),
+    }
+}
+
 /// Appends the gateway and the link.
 #[tactic(auto, unfolding(crate::specs::Route::route_next))]
 fn push_link(
@@ -261,14 +283,14 @@ fn push_link(
     ensures { OnOk result (AddsParts text.old text.new (route_next known.now route.now.message.payload.now)) }
 {
     push_next(alloc, text, gateway_of(route), via_of(route))?;
-    push_device(text, known, "dev", route.index().u32(RTA_OIF))
+    push_device(text, known, "dev", u32_of(route, RTA_OIF))
 }
 
 /// Returns the gateway; empty if there is none.
 fn gateway_of<'a>(route: &MessageIndex<'a, Routes>) -> &'a [u8]
     ensures { result.now ≡ route_bytes route.now.message.payload.now RTA_GATEWAY }
 {
-    or_empty(route.index().ip(RTA_GATEWAY))
+    ip_of(route, RTA_GATEWAY)
 }
 
 /// Returns the gateway of another family; empty if there is none.
@@ -294,7 +316,7 @@ fn push_origin(
     push_installer(text, own, route.header().u8(RTM_PROTOCOL))?;
     push_other_scope(text, own, route.header().u8(RTM_SCOPE))?;
     push_address(alloc, text, "src", preferred_of(route))?;
-    push_number(text, "metric", route.index().u32(RTA_PRIORITY))?;
+    push_number(text, "metric", u32_of(route, RTA_PRIORITY))?;
     push_hop_flags(alloc, text, route.header().u32(RTM_FLAGS))
 }
 
@@ -309,7 +331,7 @@ pub fn is_own(route: &MessageIndex<'_, Routes>) -> bool
 pub fn table_of(route: &MessageIndex<'_, Routes>) -> u32
     ensures { result ≡ route_table route.now.message.payload.now }
 {
-    match route.index().u32(RTA_TABLE) {
+    match u32_of(route, RTA_TABLE) {
         Some(table) => table,
         None => route.header().u8(RTM_TABLE) as u32,
     }
@@ -355,7 +377,7 @@ fn push_other_scope(text: &mut String, own: bool, scope: u8) -> Result<(), Alloc
 fn preferred_of<'a>(route: &MessageIndex<'a, Routes>) -> &'a [u8]
     ensures { result.now ≡ route_bytes route.now.message.payload.now RTA_PREFSRC }
 {
-    or_empty(route.index().ip(RTA_PREFSRC))
+    ip_of(route, RTA_PREFSRC)
 }
 
 /// Appends what follows the flags.
@@ -383,9 +405,9 @@ fn push_kept(
 ) -> Result<(), AllocError>
     ensures { OnOk result (AddsParts text.old text.new (kept_parts route.now.message.payload.now)) }
 {
-    push_mark(alloc, text, route.index().u32(RTA_MARK))?;
-    push_realms(alloc, text, "realm", "realms", route.index().u32(RTA_FLOW))?;
-    push_number(text, "uid", route.index().u32(RTA_UID))?;
+    push_mark(alloc, text, u32_of(route, RTA_MARK))?;
+    push_realms(alloc, text, "realm", "realms", u32_of(route, RTA_FLOW))?;
+    push_number(text, "uid", u32_of(route, RTA_UID))?;
     push_cache(
         alloc,
         text,
@@ -405,7 +427,7 @@ fn push_last(
     ensures { OnOk result (AddsParts text.old text.new (last_parts known.now route.now.message.payload.now)) }
 {
     push_metrics(alloc, text, route)?;
-    push_device(text, known, "iif", route.index().u32(RTA_IIF))?;
-    push_preference_part(alloc, text, route.index().u8(RTA_PREF))?;
-    push_propagation(text, route.index().u8(RTA_TTL_PROPAGATE))
+    push_device(text, known, "iif", u32_of(route, RTA_IIF))?;
+    push_preference_part(alloc, text, u8_of(route, RTA_PREF))?;
+    push_propagation(text, u8_of(route, RTA_TTL_PROPAGATE))
 }

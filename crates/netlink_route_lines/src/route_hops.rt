@@ -2,15 +2,18 @@
 
 ghost use Rattle.std.specs.Prelude.{◌≡◌, IfOk, OnOk, drop, length, slice_index, string_bytes, take};
 ghost use Rattle.std.specs.List.{fold};
+ghost use Rattle.std.specs.Option.{option_map};
 ghost use Rattle.netlink_family.specs.Finding.{first_at, found_in};
 ghost use Rattle.netlink_family.specs.Listing.{listed};
 ghost use Rattle.netlink_family.specs.Values.{value_bytes};
-ghost use Rattle.netlink_route.specs.declared.routes.TheConstants.{RTA_GATEWAY, RTA_MULTIPATH, RTA_NEWDST, RTA_VIA};
+ghost use Rattle.netlink_packet_core.specs.Numbers.{number_le};
+ghost use Rattle.netlink_route.specs.declared.routes.TheConstants.{RTA_ENCAP, RTA_ENCAP_TYPE, RTA_GATEWAY, RTA_MULTIPATH, RTA_NEWDST, RTA_VIA};
 ghost use Rattle.netlink_words.specs.Parts.{AddsPart, AddsParts, or_empty};
-ghost use Rattle.netlink_words.specs.Parts.{AddsPart, AddsParts};
+ghost use Rattle.netlink_route_lines.specs.Encap.{encap_part};
 ghost use Rattle.netlink_route_lines.specs.Mpls.{new_labels};
 ghost use Rattle.netlink_route_lines.specs.RouteHops.{IsHop, IsHops, IsOfHop, hop_parts, hops_text, next_parts, via_address, via_part, weight_part, with_hop};
 
+use crate::encap::push_encap;
 use crate::mpls::{AF_MPLS, push_new_labels};
 use crate::route_flags::push_hop_flags;
 use netlink_family::{BlockView, MessageIndex, Table, Value};
@@ -19,7 +22,7 @@ use netlink_names::name_table::Names;
 use netlink_packet_core::parse_u32;
 use netlink_route::Routes;
 use netlink_route::routes::{
-    RTA_FLOW, RTA_GATEWAY, RTA_MULTIPATH, RTA_NEWDST, RTA_VIA, RTM_FAMILY,
+    RTA_ENCAP_TYPE, RTA_FLOW, RTA_GATEWAY, RTA_MULTIPATH, RTA_NEWDST, RTA_VIA, RTM_FAMILY,
 };
 use netlink_words::number_names::family_text;
 use netlink_words::parts::{or_empty, push_address, push_number, push_part, push_realms};
@@ -102,6 +105,7 @@ fn push_hop_parts(
         (AddsParts text.old text.new (hop_parts known.now family word header.now attributes.now.block.now)) }
 {
     push_part(text, "nexthop")?;
+    push_hop_encap(alloc, text, attributes)?;
     push_hop_labels(alloc, text, family, attributes)?;
     push_next(alloc, text, gateway_of(attributes), via_of(attributes))?;
     push_realms(alloc, text, "realm", "realms", attributes.u32(RTA_FLOW))?;
@@ -119,6 +123,23 @@ fn push_weight(text: &mut String, family: u8, word: u16) -> Result<(), AllocErro
         return Ok(());
     }
     push_number(text, "weight", Some((word / 256) as u32 + 1))
+}
+
+/// Appends the encapsulation of a next hop, if there is one.
+#[tactic(auto, unfolding(crate::specs::Encap::encap_part, netlink_words::specs::Parts::with_part))]
+fn push_hop_encap(
+    alloc: Global,
+    text: &mut String,
+    attributes: &BlockView<'_>,
+) -> Result<(), AllocError>
+    requires { IsOfHop (⟦<Routes as Table>⟧.rows 24) attributes.now }
+    ensures { OnOk result (AddsPart text.old text.new
+        (encap_part (option_map number_le (found_in attributes.now.block.now RTA_ENCAP_TYPE)) (found_in attributes.now.block.now RTA_ENCAP))) }
+{
+    match attributes.u16(RTA_ENCAP_TYPE) {
+        None => Ok(()),
+        Some(kind) => push_encap(alloc, text, kind, attributes),
+    }
 }
 
 /// Appends the new labels of a next hop of a route of MPLS.

@@ -1,9 +1,11 @@
 //! Messages as the kernel sends them, and invalid ones. The bytes are written by hand from
 //! linux/netlink.h, rtnetlink.h, if_link.h, if_addr.h, neighbour.h, fib_rules.h and
-//! net_namespace.h, or are in `examples/captured`.
+//! net_namespace.h, are in `examples/captured`, or are requests of `ip`.
 
 mod calls;
 mod captured;
+mod encapsulation_samples;
+mod encapsulations;
 mod errors;
 mod getters;
 mod growth;

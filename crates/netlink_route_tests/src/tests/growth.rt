@@ -61,6 +61,33 @@ fn viewed_size(frame: &[u8]) -> usize {
     }
 }
 
+/// Writes how many attributes an iteration over the message on standard input yields, outside any nest.
+#[test]
+fn attributes_of_standard_input_are_iterated(rt: HostRuntime) -> Result<(), Fail> {
+    let alloc = rt.alloc();
+    let mut bytes = Vec::new(alloc);
+    rt.reader().read_to_end(&mut bytes)?;
+    let count = own_count(&bytes);
+    io::writer(&rt).write_all(format!(in alloc; "{count}\n")?.as_bytes())?;
+    Ok(())
+}
+
+/// Returns how many attributes an iteration over a frame yields.
+fn own_count(frame: &[u8]) -> u32 {
+    let mut count = 0u32;
+    let Ok(frame) = NetlinkBuffer::new_checked(frame) else {
+        return count;
+    };
+    let view = MessageView::<Joined<RouteTables>>::new(frame.message_type(), frame.payload());
+    let Ok(view) = view else {
+        return count;
+    };
+    for _ in view.view().attributes() {
+        count = count.wrapping_add(1);
+    }
+    count
+}
+
 /// Writes how many attributes an iteration over the nest `IFLA_LINKINFO` of the message on standard
 /// input yields.
 #[test]

@@ -1,0 +1,102 @@
+-- The encapsulation of a route and of a next hop (linux/lwtunnel.h, linux/mpls_iptunnel.h).
+use Rattle.std.specs.Prelude.{ℕ, ◌==◌, ◌≡◌, ◌||◌, Bool, not, List, [], ◌∷◌, ◌++◌, slice_index, Option, Some, None, codes, if◌then◌else◌}
+use Rattle.std.specs.Int.Bits.{bit_and}
+use Rattle.std.specs.Option.{option_map}
+use Rattle.netlink_family.specs.Finding.{found_in, shape_at}
+use Rattle.netlink_family.specs.Shapes.{Row, rows_in}
+use Rattle.netlink_family.specs.declared.block_view.BlockView.{BlockView}
+use Rattle.netlink_family.specs.declared.shape.Shape.TheVariants.{Be16, Be64, U8}
+use Rattle.netlink_packet_core.specs.Numbers.{number_be}
+use Rattle.netlink_route.specs.declared.encapsulations.TheConstants.{IP, IP6, LWTUNNEL_IP_DST, LWTUNNEL_IP_FLAGS, LWTUNNEL_IP_ID, LWTUNNEL_IP_SRC, LWTUNNEL_IP_TOS, LWTUNNEL_IP_TTL, MPLS, MPLS_IPTUNNEL_DST, MPLS_IPTUNNEL_TTL}
+use Rattle.netlink_words.specs.Parts.{keyed, number_part, or_empty, when, with_parts}
+use Rattle.netlink_words.specs.Text.{ip_words}
+use Rattle.netlink_route_lines.specs.Mpls.{labels_text}
+
+-- LWTUNNEL_ENCAP_* of linux/lwtunnel.h
+unfoldable pub encap_name : ℕ → List ℕ
+encap_name n =
+    if n == 1 then codes "mpls"
+    else if n == 2 then codes "ip"
+    else if n == 3 then codes "ila"
+    else if n == 4 then codes "ip6"
+    else if n == 5 then codes "seg6"
+    else if n == 6 then codes "bpf"
+    else if n == 7 then codes "seg6local"
+    else if n == 8 then codes "rpl"
+    else if n == 9 then codes "ioam6"
+    else if n == 10 then codes "xfrm"
+    else codes "unknown"
+
+-- the first attribute of a kind, as bytes and as a number of one byte
+abbrev pub value_of : List ℕ → ℕ → List ℕ
+value_of block kind = or_empty (found_in block kind)
+
+abbrev pub byte_of : List ℕ → ℕ → Option ℕ
+byte_of block kind = option_map (λ value. slice_index value 0) (found_in block kind)
+
+-- the labels of MPLS and the time to live
+unfoldable pub mpls_parts : List ℕ → List (List ℕ)
+mpls_parts block =
+    labels_text (value_of block MPLS_IPTUNNEL_DST) ∷ number_part (codes "ttl") (byte_of block MPLS_IPTUNNEL_TTL) ∷ []
+
+-- the id of a tunnel, its source and its destination; a tunnel of IPv6 has the kinds of one of IPv4
+unfoldable pub tunnel_ends : List ℕ → List (List ℕ)
+tunnel_ends block =
+    number_part (codes "id") (option_map number_be (found_in block LWTUNNEL_IP_ID))
+    ∷ keyed (codes "src") (ip_words (value_of block LWTUNNEL_IP_SRC))
+    ∷ keyed (codes "dst") (ip_words (value_of block LWTUNNEL_IP_DST)) ∷ []
+
+-- the flags of a tunnel
+unfoldable pub tunnel_flags : Option ℕ → List (List ℕ)
+tunnel_flags None = []
+tunnel_flags (Some flags) =
+    when (not (bit_and flags 0x4 == 0)) (codes "key")
+    ∷ when (not (bit_and flags 0x1 == 0)) (codes "csum")
+    ∷ when (not (bit_and flags 0x8 == 0)) (codes "seq") ∷ []
+
+-- the hop limit of a tunnel and its type of service, each with its key, and the flags
+unfoldable pub tunnel_rest : List ℕ → List ℕ → List ℕ → List (List ℕ)
+tunnel_rest limit service block =
+    number_part limit (byte_of block LWTUNNEL_IP_TTL)
+    ∷ number_part service (byte_of block LWTUNNEL_IP_TOS)
+    ∷ tunnel_flags (option_map number_be (found_in block LWTUNNEL_IP_FLAGS))
+
+-- a type with values here: MPLS, IPv4 or IPv6
+abbrev pub has_values : ℕ → Bool
+has_values kind = kind == 1 || kind == 2 || kind == 4
+
+-- what belongs to a type; nothing for other types
+unfoldable pub encap_values : ℕ → List ℕ → List (List ℕ)
+encap_values kind block =
+    if kind == 1 then mpls_parts block
+    else if kind == 2 then tunnel_ends block ++ tunnel_rest (codes "ttl") (codes "tos") block
+    else if kind == 4 then tunnel_ends block ++ tunnel_rest (codes "hoplimit") (codes "tc") block
+    else []
+
+-- the same for a value that may be missing
+unfoldable pub found_values : ℕ → Option (List ℕ) → List (List ℕ)
+found_values kind None = []
+found_values kind (Some block) = encap_values kind block
+
+-- the name of the type and what belongs to it, if there are both a type and a value
+unfoldable pub encap_part : Option ℕ → Option (List ℕ) → List ℕ
+encap_part None value = []
+encap_part (Some kind) None = []
+encap_part (Some kind) (Some block) = with_parts (codes "encap " ++ encap_name kind) (encap_values kind block)
+
+-- the policy of the values of a type, by the table of routes
+abbrev pub policy_of : ℕ → Option ℕ
+policy_of kind = if kind == 1 then Some MPLS else if kind == 2 then Some IP else if kind == 4 then Some IP6 else None
+
+-- a view of the values of a type, by the rows of that table
+abbrev pub IsEncap : List Row → ℕ → BlockView → Type 0
+IsEncap rows kind view = (rows_in view.rows.list.now ≡ rows) × (policy_of kind ≡ Some view.policy)
+
+-- a view of values of MPLS, and of those of a tunnel
+abbrev pub IsMpls : BlockView → Type 0
+IsMpls view = shape_at view MPLS_IPTUNNEL_TTL ≡ U8
+
+abbrev pub IsTunnel : BlockView → Type 0
+IsTunnel view =
+    (shape_at view LWTUNNEL_IP_ID ≡ Be64) × (shape_at view LWTUNNEL_IP_TTL ≡ U8) × (shape_at view LWTUNNEL_IP_TOS ≡ U8)
+    × (shape_at view LWTUNNEL_IP_FLAGS ≡ Be16)
