@@ -14,6 +14,7 @@ CAPTURED = os.path.join(TOP, "examples", "captured")
 # The name of the shape of a form, if it has another one.
 NAMES = {"S32": "i32", "S64": "i64", "STRING": "str", "ADDRESS": "ip", "LEAST": "min", "HEADER": "header nest"}
 INFO, INFO_KIND, INFO_DATA = 1, 1, 2  # the policy of IFLA_LINKINFO; IFLA_INFO_KIND, IFLA_INFO_DATA
+ENCAP_TYPE, ENCAP = 21, 22  # RTA_ENCAP_TYPE, RTA_ENCAP, of policy 0
 ANY_KIND = 0xFFFF
 LINES_AT_LEAST = 20000
 
@@ -35,6 +36,7 @@ class Family:
         found = [*tables().rows_of(kinds, 0)]
         self.rows = {it[:2]: it[2:] for it in found if len(it) == 5}
         self.links = dict(it for it in found if len(it) == 2)
+        self.encapsulations = {it[1]: it[2] for it in found if it[0] == "&"}
 
     def row(self, policy, kind, block):
         """Returns the row of a kind in a block."""
@@ -43,6 +45,10 @@ class Family:
             name = first.partition(b"\0")[0].decode()
             if name in self.links:
                 return "FORM_NEST", 0, self.links[name]
+        if self.encapsulations and (policy, kind) == (0, ENCAP):
+            first = next((value for it, value in attributes(block) if it & 0x3FFF == ENCAP_TYPE), b"")
+            if len(first) == 2 and (chosen := self.encapsulations.get(int.from_bytes(first, "little"))):
+                return "FORM_NEST", 0, chosen
         return self.rows.get((policy, kind)) or self.rows.get((policy, ANY_KIND)) or ("FORM_BYTES", 0, 0)
 
     def lines(self, policy, block):

@@ -185,6 +185,7 @@ enum {
     NLP_SHAPE_CHOSEN = 18,        /* of the table alone: the functions write the shape that was chosen instead */
     NLP_SHAPE_BE_I32 = 19,        /* a signed integer of 4 bytes in big-endian byte order */
     NLP_SHAPE_ELEMENTS = 20,      /* elements of `size` bytes, one after another */
+    NLP_SHAPE_CHOSEN_BY_NUMBER = 21, /* like NLP_SHAPE_CHOSEN */
     NLP_SHAPE_ANY = 0xffff        /* of nlp_view_check: any shape */
 };
 
@@ -196,12 +197,14 @@ struct nlp_shape {
 };
 
 /* Writes the shape of a kind among the attributes of a view; flag bits are ignored. The first IFLA_INFO_KIND chooses the
- * shape of IFLA_INFO_DATA. NLP_OK; or NLP_NO_PLACE if the view is not inside the payload.
+ * shape of IFLA_INFO_DATA, and the first RTA_ENCAP_TYPE that of RTA_ENCAP. NLP_OK; or NLP_NO_PLACE if the view is not inside
+ * the payload.
  * Proved: which of the two, and the shape; NLP_NO_PLACE leaves it unchanged. */
 uint32_t nlp_view_shape(const uint8_t *payload, size_t len, const struct nlp_view *view, uint16_t kind,
                         struct nlp_shape *shape) NLP_NONNULL(3, 5);
 
-/* A shape that an attribute chose, if `kept` is 1. */
+/* A shape that an attribute chose: by a string if `kept` is 1, by a number if it is 2. Any other value means that no shape is
+ * kept. */
 struct nlp_kept_shape {
     uint16_t kept;
     uint16_t by;
@@ -288,7 +291,7 @@ static inline const char *nlp_shape_name(uint16_t shape)
 {
     static const char *const names[] = { "bytes", "u8", "u16", "u32", "i32", "u64", "i64", "be16", "be32", "be64",
                                          "flag", "ip", "nul_str", "str", "exact", "min", "nest", "header nest",
-                                         "chosen", "be_i32", "elements" };
+                                         "chosen", "be_i32", "elements", "chosen by number" };
     return shape < sizeof names / sizeof names[0] ? names[shape] : "any";
 }
 

@@ -18,6 +18,10 @@
  *         fprintf(stderr, "%.*s\n", (int)size, (const char *)text);
  *
  * All functions here are plain C over the proved ones, and only tested. Once a call fails, those after it do nothing.
+ *
+ * Put an attribute that chooses a shape before the one whose shape it chooses. In the other order, the value is checked as
+ * bytes. In a nest, nlp_route_nest_end then rejects a value that the later attribute makes malformed. Nothing does so among
+ * the attributes of the message itself, such as NLP_RTA_ENCAP_TYPE after NLP_RTA_ENCAP.
  */
 #ifndef NETLINK_PACKET_ROUTE_WRITE_H
 #define NETLINK_PACKET_ROUTE_WRITE_H

@@ -27,7 +27,7 @@ Walk = struct("Walk", ("at", c_size_t), ("last", Kept), ("before", Kept))
 Found = struct("Found", ("kind", c_uint16), ("shape", Shape), ("value", Part), ("nest", Place))
 # The names of the shapes by their numbers.
 SHAPES = ["bytes", "u8", "u16", "u32", "i32", "u64", "i64", "be16", "be32", "be64", "flag", "ip", "nul_str", "str", "exact", "min"]
-SHAPES += ["nest", "header nest", "chosen", "be_i32", "elements"]
+SHAPES += ["nest", "header nest", "chosen", "be_i32", "elements", "chosen by number"]
 
 PAYLOAD = (c_char_p, c_size_t)
 NUMBERS = {"u8": c_uint8, "u16": c_uint16, "u32": c_uint32, "u64": c_uint64, "i32": c_int32, "i64": c_int64}

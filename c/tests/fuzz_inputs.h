@@ -197,6 +197,8 @@ static void add_value(struct draft_input *draft, const struct model_row *row, ui
             add_number(draft, 1, left == 1 && below(2) == 0 ? 0 : 'a' + below(26));
     else if (row->form == FORM_ADDRESS)
         add_any(draft, below(2) == 0 ? 4 : 16);
+    else if (row->form == FORM_ELEMENTS)
+        add_any(draft, row->size * below(4) + (below(8) == 0));
     else if (row->form == FORM_BYTES)
         add_any(draft, below(3) == 0 ? 6 : below(10));
     else
@@ -234,12 +236,31 @@ static void add_link(struct draft_input *draft, uint32_t depth)
         add_row(draft, &data, depth);
 }
 
+/* Adds the type of an encapsulation and, before it or after it, the encapsulation. */
+static void add_encapsulation(struct draft_input *draft, uint32_t depth)
+{
+    const struct model_encapsulation *chosen = &model_encapsulations[below(ENCAPSULATIONS)];
+    const struct model_row data = { ROUTES, 0, NLP_RTA_ENCAP, FORM_NEST, 0, chosen->policy };
+    const size_t start = draft->size;
+    const uint32_t order = below(4);
+    if (order == 0)
+        add_row(draft, &data, depth);
+    add_padding(draft, start);
+    add_number(draft, 4, 6 | (uint32_t)NLP_RTA_ENCAP_TYPE << 16);
+    add_number(draft, 2, chosen->type);
+    add_padding(draft, start);
+    if (order > 1)
+        add_row(draft, &data, depth);
+}
+
 /* Adds attributes of rows of a policy. */
 static void add_rows(struct draft_input *draft, uint32_t family, uint16_t policy, uint32_t depth)
 {
     const size_t start = draft->size;
     if (family == 0 && policy == 1 && below(8) != 0)
         add_link(draft, depth);
+    if (family == ROUTES && policy == 0 && draft->size < 350 && below(2) != 0)
+        add_encapsulation(draft, depth);
     for (uint32_t left = below(depth == 0 ? 7 : 4); left > 0 && draft->size < 350; left--) {
         uint32_t count = 0, chosen = 0;
         for (uint32_t i = 0; i < ROWS; i++)

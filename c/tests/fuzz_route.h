@@ -98,6 +98,12 @@ static void get_nest(const struct input *in, struct nlp_view *view, uint16_t kin
         *view = *inner;
 }
 
+/* Returns whether a policy has the kinds of links or the encapsulations, among which others choose. */
+static bool is_choice(const struct nlp_view *view, uint16_t policy)
+{
+    return family_of(view->message_type) == ROUTES ? policy == 3 : policy == 4;
+}
+
 /* Returns a view of the payload, or one that was changed, or of one of its nests. */
 static struct nlp_view *chosen_view(const struct input *in)
 {
@@ -111,7 +117,7 @@ static struct nlp_view *chosen_view(const struct input *in)
     if (in->args[7] % 16 == 1)
         found.attributes.size = near(in->args[8], in->len);
     if (in->args[7] % 16 == 2)
-        found.policy = in->args[8] == 4 ? 5 : in->args[8]; /* policy 4 has the kinds of links, which no view has */
+        found.policy = is_choice(&found, in->args[8]) ? 5 : in->args[8]; /* no view has such a policy */
     if (in->args[7] % 16 == 3)
         found.header = (struct nlp_part){ near(in->args[8], in->len), in->args[4] % 32 };
     if (in->args[7] % 16 == 4)
@@ -201,21 +207,27 @@ static void shape_of_kind(const struct input *in)
     CHECK(same_shape(shape, &expected) && same_view(view, &before));
 }
 
-/* Returns whether a shape that is kept is the one of IFLA_INFO_DATA, which is chosen from the policy 4. */
+/* Returns whether a shape that is kept is the one of IFLA_INFO_DATA, which a name chooses from the policy 4, or that of
+ * RTA_ENCAP, which a number chooses from the policy 3. */
 static bool is_chosen(const struct input *in, const struct nlp_view *view, const struct nlp_kept_shape *kept)
 {
+    const bool is_route = family_of(view->message_type) == ROUTES;
     struct nlp_view info = *view;
     struct nlp_shape shape = { 0, 0, 0 };
-    info.policy = 1;
-    model_shape(in->bytes, in->len, &info, NLP_IFLA_INFO_DATA, &shape);
-    return kept->kept != 1 || (kept->by == NLP_IFLA_INFO_KIND && kept->policy == 4 && same_shape(&kept->shape, &shape));
+    info.policy = is_route ? 0 : 1;
+    model_shape(in->bytes, in->len, &info, is_route ? NLP_RTA_ENCAP : NLP_IFLA_INFO_DATA, &shape);
+    if (kept->kept != (is_route ? 2 : 1))
+        return true;
+    return kept->by == (is_route ? NLP_RTA_ENCAP_TYPE : NLP_IFLA_INFO_KIND) && kept->policy == (is_route ? 3 : 4)
+        && same_shape(&kept->shape, &shape);
 }
 
 /* Walks a view from its start or from anywhere, with nothing kept. */
 static void walk_view(const struct input *in)
 {
     static const struct nlp_item no_item = { 67, { 66, 65, 64 }, { 63, 62 }, { 61, 60, 59, { 58, 57 }, { 56, 55 } } };
-    static const struct nlp_kept_shape none[2] = { { 0, 0, 0, { 0, 0, 0 } }, { 2, NLP_IFLA_INFO_KIND, 4, { 1, 2, 3 } } };
+    static const struct nlp_kept_shape none[3] = { { 0, 0, 0, { 0, 0, 0 } }, { 3, NLP_IFLA_INFO_KIND, 4, { 1, 2, 3 } },
+                                                   { 3, NLP_RTA_ENCAP_TYPE, 3, { 1, 2, 3 } } };
     struct nlp_view *view = chosen_view(in);
     const struct nlp_view before = *view;
     struct nlp_view_walk *walk = place(EXTRA, sizeof *walk), old;
@@ -223,7 +235,7 @@ static void walk_view(const struct input *in)
     const size_t size = view->attributes.size;
     size_t at = in->args[9] % 4 == 0 ? near(in->args[10], size < in->len ? size : in->len) : 0;
     uint32_t result;
-    *walk = (struct nlp_view_walk){ at, none[in->args[9] / 4 % 2], none[in->args[9] / 8 % 2] };
+    *walk = (struct nlp_view_walk){ at, none[in->args[9] / 4 % 3], none[in->args[9] / 12 % 3] };
     do {
         expected = *item = no_item;
         old = *walk;

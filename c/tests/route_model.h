@@ -9,12 +9,13 @@
 #include <stdio.h>
 
 /* The forms of values, as tests/kinds.txt names them. */
-enum form { FORM_U8, FORM_U16, FORM_U32, FORM_U64, FORM_S32, FORM_S64, FORM_BE16, FORM_BE32, FORM_BE64, FORM_FLAG, FORM_STRING, FORM_ADDRESS, FORM_BYTES, FORM_EXACT, FORM_LEAST, FORM_NEST, FORM_HEADER };
+enum form { FORM_U8, FORM_U16, FORM_U32, FORM_U64, FORM_S32, FORM_S64, FORM_BE16, FORM_BE32, FORM_BE64, FORM_FLAG, FORM_STRING, FORM_ADDRESS, FORM_BYTES, FORM_EXACT, FORM_LEAST, FORM_ELEMENTS, FORM_NEST, FORM_HEADER };
 
 #include "route_rows.h"
 
 enum { FAMILIES = sizeof model_families / sizeof model_families[0], ROWS = sizeof model_rows / sizeof model_rows[0],
-       LINKS = sizeof model_links / sizeof model_links[0], NESTS = 8 };
+       LINKS = sizeof model_links / sizeof model_links[0],
+       ENCAPSULATIONS = sizeof model_encapsulations / sizeof model_encapsulations[0], ROUTES = 2, NESTS = 8 };
 
 static const size_t form_sizes[] = { 1, 2, 4, 8, 4, 8, 2, 4, 8, 0 };
 
@@ -52,11 +53,27 @@ static inline bool first_of(const uint8_t *block, size_t len, uint16_t kind, str
     return false;
 }
 
+/* Returns the row of RTA_ENCAP in a block of a route, by its own one. The first RTA_ENCAP_TYPE chooses what it is. */
+static inline struct model_row encapsulation_in(const uint8_t *block, size_t len, struct model_row row)
+{
+    struct nlp_attr chooser;
+    if (!first_of(block, len, NLP_RTA_ENCAP_TYPE, &chooser) || chooser.size != 2)
+        return row;
+    for (size_t i = 0; i < ENCAPSULATIONS; i++)
+        if (model_encapsulations[i].type == number(block + chooser.offset, 2, false)) {
+            row.form = FORM_NEST;
+            row.inner = model_encapsulations[i].policy;
+        }
+    return row;
+}
+
 /* Returns the row of a kind in a block. The first IFLA_INFO_KIND chooses what IFLA_INFO_DATA is. */
 static inline struct model_row row_in(int family, uint16_t policy, const uint8_t *block, size_t len, uint16_t kind)
 {
     struct model_row row = row_of(family, policy, kind & NLP_KIND_MASK);
     struct nlp_attr chooser;
+    if (family == ROUTES && policy == 0 && row.kind == NLP_RTA_ENCAP)
+        return encapsulation_in(block, len, row);
     if (family != 0 || policy != 1 || row.kind != NLP_IFLA_INFO_DATA || !first_of(block, len, NLP_IFLA_INFO_KIND, &chooser))
         return row;
     const uint8_t *name = block + chooser.offset, *end = memchr(name, 0, chooser.size);
@@ -75,6 +92,7 @@ static inline bool has_form(const struct model_row *row, const uint8_t *value, s
         return size == form_sizes[row->form];
     return row->form == FORM_STRING ? size == 0 || memchr(value, 0, size - 1) == NULL
         : row->form == FORM_ADDRESS ? size == 4 || size == 16 : row->form == FORM_EXACT ? size == row->size
+        : row->form == FORM_ELEMENTS ? size % row->size == 0
         : row->form == FORM_LEAST || row->form == FORM_HEADER ? size >= row->size : true;
 }
 
@@ -89,6 +107,8 @@ static inline struct nlp_route_error form_error(const struct model_row *row, uin
         error = (struct nlp_route_error){ NLP_ADDRESS_SIZE, kind, policy, offset, 0, size };
     if (row->form == FORM_LEAST || row->form == FORM_HEADER)
         error.reason = NLP_VALUE_SHORT;
+    if (row->form == FORM_ELEMENTS)
+        error.reason = NLP_NO_MULTIPLE;
     return error;
 }
 
@@ -186,7 +206,7 @@ static inline struct nlp_shape shape_by(const struct model_row *row)
     static const uint8_t shapes[] = {
         NLP_SHAPE_U8, NLP_SHAPE_U16, NLP_SHAPE_U32, NLP_SHAPE_U64, NLP_SHAPE_I32, NLP_SHAPE_I64, NLP_SHAPE_BE16, NLP_SHAPE_BE32,
         NLP_SHAPE_BE64, NLP_SHAPE_FLAG, NLP_SHAPE_STR, NLP_SHAPE_IP, NLP_SHAPE_BYTES, NLP_SHAPE_EXACT_LEN, NLP_SHAPE_MIN_LEN,
-        NLP_SHAPE_NESTED, NLP_SHAPE_HEADER_NESTED
+        NLP_SHAPE_ELEMENTS, NLP_SHAPE_NESTED, NLP_SHAPE_HEADER_NESTED
     };
     return (struct nlp_shape){ shapes[row->form], row->size, row->inner };
 }

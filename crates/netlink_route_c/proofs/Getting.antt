@@ -6,7 +6,7 @@ use Rattle.netlink_family.specs.Finding.{nest_by, policy_by, str_by}
 use Rattle.netlink_family.specs.Shapes.{has_shape, nest_block, nest_of, nest_start}
 use Rattle.netlink_family.specs.declared.family.Table.{Ghosts}
 use Rattle.netlink_family.specs.declared.shape.Shape.{Shape}
-use Rattle.netlink_family.specs.declared.shape.Shape.TheVariants.{Flag, U8, U16, U32, U64, I32, I64, Be16, Be32, Be64, BeI32, ExactLen, Ip, NulStr, Str, MinLen, Elements, Nested, HeaderNested, Chosen, Bytes}
+use Rattle.netlink_family.specs.declared.shape.Shape.TheVariants.{Flag, U8, U16, U32, U64, I32, I64, Be16, Be32, Be64, BeI32, ExactLen, Ip, NulStr, Str, MinLen, Elements, Nested, HeaderNested, Chosen, ChosenByNumber, Bytes}
 use Rattle.netlink_route_c.proofs.Places.{nest_part, part_size, part_taken}
 use Rattle.netlink_route_c.proofs.Shaped.{nest_is_view}
 use Rattle.netlink_route_c.specs.Gets.{GetsNest, GetsPart, found_result, get_result, nest_view}
@@ -71,6 +71,7 @@ nest_here Str policy value is = absurd (cc)
 nest_here (MinLen size) policy value is = absurd (cc)
 nest_here (Elements size) policy value is = absurd (cc)
 nest_here (Chosen by p) policy value is = absurd (cc)
+nest_here (ChosenByNumber by p) policy value is = absurd (cc)
 nest_here Bytes policy value is = absurd (cc)
 
 -- a value that has its shape has the header of its nest
@@ -95,6 +96,7 @@ start_fits (MinLen size) value fits = omega arith
 start_fits (Elements size) value fits = omega arith
 start_fits (Nested p) value fits = omega arith
 start_fits (Chosen by p) value fits = omega arith
+start_fits (ChosenByNumber by p) value fits = omega arith
 start_fits Bytes value fits = omega arith
 
 policy_here : (shape : Shape) (policy : ℕ) → nest_of shape ≡ Some policy → policy_by shape ≡ policy

@@ -5,9 +5,8 @@ use Rattle.std.proofs.lemmas.List.{drop-drop}
 use Rattle.std.specs.List.{list_all}
 use Rattle.std.specs.Prelude.{slice_range}
 use Rattle.netlink_family.specs.IterationLaws.{shaped_good}
-use Rattle.netlink_family.specs.Listing.{first_of}
 use Rattle.netlink_family.specs.NestLaws.{kind_has, nest_shaped}
-use Rattle.netlink_family.specs.Shapes.{Row, Scope, all_shaped, by_nest, choice_by, fits_in, has_shape, is_block_shaped, nest_levels, nest_of, nest_start, shape_among, within}
+use Rattle.netlink_family.specs.Shapes.{Row, Scope, all_shaped, by_nest, fits_in, has_shape, is_block_shaped, nest_levels, nest_of, nest_start, resolved, shape_among, within}
 use Rattle.netlink_family.specs.declared.family.Table.{Ghosts}
 use Rattle.netlink_family.specs.declared.shape.Shape.{Shape}
 use Rattle.netlink_packet_core.specs.Attribute.{Attribute}
@@ -25,7 +24,7 @@ use Rattle.netlink_shapes.specs.Fitting.{AreShaped, fits_at}
 use Rattle.netlink_route_c.proofs.Getting.{start_fits}
 use Rattle.netlink_route_c.proofs.Places.{inside_end, nest_part, part_again, part_size}
 use Rattle.netlink_route_c.specs.Gets.{nest_view}
-use Rattle.netlink_route_c.specs.Items.{AreKept, IsItemAt, IsKept, IsMisfit, IsTyped, IsWalkOf, empty_view, item_nest, no_walk, scope_of}
+use Rattle.netlink_route_c.specs.Items.{AreKept, IsItemAt, IsKept, IsMisfit, IsTyped, IsWalkOf, empty_view, item_nest, no_walk, row_of, scope_of}
 use Rattle.netlink_route_c.specs.ShapeNumbers.{shape_again, shape_from, shape_numbers}
 use Rattle.netlink_route_c.specs.Views.{IsViewOf, block_of, is_inside, part_of, shape_of}
 use Rattle.netlink_route_c.specs.declared.item.Item.{Item}
@@ -37,30 +36,33 @@ use Rattle.netlink_route_c.specs.declared.view.View.{View}
 -- ---- what is kept
 
 -- the shape that is kept of what a kind chose is what it chooses
-pub kept_is : (scope : Scope) (kept : KeptShape) (by policy : ℕ) (shape : Shape) → IsKept scope kept → kept.kept ≡ 1
-    → kept.by ≡ by → kept.policy ≡ policy → shape_from kept.shape ≡ Some shape
-    → shape ≡ choice_by scope.0 policy (first_of by scope.1)
-kept_is scope kept by policy shape is one same_by same_policy gives =
-    let both : Some shape ≡ Some (choice_by scope.0 kept.policy (first_of kept.by scope.1)) =
-    sym gives ∙ ap shape_from (is one) ∙ shape_again (choice_by scope.0 kept.policy (first_of kept.by scope.1)) in
-    let same : shape ≡ choice_by scope.0 kept.policy (first_of kept.by scope.1) = cc in
-    same ∙ ap (λ (p : ℕ). choice_by scope.0 p (first_of kept.by scope.1)) same_policy
-    ∙ ap (λ (k : ℕ). choice_by scope.0 policy (first_of k scope.1)) same_by
+pub kept_is : (scope : Scope) (policy : ℕ) (kept : KeptShape) (row shape : Shape) → IsKept scope policy kept
+    → row_of kept ≡ Some row → shape_from kept.shape ≡ Some shape → shape ≡ resolved scope policy row
+kept_is scope policy kept row shape is of gives =
+    let both : Some shape ≡ Some (resolved scope policy row) =
+    sym gives ∙ ap shape_from (is row of) ∙ shape_again (resolved scope policy row) in
+    cc
+
+-- what is kept for a row is what attributes choose for it
+pub kept_new : (scope : Scope) (policy : ℕ) (kept : KeptShape) (row shape : Shape) → ((other : Shape) → row_of kept ≡ Some other → other ≡ row)
+    → kept.shape ≡ shape_numbers shape → shape ≡ resolved scope policy row → IsKept scope policy kept
+kept_new scope policy kept row shape same numbers is = λ other of.
+    numbers ∙ ap shape_numbers is ∙ ap (λ (r : Shape). shape_numbers (resolved scope policy r)) (sym (same other of))
 
 -- what is kept of a view is kept of its block
 pub kept_here : {F : Type 0} (table : Ghosts F) (rows : List Row) (payload block : List ℕ) (view : View) (walk : ViewWalk)
     → rows ≡ table.rows view.message_type → block ≡ block_of payload view
-    → AreKept (scope_of table payload view) walk → AreKept (within rows block) walk
+    → AreKept (scope_of table payload view) view.policy walk → AreKept (within rows block) view.policy walk
 kept_here table rows payload block view walk by is kept =
-    subst (λ (b : List ℕ). AreKept (within rows b) walk) (sym is)
-    (subst (λ (r : List Row). AreKept (within r (block_of payload view)) walk) (sym by) kept)
+    subst (λ (b : List ℕ). AreKept (within rows b) view.policy walk) (sym is)
+    (subst (λ (r : List Row). AreKept (within r (block_of payload view)) view.policy walk) (sym by) kept)
 
 pub kept_there : {F : Type 0} (table : Ghosts F) (rows : List Row) (payload block : List ℕ) (view : View) (walk : ViewWalk)
     → rows ≡ table.rows view.message_type → block ≡ block_of payload view
-    → AreKept (within rows block) walk → AreKept (scope_of table payload view) walk
+    → AreKept (within rows block) view.policy walk → AreKept (scope_of table payload view) view.policy walk
 kept_there table rows payload block view walk by is kept =
-    subst (λ (r : List Row). AreKept (within r (block_of payload view)) walk) by
-    (subst (λ (b : List ℕ). AreKept (within rows b) walk) is kept)
+    subst (λ (r : List Row). AreKept (within r (block_of payload view)) view.policy walk) by
+    (subst (λ (b : List ℕ). AreKept (within rows b) view.policy walk) is kept)
 
 -- ---- the beginning
 
@@ -75,7 +77,7 @@ pub begins : {F : Type 0} (table : Ghosts F) (payload : List ℕ) (view : View) 
     → IsWalkOf table payload view no_walk
 begins table payload view each is = record {
   of = is;
-  kept = (λ n. absurd (omega (arith, n)), λ n. absurd (omega (arith, n)));
+  kept = (λ row n. absurd (cc), λ row n. absurd (cc));
   rest = by_found (scope_of table payload view) view.policy (block_of payload view) (attributes_in (block_of payload view))
       (IsBytes-take _ _ (IsBytes-drop view.attributes.offset payload each)) refl is.shaped;
 }
@@ -189,7 +191,7 @@ shaped_next : (scope : Scope) (policy : ℕ) (bytes : List ℕ) (a : Attribute) 
 shaped_next scope policy bytes a rest starts are = by_walk scope policy bytes a rest are.all starts are.walk are.shaped
 
 pub walk_again : {F : Type 0} (table : Ghosts F) (payload : List ℕ) (view : View) (old new : ViewWalk) (item : Item) (next : ℕ)
-    → IsItemAt payload view old.at item next → new.at ≡ next → AreKept (scope_of table payload view) new
+    → IsItemAt payload view old.at item next → new.at ≡ next → AreKept (scope_of table payload view) view.policy new
     → IsWalkOf table payload view old → IsWalkOf table payload view new
 walk_again table payload view old new item next here same kept walk = record {
   of = walk.of;
@@ -256,7 +258,7 @@ not_malformed table payload block view walk e is more malformed walks =
 pub not_misfit : {F : Type 0} (table : Ghosts F) (rows : List Row) (payload block : List ℕ) (view : View) (walk : ViewWalk) (kind next : ℕ)
     (value : List ℕ) (shape : Shape) → rows ≡ table.rows view.message_type → block ≡ block_of payload view
     → Starts (drop walk.at block) (attribute_with kind value) (drop next block)
-    → (AreKept (within rows block) walk → shape ≡ shape_among (within rows block) view.policy kind)
+    → (AreKept (within rows block) view.policy walk → shape ≡ shape_among (within rows block) view.policy kind)
     → has_shape shape value ≡ false → IsWalkOf table payload view walk → ⊥
 not_misfit table rows payload block view walk kind next value shape by is starts chosen misfit walks =
     let kept = kept_here table rows payload block view walk by is walks.kept in
@@ -271,7 +273,7 @@ not_misfit table rows payload block view walk kind next value shape by is starts
 pub misfit_is : {F : Type 0} (table : Ghosts F) (rows : List Row) (payload block : List ℕ) (view : View) (walk : ViewWalk) (kind next : ℕ)
     (value : List ℕ) (shape : Shape) → rows ≡ table.rows view.message_type → block ≡ block_of payload view
     → Starts (drop walk.at block) (attribute_with kind value) (drop next block)
-    → (AreKept (within rows block) walk → shape ≡ shape_among (within rows block) view.policy kind)
+    → (AreKept (within rows block) view.policy walk → shape ≡ shape_among (within rows block) view.policy kind)
     → has_shape shape value ≡ false → IsMisfit table payload view walk
 misfit_is table rows payload block view walk kind next value shape by is starts chosen misfit =
     inr (

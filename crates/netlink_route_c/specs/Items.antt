@@ -1,9 +1,9 @@
 -- A walk over the attributes of a view.
-use Rattle.std.specs.Prelude.{◌≡◌, ◌<◌, ◌+◌, ◌≤◌, ◌⊎◌, ℕ, List, drop, false, length, true}
-use Rattle.netlink_family.specs.Listing.{first_of}
-use Rattle.netlink_family.specs.Shapes.{Scope, by_nest, choice_by, has_shape, nest_of, within}
+use Rattle.std.specs.Prelude.{◌≡◌, ◌==◌, ◌<◌, ◌+◌, ◌≤◌, ◌⊎◌, ℕ, List, Option, None, Some, drop, false, if◌then◌else◌, length, true}
+use Rattle.netlink_family.specs.Shapes.{Scope, by_nest, has_shape, nest_of, resolved, within}
 use Rattle.netlink_family.specs.declared.family.Table.{Ghosts}
 use Rattle.netlink_family.specs.declared.shape.Shape.{Shape}
+use Rattle.netlink_family.specs.declared.shape.Shape.TheVariants.{Chosen, ChosenByNumber}
 use Rattle.netlink_packet_core.specs.Attribute.{Attribute}
 use Rattle.netlink_packet_core.specs.DecodeError.{DecodeError}
 use Rattle.netlink_packet_core.specs.Nla.{attribute_with}
@@ -22,13 +22,20 @@ use Rattle.netlink_route_c.specs.declared.view.View.{View}
 abbrev pub scope_of : {F : Type 0} → Ghosts F → List ℕ → View → Scope
 scope_of table payload view = within (table.rows view.message_type) (block_of payload view)
 
--- a shape that is kept is the one that the first attribute of the kind chooses from the policy
-abbrev pub IsKept : Scope → KeptShape → Type 0
-IsKept scope kept =
-    kept.kept ≡ 1 → kept.shape ≡ shape_numbers (choice_by scope.0 kept.policy (first_of kept.by scope.1))
+-- the shape of the row for which a shape is kept
+abbrev pub row_of : KeptShape → Option Shape
+row_of kept =
+    if kept.kept == 1 then Some (Chosen kept.by kept.policy)
+    else if kept.kept == 2 then Some (ChosenByNumber kept.by kept.policy)
+    else None
 
-abbrev pub AreKept : Scope → ViewWalk → Type 0
-AreKept scope walk = IsKept scope walk.last × IsKept scope walk.before
+-- a shape that is kept is the one that attributes of a block of this policy choose for the row
+abbrev pub IsKept : Scope → ℕ → KeptShape → Type 0
+IsKept scope policy kept =
+    (row : Shape) → row_of kept ≡ Some row → kept.shape ≡ shape_numbers (resolved scope policy row)
+
+abbrev pub AreKept : Scope → ℕ → ViewWalk → Type 0
+AreKept scope policy walk = IsKept scope policy walk.last × IsKept scope policy walk.before
 
 -- all zeros
 abbrev pub none_kept : KeptShape
@@ -41,7 +48,7 @@ no_walk = record { at = 0; last = none_kept; before = none_kept }
 -- attributes that have the shapes of the view's policy
 pub record IsWalkOf {F : Type 0} (table : Ghosts F) (payload : List ℕ) (view : View) (walk : ViewWalk) : Type 0 where
   pub of : IsViewOf table payload view
-  pub kept : AreKept (scope_of table payload view) walk
+  pub kept : AreKept (scope_of table payload view) view.policy walk
   pub rest : AreShaped (scope_of table payload view) view.policy (drop walk.at (block_of payload view))
 
 -- at offset `at` of the view's attributes is an attribute with this kind and with this part of the
@@ -78,4 +85,4 @@ abbrev pub IsMisfit : {F : Type 0} → Ghosts F → List ℕ → View → ViewWa
 IsMisfit table payload view walk =
     ((e : DecodeError) × IsFault (drop walk.at (block_of payload view)) e)
     ⊎ ((a : Attribute) × (rest : List ℕ) × Starts (drop walk.at (block_of payload view)) a rest
-    × (AreKept (scope_of table payload view) walk → has_shape (shape_of table payload view a.kind) a.value ≡ false))
+    × (AreKept (scope_of table payload view) view.policy walk → has_shape (shape_of table payload view a.kind) a.value ≡ false))

@@ -1,7 +1,7 @@
 -- The numbers of a shape, and the shape that numbers identify.
 use Rattle.std.specs.Prelude.{◌≡◌, ◌==◌, ℕ, Option, Some, None, refl, if◌then◌else◌}
 use Rattle.netlink_family.specs.declared.shape.Shape.{Shape}
-use Rattle.netlink_family.specs.declared.shape.Shape.TheVariants.{Flag, U8, U16, U32, U64, I32, I64, Be16, Be32, Be64, BeI32, ExactLen, Ip, NulStr, Str, MinLen, Elements, Nested, HeaderNested, Chosen, Bytes}
+use Rattle.netlink_family.specs.declared.shape.Shape.TheVariants.{Flag, U8, U16, U32, U64, I32, I64, Be16, Be32, Be64, BeI32, ExactLen, Ip, NulStr, Str, MinLen, Elements, Nested, HeaderNested, Chosen, ChosenByNumber, Bytes}
 use Rattle.netlink_route_c.specs.declared.shape.ShapeNumbers.{ShapeNumbers}
 
 abbrev pub shape_with : ℕ → ℕ → ℕ → ShapeNumbers
@@ -29,6 +29,7 @@ shape_numbers (HeaderNested size policy) = shape_with 17 size policy
 shape_numbers (Chosen by policy) = shape_with 18 by policy
 shape_numbers BeI32 = shape_with 19 0 0
 shape_numbers (Elements size) = shape_with 20 size 0
+shape_numbers (ChosenByNumber by policy) = shape_with 21 by policy
 
 abbrev pub shape_from : ShapeNumbers → Option Shape
 shape_from numbers =
@@ -53,6 +54,7 @@ shape_from numbers =
     else if numbers.shape == 18 then Some (Chosen numbers.size numbers.policy)
     else if numbers.shape == 19 then Some BeI32
     else if numbers.shape == 20 then Some (Elements numbers.size)
+    else if numbers.shape == 21 then Some (ChosenByNumber numbers.size numbers.policy)
     else None
 
 -- the numbers of a shape identify it
@@ -78,3 +80,4 @@ shape_again (HeaderNested size policy) = refl
 shape_again (Chosen by policy) = refl
 shape_again BeI32 = refl
 shape_again (Elements size) = refl
+shape_again (ChosenByNumber by policy) = refl

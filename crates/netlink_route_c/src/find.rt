@@ -11,7 +11,7 @@ use crate::results::{NO_PLACE, WRONG_SHAPE};
 use crate::view::{Part, Tables, View};
 use netlink_family::{Rows, Shape, Table};
 use netlink_packet_core::{NLA_HEADER_SIZE, NlaBuffer, nla_align};
-use netlink_shapes::choice::{chosen_by, far_row_shape, near_shape};
+use netlink_shapes::choice::{far_row_shape, near_shape, resolved};
 use netlink_shapes::find::first_value;
 use netlink_shapes::shape::has_shape;
 
@@ -91,10 +91,7 @@ pub(crate) fn block_shape(rows: Rows, policy: u16, block: &[u8], kind: u16) -> S
     if let Some(shape) = near_shape(rows, policy, kind) {
         return shape;
     }
-    match far_row_shape(rows, policy, kind) {
-        Shape::Chosen { by, policy } => chosen_by(rows, policy, first_value(block, by)),
-        shape => shape,
-    }
+    resolved(rows, policy, block, far_row_shape(rows, policy, kind))
 }
 
 /// Returns the attributes of a view as a block, or `None` if they are not inside the payload.

@@ -1,12 +1,11 @@
 //! A walk over the attributes of a view.
 
 ghost use Rattle.std.specs.Prelude.{◌≡◌, ◌≢◌, ◌+◌, ◌<◌, ◌≤◌, ◌^◌, ◌↔◌, ◌⊎◌, IfNone, IfSome, None, Some, drop, false, length, slice_range, true};
-ghost use Rattle.netlink_family.specs.Listing.{first_of, listed};
-ghost use Rattle.netlink_family.specs.Shapes.{choice_by, nest_start, rows_in, shape_among, within};
+ghost use Rattle.netlink_family.specs.Shapes.{nest_start, resolved, rows_in, shape_among, within};
 ghost use Rattle.netlink_packet_core.specs.DecodeError.{DecodeError};
 ghost use Rattle.netlink_packet_core.specs.Nla.{attribute_with};
 ghost use Rattle.netlink_packet_core.specs.Walk.{IsFault, Starts};
-ghost use Rattle.netlink_route_c.specs.Items.{AreKept, IsItemAt, IsMisfit, IsTyped, IsWalkOf, empty_view, item_nest, no_walk, scope_of};
+ghost use Rattle.netlink_route_c.specs.Items.{AreKept, IsItemAt, IsMisfit, IsTyped, IsWalkOf, empty_view, item_nest, no_walk, row_of, scope_of};
 ghost use Rattle.netlink_route_c.specs.ShapeNumbers.{shape_from, shape_numbers};
 ghost use Rattle.netlink_route_c.specs.Views.{IsViewOf, is_inside};
 ghost use Rattle.netlink_route_c.specs.declared.results.TheConstants.{END, NO_PLACE, WRONG_SHAPE};
@@ -18,15 +17,14 @@ use crate::shape::{ShapeNumbers, shape_from, shape_numbers};
 use crate::view::{Part, Tables, View};
 use netlink_family::{Rows, Shape, TOP, Table};
 use netlink_packet_core::{NLA_HEADER_SIZE, NlaBuffer, nla_align};
-use netlink_shapes::choice::chosen_by;
-use netlink_shapes::find::first_value;
+use netlink_shapes::choice::resolved;
 use netlink_shapes::shape::{has_shape, policy_of, row_shape};
 
-/// A shape that an attribute of the view chose, if `kept` is 1.
+/// A shape that an attribute of the view chose, if `kept` is 1 or 2.
 #[derive(Clone, Copy, Debug, PartialEq, Eq)]
 #[repr(C)]
 pub struct KeptShape {
-    /// 1 if a shape is kept, else 0.
+    /// 1 if a string chose it, and 2 if a number did. For any other value, no shape is kept.
     pub kept: u16,
     /// The kind of the attribute that chose it.
     pub by: u16,
@@ -95,7 +93,7 @@ pub extern "C" fn nlp_view_next(
     ensures end { is_inside view.now.attributes (length payload.now) ≡ true
         → ((result ≡ END) ↔ (view.now.attributes.size ≤ walk.old.at)) }
     ensures item { result ≡ 0 → IsItemAt payload.now view.now walk.old.at item.new walk.new.at }
-    ensures typed { result ≡ 0 → AreKept (scope_of ⟦<Tables as Table>⟧ payload.now view.now) walk.old
+    ensures typed { result ≡ 0 → AreKept (scope_of ⟦<Tables as Table>⟧ payload.now view.now) view.now.policy walk.old
         → IsTyped ⟦<Tables as Table>⟧ payload.now view.now item.new }
     ensures refuses { result ≡ WRONG_SHAPE → IsMisfit ⟦<Tables as Table>⟧ payload.now view.now walk.old }
     ensures outcome { (result ≡ 0) ⊎ (result ≡ END) ⊎ (result ≡ NO_PLACE) ⊎ (result ≡ WRONG_SHAPE) }
@@ -212,53 +210,69 @@ fn empty_view(message_type: u16, offset: usize) -> View
 /// Returns the shape of a kind in a policy, among the attributes of a block. Keeps in `walk` what an
 /// attribute chose.
 fn walked_shape(rows: Rows, policy: u16, block: &[u8], kind: u16, walk: &mut ViewWalk) -> Shape
-    ensures shape { AreKept (within (rows_in rows.list.now) block.now) walk.old
+    ensures shape { AreKept (within (rows_in rows.list.now) block.now) policy walk.old
         → result ≡ shape_among (within (rows_in rows.list.now) block.now) policy kind }
-    ensures kept { AreKept (within (rows_in rows.list.now) block.now) walk.old
-        → AreKept (within (rows_in rows.list.now) block.now) walk.new }
+    ensures kept { AreKept (within (rows_in rows.list.now) block.now) policy walk.old
+        → AreKept (within (rows_in rows.list.now) block.now) policy walk.new }
 {
-    match row_shape(rows, policy, kind) {
-        Shape::Chosen {
-            by,
-            policy: choices,
-        } => walked_choice(rows, choices, block, by, walk),
-        shape => shape,
+    let row = row_shape(rows, policy, kind);
+    match row {
+        Shape::Chosen { .. } | Shape::ChosenByNumber { .. } => {
+            walked_choice(rows, policy, block, row, walk)
+        }
+        _ => row,
     }
 }
 
-/// Returns the shape that the first attribute of a kind chooses. Walks the block only if `walk` does
-/// not keep it, and then keeps it.
-fn walked_choice(rows: Rows, policy: u16, block: &[u8], by: u16, walk: &mut ViewWalk) -> Shape
-    ensures shape { AreKept (within (rows_in rows.list.now) block.now) walk.old
-        → result ≡ choice_by (rows_in rows.list.now) policy (first_of by (listed block.now)) }
-    ensures kept { AreKept (within (rows_in rows.list.now) block.now) walk.old
-        → AreKept (within (rows_in rows.list.now) block.now) walk.new }
+/// Returns the shape that an attribute of the block chooses. Walks the block only if `walk` does not
+/// keep it, and then keeps it.
+#[tactic(auto, using(crate::proofs::Items::kept_new))]
+fn walked_choice(rows: Rows, policy: u16, block: &[u8], row: Shape, walk: &mut ViewWalk) -> Shape
+    ensures shape { AreKept (within (rows_in rows.list.now) block.now) policy walk.old
+        → result ≡ resolved (within (rows_in rows.list.now) block.now) policy row }
+    ensures kept { AreKept (within (rows_in rows.list.now) block.now) policy walk.old
+        → AreKept (within (rows_in rows.list.now) block.now) policy walk.new }
 {
-    if let Some(shape) = kept_shape(&walk.last, by, policy) {
+    if let Some(shape) = kept_shape(&walk.last, row) {
         return shape;
     }
-    if let Some(shape) = kept_shape(&walk.before, by, policy) {
+    if let Some(shape) = kept_shape(&walk.before, row) {
         return shape;
     }
-    let shape = chosen_by(rows, policy, first_value(block, by));
+    let shape = resolved(rows, policy, block, row);
     walk.before = walk.last;
-    walk.last = KeptShape {
-        kept: 1,
-        by,
-        policy,
-        shape: shape_numbers(shape),
-    };
+    walk.last = keep(row, shape);
     shape
 }
 
-/// Returns the shape that is kept of what a kind chose from a policy, if it is.
-fn kept_shape(kept: &KeptShape, by: u16, policy: u16) -> Option<Shape>
-    ensures some { IfSome result (λ shape. (kept.now.kept ≡ 1) × (kept.now.by ≡ by) × (kept.now.policy ≡ policy)
-        × (shape_from kept.now.shape ≡ Some shape)) }
-    ensures none { IfNone result (kept.now.kept ≡ 1 → kept.now.by ≡ by → kept.now.policy ≡ policy
-        → shape_from kept.now.shape ≡ None) }
+/// Returns what a walk keeps for the shape of a row: the shape that was chosen for it.
+fn keep(row: Shape, shape: Shape) -> KeptShape
+    ensures row { (other : Shape) → row_of result ≡ Some other → other ≡ row }
+    ensures shape { result.shape ≡ shape_numbers shape }
 {
-    if kept.kept != 1 || kept.by != by || kept.policy != policy {
+    let (kept, by, policy) = match row {
+        Shape::Chosen { by, policy } => (1, by, policy),
+        Shape::ChosenByNumber { by, policy } => (2, by, policy),
+        _ => (0, 0, 0),
+    };
+    KeptShape {
+        kept,
+        by,
+        policy,
+        shape: shape_numbers(shape),
+    }
+}
+
+/// Returns the shape that was kept for the shape of a row, if this is that of the row.
+fn kept_shape(kept: &KeptShape, row: Shape) -> Option<Shape>
+    ensures { IfSome result (λ shape. (row_of kept.now ≡ Some row) × (shape_from kept.now.shape ≡ Some shape)) }
+{
+    let (chosen, by, policy) = match row {
+        Shape::Chosen { by, policy } => (1, by, policy),
+        Shape::ChosenByNumber { by, policy } => (2, by, policy),
+        _ => return None,
+    };
+    if kept.kept != chosen || kept.by != by || kept.policy != policy {
         return None;
     }
     shape_from(kept.shape)

@@ -54,6 +54,8 @@ pub const BE_I32: u16 = 19;
 
 pub const ELEMENTS: u16 = 20;
 
+pub const CHOSEN_BY_NUMBER: u16 = 21;
+
 /// A shape as numbers (`struct nlp_shape`).
 #[derive(Clone, Copy, Debug, PartialEq, Eq)]
 #[repr(C)]
@@ -61,11 +63,11 @@ pub struct ShapeNumbers {
     /// The number of the shape.
     pub shape: u16,
     /// The size in bytes of `EXACT_LEN`, the least one of `MIN_LEN`, that of an element of `ELEMENTS`,
-    /// or that of the header of `HEADER_NESTED`; the kind that chooses for `CHOSEN`. 0 for any other
-    /// shape.
+    /// or that of the header of `HEADER_NESTED`; the kind that chooses for `CHOSEN` and
+    /// `CHOSEN_BY_NUMBER`. 0 for any other shape.
     pub size: u16,
-    /// The policy of the attributes of a nest, or the one that `CHOSEN` chooses from. 0 for any other
-    /// shape.
+    /// The policy of the attributes of a nest, or the one that `CHOSEN` and `CHOSEN_BY_NUMBER`
+    /// choose from. 0 for any other shape.
     pub policy: u16,
 }
 
@@ -120,6 +122,7 @@ pub(crate) fn shape_numbers(shape: Shape) -> ShapeNumbers
         Shape::Chosen { by, policy } => shape_with(CHOSEN, by, policy),
         Shape::BeI32 => shape_with(BE_I32, 0, 0),
         Shape::Elements(size) => shape_with(ELEMENTS, size, 0),
+        Shape::ChosenByNumber { by, policy } => shape_with(CHOSEN_BY_NUMBER, by, policy),
     }
 }
 
@@ -162,6 +165,7 @@ pub(crate) fn shape_from(numbers: ShapeNumbers) -> Option<Shape>
         CHOSEN => Some(Shape::Chosen { by: size, policy }),
         BE_I32 => Some(Shape::BeI32),
         ELEMENTS => Some(Shape::Elements(size)),
+        CHOSEN_BY_NUMBER => Some(Shape::ChosenByNumber { by: size, policy }),
         _ => None,
     }
 }

@@ -784,6 +784,158 @@ pub const RTAX_CC_ALGO: Kind = Kind(16);
 /// The kind `RTAX_FASTOPEN_NO_COOKIE`.
 pub const RTAX_FASTOPEN_NO_COOKIE: Kind = Kind(17);
 
+// Encapsulations of routes.
+/// The number `LWTUNNEL_ENCAP_MPLS`.
+pub const LWTUNNEL_ENCAP_MPLS: u16 = 1;
+/// The number `LWTUNNEL_ENCAP_IP`.
+pub const LWTUNNEL_ENCAP_IP: u16 = 2;
+/// The number `LWTUNNEL_ENCAP_ILA`.
+pub const LWTUNNEL_ENCAP_ILA: u16 = 3;
+/// The number `LWTUNNEL_ENCAP_IP6`.
+pub const LWTUNNEL_ENCAP_IP6: u16 = 4;
+/// The number `LWTUNNEL_ENCAP_SEG6`.
+pub const LWTUNNEL_ENCAP_SEG6: u16 = 5;
+/// The number `LWTUNNEL_ENCAP_BPF`.
+pub const LWTUNNEL_ENCAP_BPF: u16 = 6;
+/// The number `LWTUNNEL_ENCAP_SEG6_LOCAL`.
+pub const LWTUNNEL_ENCAP_SEG6_LOCAL: u16 = 7;
+/// The number `LWTUNNEL_ENCAP_RPL`.
+pub const LWTUNNEL_ENCAP_RPL: u16 = 8;
+/// The number `LWTUNNEL_ENCAP_IOAM6`.
+pub const LWTUNNEL_ENCAP_IOAM6: u16 = 9;
+/// The number `LWTUNNEL_ENCAP_XFRM`.
+pub const LWTUNNEL_ENCAP_XFRM: u16 = 10;
+/// The kind `MPLS_IPTUNNEL_DST`.
+pub const MPLS_IPTUNNEL_DST: Kind = Kind(1);
+/// The kind `MPLS_IPTUNNEL_TTL`.
+pub const MPLS_IPTUNNEL_TTL: Kind = Kind(2);
+/// The kind `LWTUNNEL_IP_ID`.
+pub const LWTUNNEL_IP_ID: Kind = Kind(1);
+/// The kind `LWTUNNEL_IP_DST`.
+pub const LWTUNNEL_IP_DST: Kind = Kind(2);
+/// The kind `LWTUNNEL_IP_SRC`.
+pub const LWTUNNEL_IP_SRC: Kind = Kind(3);
+/// The kind `LWTUNNEL_IP_TTL`.
+pub const LWTUNNEL_IP_TTL: Kind = Kind(4);
+/// The kind `LWTUNNEL_IP_TOS`.
+pub const LWTUNNEL_IP_TOS: Kind = Kind(5);
+/// The kind `LWTUNNEL_IP_FLAGS`.
+pub const LWTUNNEL_IP_FLAGS: Kind = Kind(6);
+/// The kind `LWTUNNEL_IP_OPTS`.
+pub const LWTUNNEL_IP_OPTS: Kind = Kind(8);
+/// The kind `ILA_ATTR_LOCATOR`.
+pub const ILA_ATTR_LOCATOR: Kind = Kind(1);
+/// The kind `ILA_ATTR_CSUM_MODE`.
+pub const ILA_ATTR_CSUM_MODE: Kind = Kind(7);
+/// The kind `ILA_ATTR_IDENT_TYPE`.
+pub const ILA_ATTR_IDENT_TYPE: Kind = Kind(8);
+/// The kind `ILA_ATTR_HOOK_TYPE`.
+pub const ILA_ATTR_HOOK_TYPE: Kind = Kind(9);
+/// The kind `LWTUNNEL_IP6_ID`.
+pub const LWTUNNEL_IP6_ID: Kind = Kind(1);
+/// The kind `LWTUNNEL_IP6_DST`.
+pub const LWTUNNEL_IP6_DST: Kind = Kind(2);
+/// The kind `LWTUNNEL_IP6_SRC`.
+pub const LWTUNNEL_IP6_SRC: Kind = Kind(3);
+/// The kind `LWTUNNEL_IP6_HOPLIMIT`.
+pub const LWTUNNEL_IP6_HOPLIMIT: Kind = Kind(4);
+/// The kind `LWTUNNEL_IP6_TC`.
+pub const LWTUNNEL_IP6_TC: Kind = Kind(5);
+/// The kind `LWTUNNEL_IP6_FLAGS`.
+pub const LWTUNNEL_IP6_FLAGS: Kind = Kind(6);
+/// The kind `LWTUNNEL_IP6_OPTS`.
+pub const LWTUNNEL_IP6_OPTS: Kind = Kind(8);
+/// The kind `SEG6_IPTUNNEL_SRH`.
+pub const SEG6_IPTUNNEL_SRH: Kind = Kind(1);
+/// The kind `LWT_BPF_IN`.
+pub const LWT_BPF_IN: Kind = Kind(1);
+/// The kind `LWT_BPF_OUT`.
+pub const LWT_BPF_OUT: Kind = Kind(2);
+/// The kind `LWT_BPF_XMIT`.
+pub const LWT_BPF_XMIT: Kind = Kind(3);
+/// The kind `LWT_BPF_XMIT_HEADROOM`.
+pub const LWT_BPF_XMIT_HEADROOM: Kind = Kind(4);
+/// The kind `SEG6_LOCAL_ACTION`.
+pub const SEG6_LOCAL_ACTION: Kind = Kind(1);
+/// The kind `SEG6_LOCAL_SRH`.
+pub const SEG6_LOCAL_SRH: Kind = Kind(2);
+/// The kind `SEG6_LOCAL_TABLE`.
+pub const SEG6_LOCAL_TABLE: Kind = Kind(3);
+/// The kind `SEG6_LOCAL_NH4`.
+pub const SEG6_LOCAL_NH4: Kind = Kind(4);
+/// The kind `SEG6_LOCAL_NH6`.
+pub const SEG6_LOCAL_NH6: Kind = Kind(5);
+/// The kind `SEG6_LOCAL_IIF`.
+pub const SEG6_LOCAL_IIF: Kind = Kind(6);
+/// The kind `SEG6_LOCAL_OIF`.
+pub const SEG6_LOCAL_OIF: Kind = Kind(7);
+/// The kind `SEG6_LOCAL_BPF`.
+pub const SEG6_LOCAL_BPF: Kind = Kind(8);
+/// The kind `SEG6_LOCAL_VRFTABLE`.
+pub const SEG6_LOCAL_VRFTABLE: Kind = Kind(9);
+/// The kind `SEG6_LOCAL_COUNTERS`.
+pub const SEG6_LOCAL_COUNTERS: Kind = Kind(10);
+/// The kind `SEG6_LOCAL_FLAVORS`.
+pub const SEG6_LOCAL_FLAVORS: Kind = Kind(11);
+/// The kind `RPL_IPTUNNEL_SRH`.
+pub const RPL_IPTUNNEL_SRH: Kind = Kind(1);
+/// The kind `IOAM6_IPTUNNEL_MODE`.
+pub const IOAM6_IPTUNNEL_MODE: Kind = Kind(1);
+/// The kind `IOAM6_IPTUNNEL_DST`.
+pub const IOAM6_IPTUNNEL_DST: Kind = Kind(2);
+/// The kind `IOAM6_IPTUNNEL_TRACE`.
+pub const IOAM6_IPTUNNEL_TRACE: Kind = Kind(3);
+/// The kind `IOAM6_IPTUNNEL_FREQ_K`.
+pub const IOAM6_IPTUNNEL_FREQ_K: Kind = Kind(4);
+/// The kind `IOAM6_IPTUNNEL_FREQ_N`.
+pub const IOAM6_IPTUNNEL_FREQ_N: Kind = Kind(5);
+/// The kind `LWT_XFRM_IF_ID`.
+pub const LWT_XFRM_IF_ID: Kind = Kind(1);
+/// The kind `LWT_XFRM_LINK`.
+pub const LWT_XFRM_LINK: Kind = Kind(2);
+/// The kind `LWTUNNEL_IP_OPTS_GENEVE`.
+pub const LWTUNNEL_IP_OPTS_GENEVE: Kind = Kind(1);
+/// The kind `LWTUNNEL_IP_OPTS_VXLAN`.
+pub const LWTUNNEL_IP_OPTS_VXLAN: Kind = Kind(2);
+/// The kind `LWTUNNEL_IP_OPTS_ERSPAN`.
+pub const LWTUNNEL_IP_OPTS_ERSPAN: Kind = Kind(3);
+/// The kind `LWTUNNEL_IP_OPT_GENEVE_CLASS`.
+pub const LWTUNNEL_IP_OPT_GENEVE_CLASS: Kind = Kind(1);
+/// The kind `LWTUNNEL_IP_OPT_GENEVE_TYPE`.
+pub const LWTUNNEL_IP_OPT_GENEVE_TYPE: Kind = Kind(2);
+/// The kind `LWTUNNEL_IP_OPT_GENEVE_DATA`.
+pub const LWTUNNEL_IP_OPT_GENEVE_DATA: Kind = Kind(3);
+/// The kind `LWTUNNEL_IP_OPT_VXLAN_GBP`.
+pub const LWTUNNEL_IP_OPT_VXLAN_GBP: Kind = Kind(1);
+/// The kind `LWTUNNEL_IP_OPT_ERSPAN_VER`.
+pub const LWTUNNEL_IP_OPT_ERSPAN_VER: Kind = Kind(1);
+/// The kind `LWTUNNEL_IP_OPT_ERSPAN_INDEX`.
+pub const LWTUNNEL_IP_OPT_ERSPAN_INDEX: Kind = Kind(2);
+/// The kind `LWTUNNEL_IP_OPT_ERSPAN_DIR`.
+pub const LWTUNNEL_IP_OPT_ERSPAN_DIR: Kind = Kind(3);
+/// The kind `LWTUNNEL_IP_OPT_ERSPAN_HWID`.
+pub const LWTUNNEL_IP_OPT_ERSPAN_HWID: Kind = Kind(4);
+/// The kind `LWT_BPF_PROG_FD`.
+pub const LWT_BPF_PROG_FD: Kind = Kind(1);
+/// The kind `LWT_BPF_PROG_NAME`.
+pub const LWT_BPF_PROG_NAME: Kind = Kind(2);
+/// The kind `SEG6_LOCAL_BPF_PROG`.
+pub const SEG6_LOCAL_BPF_PROG: Kind = Kind(1);
+/// The kind `SEG6_LOCAL_BPF_PROG_NAME`.
+pub const SEG6_LOCAL_BPF_PROG_NAME: Kind = Kind(2);
+/// The kind `SEG6_LOCAL_CNT_PACKETS`.
+pub const SEG6_LOCAL_CNT_PACKETS: Kind = Kind(2);
+/// The kind `SEG6_LOCAL_CNT_BYTES`.
+pub const SEG6_LOCAL_CNT_BYTES: Kind = Kind(3);
+/// The kind `SEG6_LOCAL_CNT_ERRORS`.
+pub const SEG6_LOCAL_CNT_ERRORS: Kind = Kind(4);
+/// The kind `SEG6_LOCAL_FLV_OPERATION`.
+pub const SEG6_LOCAL_FLV_OPERATION: Kind = Kind(1);
+/// The kind `SEG6_LOCAL_FLV_LCBLOCK_BITS`.
+pub const SEG6_LOCAL_FLV_LCBLOCK_BITS: Kind = Kind(2);
+/// The kind `SEG6_LOCAL_FLV_LCNODE_FN_BITS`.
+pub const SEG6_LOCAL_FLV_LCNODE_FN_BITS: Kind = Kind(3);
+
 // Rules, and `struct fib_rule_hdr`.
 /// The message type `RTM_NEWRULE`.
 pub const RTM_NEWRULE: u16 = 32;
