@@ -37,9 +37,9 @@ fn error_of(payload: &[u8]) -> Option<FamilyError> {
 }
 
 /// Returns a payload: an attribute of 2 bytes, and then one of none.
-fn pair(kind: u16, number: [u8; 2], data: u16) -> [u8; 12] {
+fn pair(kind: u8, number: [u8; 2], data: u8) -> [u8; 12] {
     let [low, high] = number;
-    [6, 0, kind as u8, 0, low, high, 0, 0, 4, 0, data as u8, 0]
+    [6, 0, kind, 0, low, high, 0, 0, 4, 0, data, 0]
 }
 
 #[test]
