@@ -1,4 +1,4 @@
--- The grammar of JSON (RFC 8259), without white space between tokens, and with whole numbers alone.
+-- The grammar of JSON (RFC 8259), without white space between tokens, and without exponents and negative fractions.
 use Rattle.std.specs.Prelude.{ℕ, ◌≡◌, ◌==◌, ◌&&◌, ◌||◌, not, Bool, List, [], ◌∷◌, ◌++◌, codes, nat_le}
 use Rattle.std.specs.List.{list_all}
 
@@ -45,6 +45,8 @@ mutual
     false : IsValue (codes "false")
     number : {text : List ℕ} → IsNatural text → IsValue text
     negative : {text : List ℕ} → IsNatural text → IsValue (45 ∷ text)
+    fraction : {text : List ℕ} (c : ℕ) (digits : List ℕ) → IsNatural text → list_all is_digit (c ∷ digits) ≡ Bool.true
+        → IsValue (text ++ (46 ∷ c ∷ digits))
     string : {text : List ℕ} → IsString text → IsValue text
     no_items : IsValue (codes "[]")
     array : {items : List ℕ} → AreItems items → IsValue (codes "[" ++ (items ++ codes "]"))

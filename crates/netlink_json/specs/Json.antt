@@ -1,5 +1,5 @@
 -- Values of JSON, and their texts.
-use Rattle.std.specs.Prelude.{ℕ, ℤ, pos, negsuc, suc, ◌%◌, ◌^◌, ◌==◌, Bool, true, false, List, [], ◌∷◌, ◌++◌, codes, decimal, if◌then◌else◌}
+use Rattle.std.specs.Prelude.{ℕ, ℤ, pos, negsuc, suc, ◌/◌, ◌%◌, ◌^◌, ◌==◌, Bool, true, false, List, [], ◌∷◌, ◌++◌, codes, decimal, if◌then◌else◌}
 use Rattle.netlink_json.specs.Strings.{string_text}
 
 -- a string has any bytes, and an object keeps the order of its members
@@ -9,6 +9,7 @@ mutual
     boolean : Bool → Json
     number : ℕ → Json
     signed : ℤ → Json
+    hundredths : ℕ → Json
     text : List ℕ → Json
     array : Items → Json
     object : Members → Json
@@ -29,6 +30,16 @@ abbrev pub signed_text : ℤ → List ℕ
 signed_text (pos n) = number_text n
 signed_text (negsuc n) = codes "-" ++ number_text (suc n)
 
+-- a number of hundredths, without zeros at its end, such as `1.5` for 150
+abbrev pub last_text : ℕ → List ℕ
+last_text digit = if digit == 0 then [] else decimal digit
+
+abbrev pub fraction_text : ℕ → List ℕ
+fraction_text n = if n == 0 then [] else codes "." ++ (decimal (n / 10) ++ last_text (n % 10))
+
+abbrev pub hundredths_text : ℕ → List ℕ
+hundredths_text n = number_text (n / 100) ++ fraction_text (n % 100)
+
 abbrev pub boolean_text : Bool → List ℕ
 boolean_text true = codes "true"
 boolean_text false = codes "false"
@@ -45,6 +56,7 @@ abbrev mutual
   json_text (boolean b) = boolean_text b
   json_text (number n) = number_text n
   json_text (signed z) = signed_text z
+  json_text (hundredths n) = hundredths_text n
   json_text (text bytes) = string_text bytes
   json_text (array items) = codes "[" ++ (after_comma (items_text items) ++ codes "]")
   json_text (object members) = codes "{" ++ (after_comma (members_text members) ++ codes "}")

@@ -1,5 +1,5 @@
 -- The texts of values are values of the grammar.
-use Rattle.std.proofs.Common.{◌≡◌, ◌<◌, ◌≤◌, ◌^◌, ◌/◌, ◌%◌, ◌+◌, ◌++◌, ◌==◌, ◌&&◌, ◌||◌, ap, arith, refl, sym, subst, ℕ, zero, suc, ℤ, pos, negsuc, Bool, true, false, List, [], ◌∷◌, append-nil, codes, if◌then◌else◌, nat_lt}
+use Rattle.std.proofs.Common.{◌≡◌, ◌<◌, ◌≤◌, ◌^◌, ◌/◌, ◌%◌, ◌+◌, ◌++◌, ◌==◌, ◌&&◌, ◌||◌, ap, arith, refl, sym, subst, ℕ, zero, suc, ℤ, pos, negsuc, Bool, true, false, List, [], ◌∷◌, append-nil, codes, decimal, if◌then◌else◌, nat_lt}
 use Rattle.std.proofs.lemmas.Bool.{eqb-true}
 use Rattle.std.proofs.lemmas.Fmt.{decimal_by_steps_wide}
 use Rattle.std.specs.List.{list_all}
@@ -7,7 +7,7 @@ use Rattle.std.specs.Str.{is_utf8}
 use Rattle.netlink_packet_core.specs.Text.{hex_digit}
 use Rattle.netlink_json.specs.Grammar.{AreChars, AreItems, AreMembers, IsNatural, IsString, IsValue, is_digit, is_hex, is_plain}
 use Rattle.netlink_json.specs.Json as json
-use Rattle.netlink_json.specs.Json.{Items, Json, Members, items_text, json_text, members_text, number_text, signed_text}
+use Rattle.netlink_json.specs.Json.{Items, Json, Members, fraction_text, hundredths_text, items_text, json_text, last_text, members_text, number_text, signed_text}
 use Rattle.netlink_json.specs.Strings.{ascii_escape, escape, escaped, numbered, string_text}
 
 -- ---- strings
@@ -126,6 +126,51 @@ number_valid n =
     natural_of (n % 2 ^ 64) (number_text n)
     (decimal_by_steps_wide AreDigits one_digit more_digits (n % 2 ^ 64) (omega arith))
 
+-- ---- numbers with a fraction
+
+two_hold : (x y : Bool) → x ≡ true → y ≡ true → (x && y) ≡ true
+two_hold true y one two = two
+two_hold false y one two = one
+
+all_append : (digits more : List ℕ) → list_all is_digit digits ≡ true → list_all is_digit more ≡ true
+    → list_all is_digit (digits ++ more) ≡ true
+all_append [] more all rest = rest
+all_append (c ∷ digits) more all rest =
+    both_hold (is_digit c) (list_all is_digit digits) (list_all is_digit (digits ++ more)) all
+    (λ each. all_append digits more each rest)
+
+all_digits : (text : List ℕ) → IsNatural text → list_all is_digit text ≡ true
+all_digits text IsNatural.nothing = refl
+all_digits text (IsNatural.natural {c} {digits} one large all) = two_hold (is_digit c) (list_all is_digit digits) one all
+
+small_natural : (n : ℕ) → n < 100 → IsNatural (decimal n)
+small_natural n small = natural_of n (decimal n) (decimal_by_steps_wide AreDigits one_digit more_digits n (omega (arith, small)))
+
+after_point : (whole tenths more : List ℕ) → IsNatural whole → IsNatural tenths → list_all is_digit more ≡ true
+    → IsValue (whole ++ (codes "." ++ (tenths ++ more)))
+after_point whole tenths more ok IsNatural.nothing rest = IsValue.fraction 48 more ok rest
+after_point whole tenths more ok (IsNatural.natural {c} {digits} one large all) rest =
+    IsValue.fraction c (digits ++ more) ok
+    (two_hold (is_digit c) (list_all is_digit (digits ++ more)) one (all_append digits more all rest))
+
+last_digits : (none : Bool) (last : List ℕ) → IsNatural last → list_all is_digit (if none then [] else last) ≡ true
+last_digits true last ok = refl
+last_digits false last ok = all_digits last ok
+
+by_fraction : (none : Bool) (whole tenths more : List ℕ) → IsNatural whole → IsNatural tenths → list_all is_digit more ≡ true
+    → IsValue (whole ++ (if none then [] else codes "." ++ (tenths ++ more)))
+by_fraction true whole tenths more ok one rest = subst IsValue (sym (append-nil whole)) (IsValue.number ok)
+by_fraction false whole tenths more ok one rest = after_point whole tenths more ok one rest
+
+fraction_valid : (whole : List ℕ) (n : ℕ) → n < 100 → IsNatural whole → IsValue (whole ++ fraction_text n)
+fraction_valid whole n small ok =
+    by_fraction (n == 0) whole (decimal (n / 10)) (last_text (n % 10)) ok
+    (small_natural (n / 10) (omega (arith, small)))
+    (last_digits (n % 10 == 0) (decimal (n % 10)) (small_natural (n % 10) (omega arith)))
+
+hundredths_valid : (n : ℕ) → IsValue (hundredths_text n)
+hundredths_valid n = fraction_valid (number_text (n / 100)) (n % 100) (omega arith) (number_valid (n / 100))
+
 -- ---- values
 
 boolean_valid : (b : Bool) → IsValue (json_text (json.boolean b))
@@ -177,6 +222,7 @@ mutual
   value_valid (json.boolean b) = boolean_valid b
   value_valid (json.number n) = IsValue.number (number_valid n)
   value_valid (json.signed z) = signed_valid z
+  value_valid (json.hundredths n) = hundredths_valid n
   value_valid (json.text bytes) = IsValue.string (string_valid bytes)
   value_valid (json.array items) = array_valid items (items_valid items)
   value_valid (json.object members) = object_valid members (members_valid members)

@@ -2,10 +2,11 @@
 
 ghost use Rattle.std.specs.Prelude.{◌≡◌, ◌++◌, IfOk, OnOk, codes, string_bytes};
 ghost use Rattle.netlink_json.specs.Fields.{Adds, AddsArray, AddsObject, braced, no_field, object_text, present, raw_end, with_raw_array, written};
-ghost use Rattle.netlink_json.specs.Json.{after_comma, boolean, null, number, signed, text};
+ghost use Rattle.netlink_json.specs.Json.{after_comma, boolean, hundredths, null, number, signed, text};
 ghost use Rattle.netlink_json.specs.Strings.{string_text};
 
 use crate::array::{Array, push_bracketed};
+use crate::fraction::push_hundredths;
 use crate::string::{is_text, push_string};
 use netlink_bytes::push_hex;
 use std::alloc::{AllocError, Global};
@@ -64,6 +65,16 @@ impl Object {
     {
         push_key(&mut self.text, key)?;
         write!(&mut self.text, "{integer}")
+    }
+
+    /// Appends a number of hundredths as a decimal fraction, without zeros at its end: 150 is `1.5`.
+    /// Returns `AllocError` if an allocation fails.
+    #[tactic(auto, unfolding(crate::specs::Fields::with_field))]
+    pub fn put_hundredths(&mut self, key: &str, value: u64) -> Result<(), AllocError>
+        ensures adds { OnOk result (Adds self.old self.new (present key.now (hundredths value))) }
+    {
+        push_key(&mut self.text, key)?;
+        push_hundredths(&mut self.text, value)
     }
 
     /// Appends `true` or `false`. Returns `AllocError` if an allocation fails.
