@@ -1,7 +1,7 @@
 -- What the getters of parts and of nests write.
-use Rattle.std.proofs.Common.{◌≡◌, ℕ, ◌+◌, ◌≤◌, Bool, true, List, length, take, refl, ap, sym, subst, ◌∙◌, arith, Option, Some}
+use Rattle.std.proofs.Common.{◌≡◌, ℕ, ◌+◌, ◌≤◌, Bool, true, false, List, length, take, refl, ap, sym, subst, ◌∙◌, arith, Option, None, Some}
 use Rattle.std.proofs.lemmas.Bool.{leb-true}
-use Rattle.std.specs.Prelude.{if◌then◌else◌}
+use Rattle.std.specs.Prelude.{◌≢◌, if◌then◌else◌}
 use Rattle.netlink_family.specs.Finding.{nest_by, policy_by, str_by}
 use Rattle.netlink_family.specs.Shapes.{has_shape, nest_block, nest_of, nest_start}
 use Rattle.netlink_family.specs.declared.family.Table.{Ghosts}
@@ -9,7 +9,7 @@ use Rattle.netlink_family.specs.declared.shape.Shape.{Shape}
 use Rattle.netlink_family.specs.declared.shape.Shape.TheVariants.{Flag, U8, U16, U32, U64, I32, I64, Be16, Be32, Be64, BeI32, ExactLen, Ip, NulStr, Str, MinLen, Elements, Nested, HeaderNested, Chosen, ChosenByNumber, Bytes}
 use Rattle.netlink_route_c.proofs.Places.{nest_part, part_size, part_taken}
 use Rattle.netlink_route_c.proofs.Shaped.{nest_is_view}
-use Rattle.netlink_route_c.specs.Gets.{GetsNest, GetsPart, found_result, get_result, nest_view}
+use Rattle.netlink_route_c.specs.Gets.{Gets, GetsNest, GetsPart, absent_result, found_result, get_result, nest_view}
 use Rattle.netlink_route_c.specs.Views.{IsViewOf, block_of, found_of, part_of, shape_of}
 use Rattle.netlink_route_c.specs.declared.view.Part.{Part}
 use Rattle.netlink_route_c.specs.declared.view.View.{View}
@@ -28,6 +28,29 @@ gets_it : {X : Type 0} (by : Shape → Option (List ℕ) → Option X) (here sha
     → shape ≡ here → found ≡ Some value → by shape (Some value) ≡ Some x → by here found ≡ Some x
 gets_it by here shape found value x same is gives =
     ap (λ (s : Shape). by s found) (sym same) ∙ ap (by shape) is ∙ gives
+
+-- a getter returns a number other than 0 for an attribute that is absent or does not have its shape
+unfitting : {X : Type 0} (fits : Bool) (got : Option X) (n : ℕ) → n ≡ (if fits then 0 else 36) → n ≢ 0
+    → n ≡ (if fits then found_result got else 36)
+unfitting true got n is some = absurd (some is)
+unfitting false got n is some = is
+
+absent_answers : {X : Type 0} (shape : Shape) (found : Option (List ℕ)) (got : Option X) (n : ℕ)
+    → n ≡ absent_result shape found → n ≢ 0 → n ≡ get_result shape found got
+absent_answers shape None got n is some = is
+absent_answers shape (Some value) got n is some = unfitting (has_shape shape value) got n is some
+
+pub absent_gets : {F X : Type 0} (table : Ghosts F) (by : Shape → Option (List ℕ) → Option X) (payload : List ℕ) (view : View)
+    (kind : ℕ) (old : X) (n : ℕ) → n ≡ absent_result (shape_of table payload view kind) (found_of payload view kind)
+    → n ≢ 0 → (IsViewOf table payload view → n ≢ 36) → Gets table by payload view kind old old n
+absent_gets table by payload view kind old n is some shaped = record {
+  answers =
+      absent_answers (shape_of table payload view kind) (found_of payload view kind)
+      (by (shape_of table payload view kind) (found_of payload view kind)) n is some;
+  written = λ zero. absurd (some zero);
+  unchanged = λ _. refl;
+  shaped = shaped;
+}
 
 -- the first bytes of the value
 pub text_gets : {F : Type 0} (table : Ghosts F) (payload : List ℕ) (view : View) (kind : ℕ) (old : Part) (shape : Shape) (part : Part)
