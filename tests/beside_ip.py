@@ -39,8 +39,9 @@ from kernel import SCRIPTS, ask, fill, paired, prepare, shell  # noqa: E402
 
 SOL_NETLINK, NETLINK_ADD_MEMBERSHIP, SO_RCVBUFFORCE = 270, 1, 33
 
-# The groups of links, neighbours, addresses, routes, rules and ids of namespaces (RTNLGRP_* of linux/rtnetlink.h).
-GROUPS = (1, 3, 5, 7, 8, 9, 11, 19, 28)
+# The groups of links, neighbours, addresses, routes, rules, settings of links, ids of namespaces and next hops
+# (RTNLGRP_* of linux/rtnetlink.h).
+GROUPS = (1, 3, 5, 7, 8, 9, 11, 19, 24, 25, 28, 32)
 
 # What is added to the words of `ip route get ADDRESS`, and the attributes that this adds to the request.
 LOOKUPS = [("", b""), (" mark 21", struct.pack("<HHI", 8, 16, 21)), (" uid 1500", struct.pack("<HHI", 8, 25, 1500))]

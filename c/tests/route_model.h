@@ -20,12 +20,13 @@ enum { FAMILIES = sizeof model_families / sizeof model_families[0], ROWS = sizeo
 static const size_t form_sizes[] = { 1, 2, 4, 8, 4, 8, 2, 4, 8, 0 };
 
 /* Returns the family of a message type, or -1. Each type before the fourth of a family is one of its, except the second
- * of the neighbour tables; and links have a fourth. */
+ * of the neighbour tables; links have a fourth, and announced prefixes have the first alone. */
 static inline int family_of(uint16_t type)
 {
     for (int i = 0; i < FAMILIES; i++) {
-        const int at = type - model_families[i].type;
-        if (model_families[i].type == 64 ? at == 0 || at == 2 || at == 3 : at >= 0 && at < (i == 0 ? 4 : 3))
+        const uint16_t first = model_families[i].type;
+        const int at = type - first;
+        if (first == 64 ? at == 0 || at == 2 || at == 3 : at >= 0 && at < (first == 16 ? 4 : first == 52 ? 1 : 3))
             return i;
     }
     return -1;

@@ -118,6 +118,10 @@ static void shapes(void)
         { NLP_RTM_NEWROUTE, 2, 0x0104, { 17, 4, 0 }, "a hop" },
         { NLP_RTM_NEWLINK, 10, NLP_VETH_INFO_PEER, { 17, 16, 0 }, "VETH_INFO_PEER" },
         { NLP_RTM_NEWLINK, 1, NLP_IFLA_INFO_DATA, { 0, 0, 0 }, "IFLA_INFO_DATA without a kind" },
+        { NLP_RTM_NEWNEXTHOP, 0, NLP_NHA_GROUP, { 20, 8, 0 }, "NHA_GROUP" },
+        { NLP_RTM_NEWNEXTHOPBUCKET, 2, NLP_NHA_RES_BUCKET_IDLE_TIME, { 5, 0, 0 }, "NHA_RES_BUCKET_IDLE_TIME" },
+        { NLP_RTM_NEWNETCONF, 0, NLP_NETCONFA_IFINDEX, { 4, 0, 0 }, "NETCONFA_IFINDEX" },
+        { NLP_RTM_NEWPREFIX, 0, NLP_PREFIX_CACHEINFO, { 15, 8, 0 }, "PREFIX_CACHEINFO" },
     };
     for (size_t at = 0; at < sizeof rows / sizeof rows[0]; at++) {
         const struct nlp_view view = block_at(rows[at].type, rows[at].policy, 0, 0);

@@ -32,7 +32,7 @@ CAPPED, TLVS = 0x100, 0x200  # NLM_F_CAPPED, NLM_F_ACK_TLVS
 # The families by their message types, of which the one with the lowest bits 2 asks, and may have a short payload.
 FAMILIES = {it[0]: it[1:] for it in families()}
 TYPES = {base + step: base for base in FAMILIES for step in range(4)}
-for unused in (23, 27, 31, 35, 65, 91):
+for unused in (23, 27, 31, 35, 53, 54, 55, 65, 83, 91, 107, 119):
     del TYPES[unused]
 # The families of messages about addresses, routes and neighbours that a table describes.
 DESCRIBED = (0, 2, 7, 10, 28, 128, 129)

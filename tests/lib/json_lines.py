@@ -16,10 +16,12 @@ from json_listed import LISTED_MEMBERS, LISTED_REPLAYED
 NEWLINK, TIME = 16, 15
 
 # The names of types: enum of linux/rtnetlink.h and NLMSG_* of linux/netlink.h.
-TABLES = {16: "LINK", 20: "ADDR", 24: "ROUTE", 28: "NEIGH", 32: "RULE", 64: "NEIGHTBL", 88: "NSID"}
+TABLES = {16: "LINK", 20: "ADDR", 24: "ROUTE", 28: "NEIGH", 32: "RULE", 52: "PREFIX", 64: "NEIGHTBL", 80: "NETCONF"}
+TABLES |= {88: "NSID", 104: "NEXTHOP", 116: "NEXTHOPBUCKET"}
 TYPES = {base + at: f"RTM_{word}{name}" for base, name in TABLES.items() for at, word in enumerate(("NEW", "DEL", "GET"))}
 TYPES |= {19: "RTM_SETLINK", 67: "RTM_SETNEIGHTBL", 1: "NLMSG_NOOP", 2: "NLMSG_ERROR", 3: "NLMSG_DONE", 4: "NLMSG_OVERRUN"}
-del TYPES[65]
+for unused in (53, 54, 65):
+    del TYPES[unused]
 
 NUMBERS = {"nlmsg_flags": (6, 8), "nlmsg_seq": (8, 12), "nlmsg_pid": (12, 16)}
 

@@ -26,14 +26,15 @@ def without_down(link):
     return {**link, "flags": [it for it in flags if it != "M-DOWN"]} if "M-DOWN" in flags else link
 
 
-def without_encapsulation(route):
-    """Returns a route without the members from `encap` to those of the next hop."""
-    keys = list(route)
+def without_encapsulation(members):
+    """Returns a route without the members from `encap` to those of the next hop, or a next hop without those after
+    `encap`."""
+    keys = list(members)
     if "encap" not in keys:
-        return route
-    at = keys.index("encap")
-    end = min(keys.index(it) for it in ("gateway", "via", "dev") if it in keys)
-    return {key: route[key] for key in keys[:at] + keys[end:]}
+        return members
+    at = keys.index("encap") + ("NEXTHOP" in members["message"])
+    end = min(keys.index(it) for it in ("gateway", "via", "dev", "scope", "protocol", "flags") if it in keys)
+    return {key: members[key] for key in keys[:at] + keys[end:]}
 
 
 def with_kind_last(link):
@@ -76,7 +77,7 @@ def with_source(route):
 LISTED_MEMBERS = [
     ("M-DOWN of a lower link", without_down, same),
     ("the reasons of protodown", without("proto_down_reason"), same),
-    ("the encapsulation of a route", without_encapsulation, same),
+    ("the encapsulation of a route or a next hop", without_encapsulation, same),
     ("the place of the kind of a link", with_kind_last, same),
 ]
 

@@ -26,11 +26,11 @@ PROXIES = b"\0\0\0\0\0\0\0\0\0\0\x08\0"  # NTF_PROXY
 # the family, which is the first byte of the body.
 FAMILIES = {"-4": socket.AF_INET, "-6": socket.AF_INET6, "-f": 7}
 DUMPS = [("link show", RTM_GETLINK, LINK_REQUEST), ("-f bridge neigh show nud all", 30, bytes(12))]
-DUMPS += [("ntable show", RTM_GETNEIGHTBL, bytes(4)), ("netns list-id", 90, bytes(4))]
+DUMPS += [("ntable show", RTM_GETNEIGHTBL, bytes(4)), ("netns list-id", 90, bytes(4)), ("nexthop show", 106, bytes(8))]
 for version in ("-4", "-6"):
     DUMPS += [(f"{version} addr show", RTM_GETADDR, bytes(8)), (f"{version} route show table all", RTM_GETROUTE, bytes(12))]
     DUMPS += [(f"{version} neigh show nud all", 30, bytes(12)), (f"{version} neigh show proxy", 30, PROXIES)]
-    DUMPS += [(f"{version} rule show", 34, bytes(12))]
+    DUMPS += [(f"{version} rule show", 34, bytes(12)), (f"{version} netconf show", 82, bytes(4))]
 DUMPS = [(words, kind, bytes([FAMILIES.get(words[:2], 0)]) + body[1:]) for words, kind, body in DUMPS]
 
 SCRIPTS = ("setup.sh", "links.sh")

@@ -10,9 +10,9 @@ INTEGERS = {"u8": 1, "u16": 2, "u32": 4, "u64": 8, "s32": 4, "s64": 8, "be16": 2
 
 
 def families():
-    """Yields the message type, the size of the header, the fields and the kinds of each family. A kind is a list: its
-    number, its name, its form, the number after that, and the kinds in it. The number of an encapsulation follows a
-    `&`, so that it is no kind."""
+    """Returns the first message type, the size of the header, the fields and the kinds of each family, and the same for
+    each line `also` of a family. A kind is a list: its number, its name, its form, the number after that, and the kinds in
+    it. The number of an encapsulation follows a `&`, so that it is no kind."""
     found = []
     with open(TABLE, encoding="utf-8") as file:
         for line in file:
@@ -20,6 +20,8 @@ def families():
             if words[:1] == ["family"]:
                 fields = [(name, int(at), form) for name, at, form in (it.split(":") for it in words[3:])]
                 found.append((int(words[1]), int(words[2]), fields, []))
+            elif words[:1] == ["also"]:
+                found.append((int(words[1]), *found[-1][1:]))
             elif words:
                 kinds = found[-1][3]
                 for _level in range((len(line) - len(line.lstrip(" "))) // 2):

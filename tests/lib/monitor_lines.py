@@ -18,13 +18,9 @@ FOLDER = os.path.join(TOP, "examples", "captured", "monitor")
 IFLA_TXQLEN, IFLA_LINKMODE, IFLA_IFALIAS = 13, 17, 20
 MODES = {b"\0": "DEFAULT", b"\1": "DORMANT"}
 
-# The types of messages that have no line of their own: prefixes that a router advertises, settings of links, and next
-# hops.
-UNKNOWN_TYPES = (52, 80, 81, 104, 105)
-
 # The types of the messages of which each prefix is read: the first of each that names no link but `lo`.
-SHORT = (16, 20, 24, 29, 32, 33, 88, 89)
-OTHER_LINK = re.compile(r" (dev|iif|oif|master) (?!lo\b|if\d)")
+SHORT = (16, 20, 24, 29, 32, 33, 80, 88, 89)
+OTHER_LINK = re.compile(r" (dev|iif|oif|master) (?!lo\b|if\d)|^(Deleted )?inet6? (?!all\b|if\d)")
 
 
 def kind_of(frame):
@@ -33,11 +29,6 @@ def kind_of(frame):
 
 def padded(frame):
     return frame + bytes(-len(frame) % 4)
-
-
-def has_line(frame):
-    """Returns whether the program has a line of its own for a message, and not `type N, SIZE bytes`."""
-    return kind_of(frame) not in UNKNOWN_TYPES
 
 
 def with_link_words(frame, line):
@@ -69,12 +60,9 @@ def rows_of_ip():
     lines, listed = lines_in("lines.txt", FOLDER), differences(FOLDER)
     assert len(frames) == len(lines) and not listed.keys() - range(1, len(lines) + 1)
     for place, (frame, line) in enumerate(zip(frames, lines), 1):
-        if not has_line(frame):
-            yield frame, "", f"type {kind_of(frame)}, {len(frame)} bytes", None
-        else:
-            label = label_of(frame)
-            assert line.startswith(label), f"line {place}: {line}"
-            yield frame, label, program_line(frame, line[len(label) :]), listed.get(place)
+        label = label_of(frame)
+        assert label and line.startswith(label), f"line {place}: {line}"
+        yield frame, label, program_line(frame, line[len(label) :]), listed.get(place)
 
 
 def monitor_errors(program):

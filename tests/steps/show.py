@@ -5,8 +5,8 @@ also with `--json`, on pipes that stay open, with wrong arguments, and with inpu
 
 This script computes the expected lines for the captured datagrams itself, with Python's struct and ipaddress and the
 numbers of linux/if.h, if_link.h and if_addr.h. The expected lines for acknowledgements, errors and messages made here
-are written by hand, or are those that `ip` prints (ip_lines.py and monitor_lines.py in tests/lib). The expected error
-texts are those of docs/FORMAT.md.
+are written by hand, or are those that `ip` prints (hop_lines.py, ip_lines.py and monitor_lines.py in tests/lib). The
+expected error texts are those of docs/FORMAT.md.
 """
 
 import ipaddress
@@ -21,6 +21,7 @@ sys.path.insert(0, os.path.join(sys.path[0], "..", "lib"))
 
 from built import TOP, FailingDevices, built, error_of, in_parallel, row, run, silent, tally  # noqa: E402 (it is in that folder)
 from byte_lines import byte_errors, frames_of, request_error  # noqa: E402
+from hop_lines import HOP_LINES, INVALID_HOPS, LABELLED, SHORT_HOPS, hop, integer, prefix, settings  # noqa: E402
 from ip_lines import ip_errors, joined  # noqa: E402
 from json_lines import case_error, json_cases, object_errors, packet_errors, replayed_errors, text_errors  # noqa: E402
 from kinds import rows as kind_rows  # noqa: E402
@@ -208,7 +209,8 @@ INTERIOR_NUL = "attribute {} is a string with a NUL before its last byte"
 LONGEST = 1 << 20
 
 # The types of control messages, of times (iproute2's libnetlink.h) and of netlink_route (linux/netlink.h, rtnetlink.h).
-KNOWN = {*range(1, 5), *range(15, 23), *range(24, 27), *range(28, 31), *range(32, 35), 64, 66, 67, *range(88, 91)}
+KNOWN = {*range(1, 5), *range(15, 23), *range(24, 27), *range(28, 31), *range(32, 35), 52, 64, 66, 67}
+KNOWN |= {*range(80, 83), *range(88, 91), *range(104, 107), *range(116, 119)}
 
 # Bytes that no message starts with that can be read, and the error text for each.
 STOPS = [
@@ -244,6 +246,8 @@ MALFORMED = [
         invalid(20, 8, "attribute 2 has an address of 5 bytes instead of 4 or 16"),
     ),
 ]
+MALFORMED += [(data, short(number(data[4:6]), len(data) - 16, size)) for data, size in SHORT_HOPS]
+MALFORMED += [(data, invalid(number(data[4:6]), *why)) for data, *why in INVALID_HOPS]
 
 # Messages about links and addresses that have a line, and the line of each: requests with a `struct rtgenmsg` instead of
 # the header, padding in the header, strings without a NUL or of bytes that are not printable, a negative index, and a
@@ -338,6 +342,9 @@ LINES += [
     (frame(88, bytes(4) + attribute(5, b"\2\0\0\0")), b"current-nsid 2\n"),
 ]
 
+# Next hops, settings of links and announced prefixes.
+LINES += HOP_LINES
+
 # A request of 18 bytes and its padding.
 REQUEST = struct.pack("<IHHII", 18, 16, 5, 1, 0) + b"\7\7\0\0"
 
@@ -400,6 +407,7 @@ STREAMS += [
     (NAME + link(NAMED, attribute(10, b"\3\0\0\0")), NAMED_LINE + b"7: a: <> master a link/netrom\n"),
     (NAME + link(NAMED, BELOW, attribute(37, b"\2\0\0\0")), NAMED_LINE + b"7: a@if3: <> link/netrom link-netnsid 2\n"),
     (link(NAMED, index=-1) + link(attribute(5, b"\xff\xff\xff\xff")), b"-1: a: <> link/netrom\n7: if7@a: <> link/netrom\n"),
+    (NAME + settings(2, (1, 3)) + prefix(index=3) + hop(integer(5, 3)), NAMED_LINE + b"inet a\ndev a\nid 0 dev a\n"),
 ]
 STREAMS += [
     (
@@ -434,7 +442,7 @@ LINES += [
 # Requests for a dump with a `struct ifinfomsg` and IFLA_EXT_MASK, as iproute2 before 5.0 sends them, and requests for an
 # id with one byte and with three; and the line of each.
 OLD = b"\2" + bytes(15) + attribute(29, b"\1\0\0\0")
-LINES += [(frame(kind, OLD, flags=0x301), f"type {kind}, 40 bytes\n".encode()) for kind in (22, 26, 90)]
+LINES += [(frame(kind, OLD, flags=0x301), f"type {kind}, 40 bytes\n".encode()) for kind in (22, 26, 82, 90, 106, 118)]
 LINES += [(frame(90, bytes(size), flags=1), b"Get nsid\n") for size in (1, 3)]
 
 # An address, a route and a neighbour of MCTP (45), whose addresses have one byte, and the line of each.
@@ -526,6 +534,37 @@ OBJECTS += [
     (frame(64, b"\2\0\0\0" + attribute(1, b"ndisc\0")), object_text("RTM_NEWNEIGHTBL", '"family":"inet","name":"ndisc"')),
     (frame(88, bytes(4) + attribute(1, b"\5\0\0\0")), object_text("RTM_NEWNSID", '"nsid":5')),
 ]
+# Next hops with an id, a resilient group and a bucket of it, settings of links, and an announced prefix, which `ip` prints
+# no object of.
+HOP = b"\2\0\4" + bytes(5) + attribute(1, b"\1\0\0\0") + attribute(6, b"\n\1\0\2") + attribute(5, b"\3\0\0\0")
+HOP_MEMBERS = '"id":1,"gateway":"10.1.0.2","dev":"if3","protocol":"static","flags":[]'
+OF_NAMED_HOP = object_text("RTM_NEWNEXTHOP", HOP_MEMBERS.replace("if3", "a"))
+RESILIENT = attribute(1, b"\x20\0") + attribute(2, b"\xe0\x2e\0\0") + attribute(3, b"\x96\0\0\0")
+RESILIENT += attribute(4, b"\x7b" + bytes(7))
+HOP_GROUP = bytes(8) + attribute(1, b"\n\0\0\0") + attribute(2, b"\1" + bytes(7) + b"\2\0\0\0\2\0\0\0")
+HOP_GROUP += attribute(3, b"\1\0") + attribute(12, RESILIENT)
+HOP_GROUP_MEMBERS = '"id":10,"group":[{"id":1},{"id":2,"weight":3}],"type":"resilient","resilient_args":{"buckets":32,'
+HOP_GROUP_MEMBERS += '"idle_timer":120,"unbalanced_timer":1.5,"unbalanced_time":1.23},"flags":[]'
+BUCKET = bytes(8) + attribute(1, b"\n\0\0\0") + attribute(13, attribute(1, b"\7\0") + attribute(2, b"\xd2\4" + bytes(6)))
+BUCKET_MEMBERS = '"id":10,"bucket":{"index":7,"idle_time":12.34},"flags":[]'
+SETTINGS = b"\2\0\0\0" + attribute(1, b"\xff\xff\xff\xff") + attribute(2, b"\1\0\0\0") + attribute(3, bytes(4))
+SETTING_MEMBERS = '"family":"inet","interface":"all","forwarding":true,"rp_filter":"off"'
+PREFIX = b"\n\0\0\0\3\0\0\0\3\x40\3\0" + attribute(1, b"\x20\1\r\xb8" + bytes(12)) + attribute(2, b"\x64\0\0\0\xc8\0\0\0")
+PREFIX_MEMBERS = '"prefix":"2001:db8::","prefixlen":64,"dev":"if3","onlink":null,"autoconf":null,"valid":200,"preferred":100'
+OBJECTS += [
+    (frame(104, HOP), object_text("RTM_NEWNEXTHOP", HOP_MEMBERS)),
+    (frame(105, HOP, flags=ASKED), object_text("RTM_DELNEXTHOP", f'"deleted":true,{HOP_MEMBERS}', ASKED)),
+    (link(NAMED, index=3) + frame(104, HOP), LINK_OBJECT.replace("7", "3") + OF_NAMED_HOP),
+    (frame(104, HOP_GROUP), object_text("RTM_NEWNEXTHOP", HOP_GROUP_MEMBERS)),
+    (frame(106, b"\2"), object_text("RTM_GETNEXTHOP", '"id":0,"flags":[]')),
+    (frame(116, BUCKET), object_text("RTM_NEWNEXTHOPBUCKET", BUCKET_MEMBERS)),
+    (frame(117, BUCKET), object_text("RTM_DELNEXTHOPBUCKET", f'"deleted":true,{BUCKET_MEMBERS}')),
+    (frame(80, SETTINGS), object_text("RTM_NEWNETCONF", SETTING_MEMBERS)),
+    (frame(81, SETTINGS), object_text("RTM_DELNETCONF", f'"deleted":true,{SETTING_MEMBERS}')),
+    (frame(81, SETTINGS, flags=ASKED), object_text("RTM_DELNETCONF", f'"request":true,"deleted":true,{SETTING_MEMBERS}', ASKED)),
+    (frame(82, b"\n"), object_text("RTM_GETNETCONF", '"family":"inet6"')),
+    (frame(52, PREFIX), object_text("RTM_NEWPREFIX", PREFIX_MEMBERS)),
+]
 
 
 def captured_lines():
@@ -577,6 +616,8 @@ def rows():
     yield row(data.hex(), [], (1, f"[1.000002] byte 24: {MALFORMED[0][1]}\n".encode(), BAD), data)
     data = in_packets(time(1, 2)) + pcap_packet(link(NAMED) + frame(1, b""))
     yield row(f"{data.hex()} with a label", ["--label"], (0, b"[1.000002] [LINK]" + LINE + b"noop\n", ""), data)
+    lines = b"".join(line for _, line in LABELLED)
+    yield row("next hops with labels", ["--label"], (0, lines, ""), joined(data for data, _ in LABELLED))
     yield row("a time and its bytes", ["--bytes"], (0, b"[1.000002] " + LINE + BYTES, ""), time(1, 2) + link(NAMED))
     yield row("labels and bytes", ["--label", "--bytes"], (0, b"[LINK]" + LINE + BYTES, ""), link(NAMED))
     options = ["--bytes", "--time", "--label"]
@@ -639,7 +680,7 @@ def shown(data, offset=0):
 def stream_rows():
     """Yields every prefix of a stream, streams with a damaged length, and random bytes."""
     made = random.Random(1)
-    whole = b"".join(padded(frame(kind, made.randbytes(kind % 7))) for kind in range(40, 60))
+    whole = b"".join(padded(frame(kind, made.randbytes(kind % 7))) for kind in range(40, 61) if kind not in KNOWN)
     for cut in range(len(whole) + 1):
         yield row(f"the first {cut} bytes", [], shown(whole[:cut]), whole[:cut])
     damaged = []

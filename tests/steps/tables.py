@@ -25,7 +25,7 @@ from toolchain import compiler  # noqa: E402
 COMMON = ("linux/if_link.h", "linux/if_arp.h", "linux/rtnetlink.h", "linux/genetlink.h")
 
 HEADER = re.compile(r"(?<![\w/])(?:linux/)?(\w+\.h)\b")
-NUMBER = re.compile(r"(?m)^(?:pub(?:\(crate\))? )?const (\w+): u(?:8|16|32) = (\d+|0x[0-9a-fA-F_]+);$")
+NUMBER = re.compile(r"(?m)^(?:pub(?:\(crate\))? )?const (\w+): (?:u(?:8|16|32)|i32) = (-?\d+|0x[0-9a-fA-F_]+);$")
 FIELD = re.compile(r'(?m)^(?:pub )?const (\w+): Field = \("(\w+)", (\d+), Shape::(\w+)(?:\((\d+)\))?\);$')
 STRUCT = re.compile(r"(?m)^//.*`struct (\w+)`")
 USED = re.compile(r"(?m)^use crate::(\w+)::")
@@ -92,7 +92,7 @@ def wrong_values(text):
     headers = [it for it in headers if has_headers([*COMMON, it])]
     numbers = {name: (value, 0) for name, value in values_in(text).items()}
     fields = {it[1]: (struct_at(text, it.start()), it[2], (int(it[3]), int(it[5] or SIZES.get(it[4], 0)))) for it in FIELD.finditer(text)}
-    statements = {it: f'printf("%llu 0\\n", (unsigned long long)({it}));' for it in numbers}
+    statements = {it: f'printf("%lld 0\\n", (long long)({it}));' for it in numbers}
     for name, (struct, member, _) in fields.items():
         place = f"offsetof(struct {struct}, {member}) - {STARTS.get(struct, 0)}, sizeof ((struct {struct} *)0)->{member}"
         statements[name] = f'printf("%zu %zu\\n", {place});'

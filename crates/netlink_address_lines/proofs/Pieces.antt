@@ -1,5 +1,5 @@
 -- The times of an address, piece by piece.
-use Rattle.std.proofs.Common.{◌≡◌, ◌<◌, ◌+◌, ◌++◌, arith, ℕ, decimal, List, [], codes, length, length-append, ◌==◌}
+use Rattle.std.proofs.Common.{◌≡◌, ◌<◌, ◌++◌, arith, ℕ, decimal, List, codes, length, length-append, ◌==◌}
 use Rattle.netlink_words.specs.Parts.{keyed, with_part}
 use Rattle.netlink_words.specs.Pieces.{chosen_some, keyed_more}
 use Rattle.netlink_words.specs.Text.{separated}

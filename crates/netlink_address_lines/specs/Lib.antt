@@ -2,3 +2,5 @@ pub mod Address
 pub mod AddressFlags
 pub mod Neighbour
 pub mod NeighbourTable
+pub mod NetworkConfiguration
+pub mod Prefix

@@ -1,4 +1,5 @@
-//! The lines of messages about addresses, neighbours and neighbour tables.
+//! The lines of messages about addresses, neighbours, neighbour tables, settings of links and announced
+//! prefixes.
 //!
 //! The rows have the order of the words. A definition `File::name` is in `specs/File.antt` of this crate, or of the crate
 //! that is named before it. `netlink_words` has the functions for numbers, names of numbers and addresses, and
@@ -64,9 +65,35 @@
 //! | `proxy_delay 800` | `neighbour_table::push_delays` | `NeighbourTable::delay_parts` |
 //! | `proxy_queue 64` | `neighbour_table::push_delays` | `NeighbourTable::delay_parts` |
 //! | `locktime 1000` | `neighbour_table::push_delays` | `NeighbourTable::delay_parts` |
+//!
+//! `network_configuration::configuration_line` makes the line of the settings of a link, and
+//! `NetworkConfiguration::configuration_line` defines it:
+//!
+//! | word of a line | function | definition |
+//! |---|---|---|
+//! | `Deleted`, `Get` | `network_configuration::verb_text` | `NetworkConfiguration::configuration_verb` |
+//! | `inet` | `netlink_words::number_names::family_text` | `netlink_words::NumberNames::family_text` |
+//! | `all`, `default`, `d0` | `network_configuration::push_place` | `NetworkConfiguration::place_part` |
+//! | `forwarding on` | `network_configuration::push_switch` | `NetworkConfiguration::switch_part` |
+//! | `rp_filter strict` | `network_configuration::push_filter` | `NetworkConfiguration::filter_part` |
+//! | `mc_forwarding off` | `network_configuration::push_switch` | `NetworkConfiguration::switch_part` |
+//! | `proxy_neigh off` | `network_configuration::push_switch` | `NetworkConfiguration::switch_part` |
+//! | `ignore_routes_with_linkdown off` | `network_configuration::push_switch` | `NetworkConfiguration::switch_part` |
+//! | `input on` | `network_configuration::push_switch` | `NetworkConfiguration::switch_part` |
+//!
+//! `prefix::prefix_line` makes the line of an announced prefix, and `Prefix::prefix_line` defines it:
+//!
+//! | word of a line | function | definition |
+//! |---|---|---|
+//! | `prefix 2001:db8::/64` | `prefix::push_prefix` | `Prefix::prefix_part` |
+//! | `dev d0` | `netlink_names::device::push_device` | `netlink_names::Device::device_part` |
+//! | `onlink`, `autoconf` | `prefix::push_flags` | `Prefix::flag_parts` |
+//! | `valid 200`, `preferred 100` | `prefix::push_lifetimes` | `Prefix::lifetime_parts` |
 #![tactic(auto)]
 
 pub mod address;
 pub mod address_flags;
 pub mod neighbour;
 pub mod neighbour_table;
+pub mod network_configuration;
+pub mod prefix;

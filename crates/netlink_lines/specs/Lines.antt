@@ -4,8 +4,11 @@ use Rattle.std.specs.Ordering.{int_eq}
 use Rattle.netlink_family.specs.Shapes.{has_type}
 use Rattle.netlink_lines.specs.SystemErrors.{code_text}
 use Rattle.netlink_address_lines.specs.Address.{address_line}
+use Rattle.netlink_address_lines.specs.NetworkConfiguration.{configuration_line}
+use Rattle.netlink_address_lines.specs.Prefix.{prefix_line}
 use Rattle.netlink_names.specs.Known.{link_known}
 use Rattle.netlink_link_lines.specs.Link.{link_line}
+use Rattle.netlink_next_hop_lines.specs.NextHop.{next_hop_line}
 use Rattle.netlink_route_lines.specs.Namespace.{namespace_line}
 use Rattle.netlink_address_lines.specs.Neighbour.{neighbour_line}
 use Rattle.netlink_address_lines.specs.NeighbourTable.{neighbour_table_line}
@@ -49,13 +52,31 @@ neighbour_table_types = 64 ∷ 66 ∷ 67 ∷ []
 abbrev pub namespace_types : List ℕ
 namespace_types = 88 ∷ 89 ∷ 90 ∷ []
 
--- the line of a message that is about a rule, a neighbour table or an id of a namespace
+-- those of next hops and buckets, of settings of links, and of announced prefixes
+abbrev pub next_hop_types : List ℕ
+next_hop_types = 104 ∷ 105 ∷ 106 ∷ 116 ∷ 117 ∷ 118 ∷ []
+
+abbrev pub configuration_types : List ℕ
+configuration_types = 80 ∷ 81 ∷ 82 ∷ []
+
+abbrev pub prefix_types : List ℕ
+prefix_types = 52 ∷ []
+
+-- the line of a message that is about an id of a namespace, a next hop, the settings of a link or a prefix
+abbrev pub last_line : List Known → ℕ → List ℕ → Option (List ℕ)
+last_line known t payload =
+    if has_type namespace_types t then Some (namespace_line t payload)
+    else if has_type next_hop_types t then Some (next_hop_line known t payload)
+    else if has_type configuration_types t then Some (configuration_line known t payload)
+    else if has_type prefix_types t then Some (prefix_line known payload)
+    else None
+
+-- that is about a rule, a neighbour table or one of these
 abbrev pub later_line : List Known → ℕ → List ℕ → Option (List ℕ)
 later_line known t payload =
     if has_type rule_types t then Some (rule_line t payload)
     else if has_type neighbour_table_types t then Some (neighbour_table_line known t payload)
-    else if has_type namespace_types t then Some (namespace_line t payload)
-    else None
+    else last_line known t payload
 
 -- the line of a message that is about neither a link nor an address
 abbrev pub other_line : List Known → ℕ → List ℕ → Option (List ℕ)

@@ -2,23 +2,34 @@
 use Rattle.std.specs.Prelude.{ℕ, ◌==◌, List, [], codes, if◌then◌else◌}
 use Rattle.netlink_family.specs.Shapes.{has_type}
 use Rattle.netlink_json.specs.Fields.{Field}
-use Rattle.netlink_lines.specs.Lines.{address_types, link_types, namespace_types, neighbour_table_types, neighbour_types, route_types, rule_types}
+use Rattle.netlink_lines.specs.Lines.{address_types, configuration_types, link_types, namespace_types, neighbour_table_types, neighbour_types, next_hop_types, prefix_types, route_types, rule_types}
 use Rattle.netlink_names.specs.declared.device.Known.{Known}
 use Rattle.netlink_objects.specs.Address.{address_parts}
 use Rattle.netlink_objects.specs.Link.{link_parts}
 use Rattle.netlink_objects.specs.Namespace.{namespace_parts}
 use Rattle.netlink_objects.specs.Neighbour.{neighbour_parts}
 use Rattle.netlink_objects.specs.NeighbourTable.{neighbour_table_parts}
+use Rattle.netlink_objects.specs.NetworkConfiguration.{configuration_parts}
+use Rattle.netlink_objects.specs.NextHopObject.{next_hop_parts}
+use Rattle.netlink_objects.specs.Prefix.{prefix_parts}
 use Rattle.netlink_objects.specs.Route.{route_parts as route_members}
 use Rattle.netlink_objects.specs.Rule.{rule_parts}
 
--- the members of a message that is about a rule, a neighbour table or an id of a network namespace
+-- the members of a message that is about an id of a network namespace, a next hop, the settings of a link or a prefix
+abbrev pub last_parts : List Known → ℕ → List ℕ → List (List Field)
+last_parts known t payload =
+    if has_type namespace_types t then namespace_parts t payload
+    else if has_type next_hop_types t then next_hop_parts known t payload
+    else if has_type configuration_types t then configuration_parts known t payload
+    else if has_type prefix_types t then prefix_parts known payload
+    else []
+
+-- that is about a rule, a neighbour table or one of these
 abbrev pub later_parts : List Known → ℕ → List ℕ → List (List Field)
 later_parts known t payload =
     if has_type rule_types t then rule_parts t payload
     else if has_type neighbour_table_types t then neighbour_table_parts known t payload
-    else if has_type namespace_types t then namespace_parts t payload
-    else []
+    else last_parts known t payload
 
 -- that is about neither a link nor an address
 abbrev pub other_parts : List Known → ℕ → List ℕ → List (List Field)
@@ -53,10 +64,20 @@ message_name t =
     else if t == 32 then codes "RTM_NEWRULE"
     else if t == 33 then codes "RTM_DELRULE"
     else if t == 34 then codes "RTM_GETRULE"
+    else if t == 52 then codes "RTM_NEWPREFIX"
     else if t == 64 then codes "RTM_NEWNEIGHTBL"
     else if t == 66 then codes "RTM_GETNEIGHTBL"
     else if t == 67 then codes "RTM_SETNEIGHTBL"
+    else if t == 80 then codes "RTM_NEWNETCONF"
+    else if t == 81 then codes "RTM_DELNETCONF"
+    else if t == 82 then codes "RTM_GETNETCONF"
     else if t == 88 then codes "RTM_NEWNSID"
     else if t == 89 then codes "RTM_DELNSID"
     else if t == 90 then codes "RTM_GETNSID"
+    else if t == 104 then codes "RTM_NEWNEXTHOP"
+    else if t == 105 then codes "RTM_DELNEXTHOP"
+    else if t == 106 then codes "RTM_GETNEXTHOP"
+    else if t == 116 then codes "RTM_NEWNEXTHOPBUCKET"
+    else if t == 117 then codes "RTM_DELNEXTHOPBUCKET"
+    else if t == 118 then codes "RTM_GETNEXTHOPBUCKET"
     else []

@@ -20,7 +20,11 @@ label_in group =
     else if group == 6 then codes "[ROUTE]"
     else if group == 7 then codes "[NEIGH]"
     else if group == 8 then codes "[RULE]"
+    else if group == 13 then codes "[PREFIX]"
+    else if group == 20 then codes "[NETCONF]"
     else if group == 22 then codes "[NSID]"
+    else if group == 26 then codes "[NEXTHOP]"
+    else if group == 29 then codes "[NEXTHOPBUCKET]"
     else []
 
 -- routes of multicast routing have a label of their own

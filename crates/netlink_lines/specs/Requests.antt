@@ -1,13 +1,14 @@
 -- What a program asks of the kernel: to change something, or to list what there is.
-use Rattle.std.specs.Prelude.{ℕ, ◌==◌, ◌&&◌, not, nat_eq, Bool, List, ◌++◌, drop, codes, if◌then◌else◌}
+use Rattle.std.specs.Prelude.{ℕ, ◌==◌, ◌&&◌, ◌/◌, not, nat_eq, Bool, List, ◌++◌, drop, codes, if◌then◌else◌}
 use Rattle.std.specs.Int.Bits.{bit_and}
 use Rattle.std.specs.List.{starts_with}
 use Rattle.netlink_packet_core.specs.declared.constants.TheConstants.{NLM_F_DUMP, NLM_F_REQUEST}
 use Rattle.netlink_replies.specs.Headers.{has_flag}
 
--- a message with these flags and of this type asks for a change: the two lowest bits of the types `RTM_GET*` are 2
+-- a message with these flags and of this type asks for a change: the two lowest bits of the types `RTM_GET*` are 2, and
+-- the kernel repeats the flags of a request in its own message about a next hop (104 to 106)
 abbrev pub is_request : ℕ → ℕ → Bool
-is_request flags t = has_flag flags NLM_F_REQUEST && not (bit_and t 3 == 2)
+is_request flags t = (has_flag flags NLM_F_REQUEST && not (bit_and t 3 == 2)) && not (t / 4 == 26)
 
 -- it asks for a dump, by either bit of `NLM_F_DUMP`
 abbrev pub is_dump : ℕ → ℕ → Bool

@@ -2,25 +2,26 @@
 
 ghost use Rattle.std.specs.Prelude.{◌≡◌, IfOk, OnOk, string_bytes};
 ghost use Rattle.std.specs.Option.{option_map};
-ghost use Rattle.netlink_lines.specs.Lines.{code_words, done_line, error_line, known_by, later_line, other_line, route_line};
+ghost use Rattle.netlink_lines.specs.Lines.{code_words, done_line, error_line, known_by, last_line, later_line, other_line, route_line};
 ghost use Rattle.netlink_json.specs.Fields.{AddsParts};
 ghost use Rattle.netlink_lines.specs.Members.{route_parts};
 ghost use Rattle.netlink_lines.specs.SystemErrors.{code_text};
 
-use crate::members::put_other;
+use crate::members::put_any;
 use crate::system_errors::error_name;
 use netlink_address_lines::address::address_line;
 use netlink_address_lines::neighbour::neighbour_line;
 use netlink_address_lines::neighbour_table::neighbour_table_line;
+use netlink_address_lines::network_configuration::configuration_line;
+use netlink_address_lines::prefix::prefix_line;
 use netlink_family::{Family, Joined, MessageView};
 use netlink_json::Object;
 use netlink_link_lines::link::link_line;
 use netlink_names::device::Known;
 use netlink_names::known::learn_link;
 use netlink_names::name_table::{NameTable, Names};
-use netlink_objects::address::put_address;
-use netlink_objects::link::put_link;
-use netlink_route::{AllTables, LaterTables, OtherTables, RouteTables};
+use netlink_next_hop_lines::next_hop::next_hop_line;
+use netlink_route::{AllTables, LastTables, LaterTables, OtherTables, RouteTables};
 use netlink_route_lines::namespace::namespace_text;
 use netlink_route_lines::route::route_entry_line;
 use netlink_route_lines::rule::rule_text;
@@ -99,20 +100,13 @@ impl Line for Joined<RouteTables> {
     }
 
     /// Appends the members of a message with the keys of `ip -j` and in its order.
-    #[tactic(auto, unfolding(crate::specs::Members::route_parts))]
     fn put_members(
         alloc: Global,
         object: &mut Object,
         known: &Names<'_>,
         message: &MessageView<'_, Joined<RouteTables>>,
     ) -> Result<(), AllocError> {
-        match message.tables().split() {
-            Ok(link) => put_link(alloc, object, known, &link),
-            Err(other) => match other.split() {
-                Ok(address) => put_address(alloc, object, known, &address),
-                Err(other) => put_other(alloc, object, known, &other),
-            },
-        }
+        put_any(alloc, object, known, &message.tables())
     }
 
     #[tactic(auto, unfolding(crate::specs::Lines::known_by))]
@@ -185,7 +179,8 @@ fn other_line(
     }
 }
 
-/// Returns the line of a message about a rule, a neighbour table or an id of a namespace.
+/// Returns the line of a message about a rule, a neighbour table, or what the tables after these
+/// describe.
 fn later_line(
     alloc: Global,
     known: &Names<'_>,
@@ -198,7 +193,29 @@ fn later_line(
         Ok(rule) => Ok(Some(rule_text(alloc, &rule)?)),
         Err(other) => match other.split() {
             Ok(table) => Ok(Some(neighbour_table_line(alloc, known, &table)?)),
-            Err(namespace) => Ok(Some(namespace_text(alloc, &namespace)?)),
+            Err(other) => last_line(alloc, known, &other),
+        },
+    }
+}
+
+/// Returns the line of a message about an id of a namespace, a next hop, the settings of a link, or an
+/// announced prefix.
+fn last_line(
+    alloc: Global,
+    known: &Names<'_>,
+    message: &MessageView<'_, LastTables>,
+) -> Result<Option<String>, AllocError>
+    ensures { IfOk result (λ text. option_map string_bytes text
+        ≡ last_line known.now message.now.message_type message.now.payload.now) }
+{
+    match message.split() {
+        Ok(namespace) => Ok(Some(namespace_text(alloc, &namespace)?)),
+        Err(other) => match other.split() {
+            Ok(next_hop) => Ok(Some(next_hop_line(alloc, known, &next_hop)?)),
+            Err(other) => match other.split() {
+                Ok(settings) => Ok(Some(configuration_line(alloc, known, &settings)?)),
+                Err(prefix) => Ok(Some(prefix_line(alloc, known, &prefix)?)),
+            },
         },
     }
 }

@@ -2,21 +2,46 @@
 
 ghost use Rattle.std.specs.Prelude.{◌≡◌, OnOk};
 ghost use Rattle.netlink_json.specs.Fields.{AddsParts};
-ghost use Rattle.netlink_lines.specs.Members.{later_parts, message_name, other_parts};
+ghost use Rattle.netlink_lines.specs.Members.{last_parts, later_parts, message_name, other_parts, route_parts};
 
 use netlink_family::MessageView;
 use netlink_json::Object;
 use netlink_names::name_table::Names;
+use netlink_objects::address::put_address;
+use netlink_objects::link::put_link;
 use netlink_objects::namespace::put_namespace;
 use netlink_objects::neighbour::put_neighbour;
 use netlink_objects::neighbour_table::put_neighbour_table;
+use netlink_objects::network_configuration::put_network_configuration;
+use netlink_objects::next_hop_object::put_next_hop_object;
+use netlink_objects::prefix::put_prefix;
 use netlink_objects::route::put_route;
 use netlink_objects::rule::put_rule;
-use netlink_route::{LaterTables, OtherTables};
+use netlink_route::{AllTables, LastTables, LaterTables, OtherTables};
 use std::alloc::{AllocError, Global};
 
+/// Appends the members of a message of route netlink.
+#[tactic(auto, unfolding(crate::specs::Members::route_parts))]
+pub(crate) fn put_any(
+    alloc: Global,
+    object: &mut Object,
+    known: &Names<'_>,
+    message: &MessageView<'_, AllTables>,
+) -> Result<(), AllocError>
+    ensures { OnOk result (AddsParts object.old object.new
+        (route_parts known.now (message.now.message_type, message.now.payload.now))) }
+{
+    match message.split() {
+        Ok(link) => put_link(alloc, object, known, &link),
+        Err(other) => match other.split() {
+            Ok(address) => put_address(alloc, object, known, &address),
+            Err(other) => put_other(alloc, object, known, &other),
+        },
+    }
+}
+
 /// Appends the members of a message about neither a link nor an address.
-pub(crate) fn put_other(
+fn put_other(
     alloc: Global,
     object: &mut Object,
     known: &Names<'_>,
@@ -34,7 +59,8 @@ pub(crate) fn put_other(
     }
 }
 
-/// Appends the members of a message about a rule, a neighbour table or an id of a namespace.
+/// Appends the members of a message about a rule, a neighbour table, or what the tables after these
+/// describe.
 fn put_later(
     alloc: Global,
     object: &mut Object,
@@ -48,7 +74,30 @@ fn put_later(
         Ok(rule) => put_rule(alloc, object, &rule),
         Err(other) => match other.split() {
             Ok(table) => put_neighbour_table(alloc, object, known, &table),
-            Err(namespace) => put_namespace(alloc, object, &namespace),
+            Err(other) => put_last(alloc, object, known, &other),
+        },
+    }
+}
+
+/// Appends the members of a message about an id of a namespace, a next hop, the settings of a link, or an
+/// announced prefix.
+fn put_last(
+    alloc: Global,
+    object: &mut Object,
+    known: &Names<'_>,
+    message: &MessageView<'_, LastTables>,
+) -> Result<(), AllocError>
+    ensures { OnOk result (AddsParts object.old object.new
+        (last_parts known.now message.now.message_type message.now.payload.now)) }
+{
+    match message.split() {
+        Ok(namespace) => put_namespace(alloc, object, &namespace),
+        Err(other) => match other.split() {
+            Ok(next_hop) => put_next_hop_object(alloc, object, known, &next_hop),
+            Err(other) => match other.split() {
+                Ok(settings) => put_network_configuration(alloc, object, known, &settings),
+                Err(prefix) => put_prefix(alloc, object, known, &prefix),
+            },
         },
     }
 }
@@ -75,12 +124,22 @@ pub(crate) fn message_name(message_type: u16) -> &'static str
         32 => "RTM_NEWRULE",
         33 => "RTM_DELRULE",
         34 => "RTM_GETRULE",
+        52 => "RTM_NEWPREFIX",
         64 => "RTM_NEWNEIGHTBL",
         66 => "RTM_GETNEIGHTBL",
         67 => "RTM_SETNEIGHTBL",
+        80 => "RTM_NEWNETCONF",
+        81 => "RTM_DELNETCONF",
+        82 => "RTM_GETNETCONF",
         88 => "RTM_NEWNSID",
         89 => "RTM_DELNSID",
         90 => "RTM_GETNSID",
+        104 => "RTM_NEWNEXTHOP",
+        105 => "RTM_DELNEXTHOP",
+        106 => "RTM_GETNEXTHOP",
+        116 => "RTM_NEWNEXTHOPBUCKET",
+        117 => "RTM_DELNEXTHOPBUCKET",
+        118 => "RTM_GETNEXTHOPBUCKET",
         _ => "",
     }
 }

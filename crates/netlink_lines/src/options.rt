@@ -60,7 +60,11 @@ fn label_in(group: u16) -> &'static str
         6 => "[ROUTE]",
         7 => "[NEIGH]",
         8 => "[RULE]",
+        13 => "[PREFIX]",
+        20 => "[NETCONF]",
         22 => "[NSID]",
+        26 => "[NEXTHOP]",
+        29 => "[NEXTHOPBUCKET]",
         _ => "",
     }
 }

@@ -12,11 +12,16 @@ const KIND_BITS: u16 = 3;
 
 const GETS: u16 = 2;
 
+/// The group of the types of next hops. The kernel repeats the flags of a request in its own message
+/// about the next hop that it added, replaced or deleted, so they say nothing there.
+const NEXT_HOPS: u16 = 26;
+
 /// Returns whether a message with these flags and of this type asks for a change.
 pub(crate) fn is_request(flags: u16, message_type: u16) -> bool
     ensures { result ≡ is_request flags message_type }
 {
-    (flags & NLM_F_REQUEST != 0) & (message_type & KIND_BITS != GETS)
+    let asks = (flags & NLM_F_REQUEST != 0) & (message_type & KIND_BITS != GETS);
+    asks & (message_type / 4 != NEXT_HOPS)
 }
 
 /// Returns whether a message with these flags and of this type asks for a dump, by either bit of

@@ -8,6 +8,7 @@ mod mpls_lines;
 mod multicast_lines;
 mod names;
 mod neighbour_lines;
+mod next_hop_lines;
 mod other_lines;
 mod packet_times;
 mod pcap_files;

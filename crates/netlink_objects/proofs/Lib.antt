@@ -1,3 +1,4 @@
+pub mod Groups
 pub mod Hops
 pub mod Items
 pub mod Loops

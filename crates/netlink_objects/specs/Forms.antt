@@ -138,15 +138,36 @@ big_json value = if length value == 8 then Some (json.number (number_be value)) 
 abbrev pub signed_json : List ℕ → Option Json
 signed_json value = if length value == 4 then Some (json.signed (signed 4 (number_le value))) else None
 
+-- whether a number is another one than 0
+abbrev pub boolean_json : Option ℕ → Option Json
+boolean_json None = None
+boolean_json (Some n) = Some (json.boolean (not (n == 0)))
+
+-- a mode of the reverse path filter
+abbrev pub filter_mode_json : ℕ → Json
+filter_mode_json n =
+    if n == 0 then json.text (codes "off")
+    else if n == 1 then json.text (codes "strict")
+    else if n == 2 then json.text (codes "loose")
+    else json.number n
+
+abbrev pub filter_json : Option ℕ → Option Json
+filter_json None = None
+filter_json (Some n) = Some (filter_mode_json n)
+
 -- the value that bytes are shown as, if they have the form's size
 unfoldable pub form_json : List Known → Form → List ℕ → Option Json
 form_json known form.Number value = option_map json.number (number_of value)
 form_json known form.NonZero value = nonzero_json (number_of value)
 form_json known form.Signed value = signed_json value
 form_json known form.Big value = big_json value
+form_json known form.Hundredths value = option_map json.hundredths (number_of value)
+form_json known form.Boolean value = boolean_json (number_of value)
 form_json known (form.TrueIf bits) value = when_json (has_bits bits (number_of value)) (json.boolean true)
 form_json known (form.TrueUnless bits) value = when_json (lacks_bits bits (number_of value)) (json.boolean true)
 form_json known (form.NullIf bits) value = when_json (has_bits bits (number_of value)) json.null
+form_json known form.Null value = Some json.null
+form_json known form.Filter value = filter_json (sized 4 value)
 form_json known form.States value = names_json neighbour_states (number_of value)
 form_json known form.Name value = Some (json.text (until_nul value))
 form_json known form.Device value = device_json known (sized 4 value)

@@ -4,6 +4,10 @@ pub mod Link
 pub mod Namespace
 pub mod Neighbour
 pub mod NeighbourTable
+pub mod NetworkConfiguration
+pub mod NextHopGroup
+pub mod NextHopObject
+pub mod Prefix
 pub mod Route
 pub mod RouteHops
 pub mod RouteMetrics

@@ -2,9 +2,9 @@
 
 ghost use Rattle.std.specs.Prelude.{◌≡◌, ◌∷◌, [], OnOk, true};
 ghost use Rattle.std.specs.Option.{option_map};
-ghost use Rattle.netlink_json.specs.Fields.{Adds, items_written, with_items};
+ghost use Rattle.netlink_json.specs.Fields.{Adds, items_written, present, with_items};
 ghost use Rattle.netlink_json.specs.Json as json;
-ghost use Rattle.netlink_objects.specs.Forms.{big_json, bit_names, device_json, form_json, has_bits, lacks_bits, names_in, names_json, nonzero_json, signed_json, when_json, word_json};
+ghost use Rattle.netlink_objects.specs.Forms.{big_json, bit_names, boolean_json, device_json, filter_json, form_json, has_bits, lacks_bits, filter_mode_json, names_in, names_json, nonzero_json, signed_json, when_json, word_json};
 ghost use Rattle.netlink_objects.specs.Rows.{field_of};
 
 use crate::number::{four_of, number_of};
@@ -38,12 +38,20 @@ pub enum Form {
     Signed,
     /// A big-endian number of 8 bytes.
     Big,
+    /// A number of hundredths, as a decimal fraction.
+    Hundredths,
+    /// `true` for a number other than 0, else `false`.
+    Boolean,
     /// `true` if some of these bits are set.
     TrueIf(u64),
     /// `true` if none of these bits is set.
     TrueUnless(u64),
     /// `null`, as `ip` prints some flags, if some of these bits are set.
     NullIf(u64),
+    /// `null`, whatever the value is.
+    Null,
+    /// The name of a mode of the reverse path filter, or its number.
+    Filter,
     /// An array of the names of the states of a neighbour (`NUD_*`).
     States,
     /// A string, up to its first NUL.
@@ -97,9 +105,13 @@ pub(crate) fn put_form(
         Form::NonZero => put_nonzero(object, key, number_of(value)),
         Form::Signed => put_signed(object, key, value),
         Form::Big => put_big(object, key, value),
+        Form::Hundredths => put_hundredths(object, key, number_of(value)),
+        Form::Boolean => put_boolean(object, key, number_of(value)),
         Form::TrueIf(bits) => put_true(object, key, has_bits(number_of(value), bits)),
         Form::TrueUnless(bits) => put_true(object, key, lacks_bits(number_of(value), bits)),
         Form::NullIf(bits) => put_null(object, key, has_bits(number_of(value), bits)),
+        Form::Null => object.put_null(key),
+        Form::Filter => put_filter(alloc, object, key, four_of(value)),
         Form::States => put_names(alloc, object, key, number_of(value), &NEIGHBOUR_STATES),
         Form::Name => object.put_text(alloc, key, bytes_until_nul(value)),
         Form::Device => put_device(alloc, object, known, key, four_of(value)),
@@ -151,6 +163,63 @@ fn put_big(object: &mut Object, key: &str, value: &[u8]) -> Result<(), AllocErro
         return object.put_number(key, be64_in(value));
     }
     Ok(())
+}
+
+/// Appends a number of hundredths, if there is one.
+#[tactic(auto, unfolding(netlink_json::specs::Fields::with_field))]
+fn put_hundredths(object: &mut Object, key: &str, number: Option<u64>) -> Result<(), AllocError>
+    ensures { OnOk result
+        (Adds object.old object.new (field_of key.now (option_map json.hundredths number))) }
+{
+    match number {
+        Some(number) => object.put_hundredths(key, number),
+        None => Ok(()),
+    }
+}
+
+/// Appends whether a number is another one than 0, if there is one.
+#[tactic(auto, unfolding(netlink_json::specs::Fields::with_field))]
+fn put_boolean(object: &mut Object, key: &str, number: Option<u64>) -> Result<(), AllocError>
+    ensures { OnOk result (Adds object.old object.new (field_of key.now (boolean_json number))) }
+{
+    match number {
+        Some(number) => object.put_boolean(key, number != 0),
+        None => Ok(()),
+    }
+}
+
+/// Appends a mode of the reverse path filter, if there is one.
+#[tactic(auto, unfolding(netlink_json::specs::Fields::with_field))]
+fn put_filter(
+    alloc: Global,
+    object: &mut Object,
+    key: &str,
+    mode: Option<u32>,
+) -> Result<(), AllocError>
+    ensures { OnOk result (Adds object.old object.new (field_of key.now (filter_json mode))) }
+{
+    match mode {
+        Some(mode) => put_filter_mode(alloc, object, key, mode),
+        None => Ok(()),
+    }
+}
+
+/// Appends the name of a mode, a value of `rp_filter` of the kernel's ip-sysctl.rst; for any other
+/// number, the number.
+fn put_filter_mode(
+    alloc: Global,
+    object: &mut Object,
+    key: &str,
+    mode: u32,
+) -> Result<(), AllocError>
+    ensures { OnOk result (Adds object.old object.new (present key.now (filter_mode_json mode))) }
+{
+    match mode {
+        0 => object.put_text(alloc, key, b"off"),
+        1 => object.put_text(alloc, key, b"strict"),
+        2 => object.put_text(alloc, key, b"loose"),
+        _ => object.put_number(key, mode as u64),
+    }
 }
 
 /// Returns whether some of these bits of a number are set.

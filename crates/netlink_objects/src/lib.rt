@@ -13,6 +13,9 @@
 //! | rule | `rule::put_rule` | `Rule::rule_parts` |
 //! | neighbour table | `neighbour_table::put_neighbour_table` | `NeighbourTable::neighbour_table_parts` |
 //! | id of a network namespace | `namespace::put_namespace` | `Namespace::namespace_parts` |
+//! | next hop, and bucket of a group | `next_hop_object::put_next_hop_object` | `NextHopObject::next_hop_parts` |
+//! | settings of a link | `network_configuration::put_network_configuration` | `NetworkConfiguration::configuration_parts` |
+//! | announced prefix | `prefix::put_prefix` | `Prefix::prefix_parts` |
 #![tactic(auto)]
 
 pub mod address;
@@ -23,7 +26,11 @@ mod multicast_route;
 pub mod namespace;
 pub mod neighbour;
 pub mod neighbour_table;
+pub mod network_configuration;
+mod next_hop_group;
+pub mod next_hop_object;
 mod number;
+pub mod prefix;
 pub mod route;
 mod route_flags;
 mod route_hops;

@@ -1,6 +1,7 @@
 //! Messages of route netlink (linux/rtnetlink.h): links, addresses, neighbours, routes, rules,
-//! neighbour tables and ids of network namespaces. Each family is a table in a module of its own,
-//! with the constants of its header file. `RouteMessage` joins them.
+//! neighbour tables, ids of network namespaces, next hops, settings of links, and announced prefixes.
+//! Each family is a table in a module of its own, with the constants of its header file.
+//! `RouteMessage` joins them.
 #![tactic(auto)]
 
 pub mod addresses;
@@ -12,7 +13,10 @@ pub mod names;
 pub mod namespaces;
 pub mod neighbour_tables;
 pub mod neighbours;
+pub mod network_configurations;
+pub mod next_hop_objects;
 mod next_hops;
+pub mod prefixes;
 mod route;
 mod route_rows;
 pub mod routes;
@@ -24,7 +28,12 @@ pub use crate::names::{NeighbourState, OperState, RouteProtocol, RouteType, Scop
 pub use crate::namespaces::{NamespaceMessage, Namespaces};
 pub use crate::neighbour_tables::{NeighbourTableMessage, NeighbourTables};
 pub use crate::neighbours::{NeighbourMessage, Neighbours};
+pub use crate::network_configurations::{NetworkConfigurationMessage, NetworkConfigurations};
+pub use crate::next_hop_objects::{NextHopObjectMessage, NextHopObjects};
 pub use crate::next_hops::{NextHop, NextHops};
-pub use crate::route::{AllTables, LaterTables, OtherTables, RouteMessage, RouteTables};
+pub use crate::prefixes::{PrefixMessage, Prefixes};
+pub use crate::route::{
+    AllTables, LastTables, LaterTables, OtherTables, RouteMessage, RouteTables,
+};
 pub use crate::routes::{RouteEntryMessage, Routes};
 pub use crate::rules::{RuleMessage, Rules};

@@ -7,12 +7,15 @@ use crate::links::Links;
 use crate::namespaces::Namespaces;
 use crate::neighbour_tables::NeighbourTables;
 use crate::neighbours::Neighbours;
+use crate::network_configurations::NetworkConfigurations;
+use crate::next_hop_objects::NextHopObjects;
+use crate::prefixes::Prefixes;
 use crate::routes::Routes;
 use crate::rules::Rules;
 use netlink_family::{Both, Join, Joined, OwnedMessage};
 
-/// The tables of links, addresses, neighbours, routes, rules, neighbour tables and ids of network
-/// namespaces.
+/// The tables of links, addresses, neighbours, routes, rules, neighbour tables, ids of network
+/// namespaces, next hops, settings of links, and announced prefixes.
 #[derive(Clone, Copy, Debug, PartialEq, Eq)]
 pub struct RouteTables;
 
@@ -23,7 +26,10 @@ pub type AllTables = Both<Links, Both<Addresses, OtherTables>>;
 pub type OtherTables = Both<Neighbours, Both<Routes, LaterTables>>;
 
 /// The tables that follow those of routes.
-pub type LaterTables = Both<Rules, Both<NeighbourTables, Namespaces>>;
+pub type LaterTables = Both<Rules, Both<NeighbourTables, LastTables>>;
+
+/// The tables that follow those of neighbour tables.
+pub type LastTables = Both<Namespaces, Both<NextHopObjects, Both<NetworkConfigurations, Prefixes>>>;
 
 impl Join for RouteTables {
     type All = AllTables;

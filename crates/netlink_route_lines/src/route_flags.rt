@@ -64,10 +64,11 @@ fn hop_flags_text(alloc: Global, flags: u32) -> Result<String, AllocError>
     Ok(text)
 }
 
-/// Appends these names as a part of a line.
+/// Appends the names of the flags that are set, as a part of a line. Returns `AllocError` if an
+/// allocation fails.
 #[tactic(auto, unfolding(crate::specs::RouteFlags::hop_flags_text, netlink_words::specs::Parts::with_part))]
-pub(crate) fn push_hop_flags(alloc: Global, text: &mut String, flags: u32) -> Result<(), AllocError>
-    ensures { OnOk result (AddsPart text.old text.new (hop_flags_text flags)) }
+pub fn push_hop_flags(alloc: Global, text: &mut String, flags: u32) -> Result<(), AllocError>
+    ensures flags { OnOk result (AddsPart text.old text.new (hop_flags_text flags)) }
 {
     if flags == 0 {
         return Ok(());

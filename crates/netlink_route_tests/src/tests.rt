@@ -1,6 +1,6 @@
 //! Messages as the kernel sends them, and invalid ones. The bytes are written by hand from
-//! linux/netlink.h, rtnetlink.h, if_link.h, if_addr.h, neighbour.h, fib_rules.h and
-//! net_namespace.h, are in `examples/captured`, or are requests of `ip`.
+//! linux/netlink.h, rtnetlink.h, if_link.h, if_addr.h, neighbour.h, fib_rules.h, net_namespace.h,
+//! netconf.h and nexthop.h, are in `examples/captured`, or are requests of `ip`.
 
 mod calls;
 mod captured;
@@ -16,8 +16,10 @@ mod memory_refused;
 mod messages;
 mod names;
 mod neighbours;
+mod next_hop_objects;
 mod requests;
 mod routes;
 mod samples;
+mod settings;
 mod show;
 mod strings;

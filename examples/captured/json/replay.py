@@ -28,7 +28,8 @@ RTM_F_CLONED = 0x200
 
 # The words of `ip`, by the type without its last two bits. It asks for the type of this plus 2.
 WORDS = {16: "link show", 20: "addr show", 24: "route show table all", 28: "neigh show nud all"}
-WORDS |= {32: "rule show", 64: "ntable show", 88: "netns list-id"}
+WORDS |= {32: "rule show", 64: "ntable show", 80: "netconf show", 88: "netns list-id"}
+WORDS |= {104: "nexthop show", 116: "nexthop bucket show"}
 FAMILIES = {2: "-4 ", 10: "-6 ", 28: "-f mpls ", 128: "-4 ", 129: "-6 "}
 
 

@@ -1028,6 +1028,120 @@ pub const NETNSA_TARGET_NSID: Kind = Kind(4);
 /// The kind `NETNSA_CURRENT_NSID`.
 pub const NETNSA_CURRENT_NSID: Kind = Kind(5);
 
+// Next hops and buckets of groups, and `struct nhmsg`.
+/// The message type `RTM_NEWNEXTHOP`.
+pub const RTM_NEWNEXTHOP: u16 = 104;
+/// The message type `RTM_DELNEXTHOP`.
+pub const RTM_DELNEXTHOP: u16 = 105;
+/// The message type `RTM_GETNEXTHOP`.
+pub const RTM_GETNEXTHOP: u16 = 106;
+/// The message type `RTM_NEWNEXTHOPBUCKET`.
+pub const RTM_NEWNEXTHOPBUCKET: u16 = 116;
+/// The message type `RTM_DELNEXTHOPBUCKET`.
+pub const RTM_DELNEXTHOPBUCKET: u16 = 117;
+/// The message type `RTM_GETNEXTHOPBUCKET`.
+pub const RTM_GETNEXTHOPBUCKET: u16 = 118;
+/// The field `nh_family`.
+pub const NH_FAMILY: Field = Field(0x001);
+/// The field `nh_scope`.
+pub const NH_SCOPE: Field = Field(0x101);
+/// The field `nh_protocol`.
+pub const NH_PROTOCOL: Field = Field(0x201);
+/// The field `nh_flags`.
+pub const NH_FLAGS: Field = Field(0x403);
+/// The kind `NHA_ID`.
+pub const NHA_ID: Kind = Kind(1);
+/// The kind `NHA_GROUP`.
+pub const NHA_GROUP: Kind = Kind(2);
+/// The kind `NHA_GROUP_TYPE`.
+pub const NHA_GROUP_TYPE: Kind = Kind(3);
+/// The kind `NHA_BLACKHOLE`.
+pub const NHA_BLACKHOLE: Kind = Kind(4);
+/// The kind `NHA_OIF`.
+pub const NHA_OIF: Kind = Kind(5);
+/// The kind `NHA_GATEWAY`.
+pub const NHA_GATEWAY: Kind = Kind(6);
+/// The kind `NHA_ENCAP_TYPE`.
+pub const NHA_ENCAP_TYPE: Kind = Kind(7);
+/// The kind `NHA_ENCAP`.
+pub const NHA_ENCAP: Kind = Kind(8);
+/// The kind `NHA_GROUPS`.
+pub const NHA_GROUPS: Kind = Kind(9);
+/// The kind `NHA_MASTER`.
+pub const NHA_MASTER: Kind = Kind(10);
+/// The kind `NHA_FDB`.
+pub const NHA_FDB: Kind = Kind(11);
+/// The kind `NHA_RES_GROUP`.
+pub const NHA_RES_GROUP: Kind = Kind(12);
+/// The kind `NHA_RES_BUCKET`.
+pub const NHA_RES_BUCKET: Kind = Kind(13);
+/// The kind `NHA_OP_FLAGS`.
+pub const NHA_OP_FLAGS: Kind = Kind(14);
+/// The kind `NHA_GROUP_STATS`.
+pub const NHA_GROUP_STATS: Kind = Kind(15);
+/// The kind `NHA_HW_STATS_ENABLE`.
+pub const NHA_HW_STATS_ENABLE: Kind = Kind(16);
+/// The kind `NHA_HW_STATS_USED`.
+pub const NHA_HW_STATS_USED: Kind = Kind(17);
+/// The kind `NHA_RES_GROUP_BUCKETS`.
+pub const NHA_RES_GROUP_BUCKETS: Kind = Kind(1);
+/// The kind `NHA_RES_GROUP_IDLE_TIMER`.
+pub const NHA_RES_GROUP_IDLE_TIMER: Kind = Kind(2);
+/// The kind `NHA_RES_GROUP_UNBALANCED_TIMER`.
+pub const NHA_RES_GROUP_UNBALANCED_TIMER: Kind = Kind(3);
+/// The kind `NHA_RES_GROUP_UNBALANCED_TIME`.
+pub const NHA_RES_GROUP_UNBALANCED_TIME: Kind = Kind(4);
+/// The kind `NHA_RES_BUCKET_INDEX`.
+pub const NHA_RES_BUCKET_INDEX: Kind = Kind(1);
+/// The kind `NHA_RES_BUCKET_IDLE_TIME`.
+pub const NHA_RES_BUCKET_IDLE_TIME: Kind = Kind(2);
+/// The kind `NHA_RES_BUCKET_NH_ID`.
+pub const NHA_RES_BUCKET_NH_ID: Kind = Kind(3);
+
+// Settings of links, and `struct netconfmsg`.
+/// The message type `RTM_NEWNETCONF`.
+pub const RTM_NEWNETCONF: u16 = 80;
+/// The message type `RTM_DELNETCONF`.
+pub const RTM_DELNETCONF: u16 = 81;
+/// The message type `RTM_GETNETCONF`.
+pub const RTM_GETNETCONF: u16 = 82;
+/// The field `ncm_family`.
+pub const NCM_FAMILY: Field = Field(0x001);
+/// The kind `NETCONFA_IFINDEX`.
+pub const NETCONFA_IFINDEX: Kind = Kind(1);
+/// The kind `NETCONFA_FORWARDING`.
+pub const NETCONFA_FORWARDING: Kind = Kind(2);
+/// The kind `NETCONFA_RP_FILTER`.
+pub const NETCONFA_RP_FILTER: Kind = Kind(3);
+/// The kind `NETCONFA_MC_FORWARDING`.
+pub const NETCONFA_MC_FORWARDING: Kind = Kind(4);
+/// The kind `NETCONFA_PROXY_NEIGH`.
+pub const NETCONFA_PROXY_NEIGH: Kind = Kind(5);
+/// The kind `NETCONFA_IGNORE_ROUTES_WITH_LINKDOWN`.
+pub const NETCONFA_IGNORE_ROUTES_WITH_LINKDOWN: Kind = Kind(6);
+/// The kind `NETCONFA_INPUT`.
+pub const NETCONFA_INPUT: Kind = Kind(7);
+/// The kind `NETCONFA_BC_FORWARDING`.
+pub const NETCONFA_BC_FORWARDING: Kind = Kind(8);
+
+// Announced prefixes, and `struct prefixmsg`.
+/// The message type `RTM_NEWPREFIX`.
+pub const RTM_NEWPREFIX: u16 = 52;
+/// The field `prefix_family`.
+pub const PREFIX_FAMILY: Field = Field(0x001);
+/// The field `prefix_ifindex`.
+pub const PREFIX_IFINDEX: Field = Field(0x404);
+/// The field `prefix_type`.
+pub const PREFIX_TYPE: Field = Field(0x801);
+/// The field `prefix_len`.
+pub const PREFIX_LEN: Field = Field(0x901);
+/// The field `prefix_flags`.
+pub const PREFIX_FLAGS: Field = Field(0xa01);
+/// The kind `PREFIX_ADDRESS`.
+pub const PREFIX_ADDRESS: Kind = Kind(1);
+/// The kind `PREFIX_CACHEINFO`.
+pub const PREFIX_CACHEINFO: Kind = Kind(2);
+
 // Generic netlink's controller, and `struct genlmsghdr`.
 /// The message type `GENL_ID_CTRL`.
 pub const GENL_ID_CTRL: u16 = 16;

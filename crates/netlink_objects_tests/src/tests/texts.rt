@@ -37,3 +37,33 @@ fn strings(rt: HostRuntime) {
         }
     }
 }
+
+/// Returns the object with a number of these hundredths.
+fn number_text(alloc: Global, hundredths: u64) -> Result<String, std::alloc::AllocError> {
+    let mut object = Object::new(alloc);
+    object.put_hundredths("k", hundredths)?;
+    object.into_text(alloc)
+}
+
+/// Numbers of hundredths, and their objects.
+const NUMBERS: [(u64, &str); 9] = [
+    (0, "{\"k\":0}"),
+    (5, "{\"k\":0.05}"),
+    (10, "{\"k\":0.1}"),
+    (99, "{\"k\":0.99}"),
+    (100, "{\"k\":1}"),
+    (123, "{\"k\":1.23}"),
+    (150, "{\"k\":1.5}"),
+    (12000, "{\"k\":120}"),
+    (u64::MAX, "{\"k\":184467440737095516.15}"),
+];
+
+#[test]
+fn numbers(rt: HostRuntime) {
+    for (hundredths, text) in &NUMBERS {
+        match number_text(rt.alloc(), *hundredths) {
+            Ok(found) => assert_eq!(rt; found.as_str(), *text),
+            Err(_) => panic!(rt; "out of memory"),
+        }
+    }
+}

@@ -63,7 +63,7 @@ fn other_payloads_have_their_error(rt: HostRuntime) -> Result<(), Fail> {
     let alloc = rt.alloc();
     let unknown = FamilyError::UnknownType { message_type: 31 };
     assert!(rt; error_of(&rt, 31, &[])? == Some(unknown));
-    let rows: [(u16, usize, usize); 7] = [
+    let rows: [(u16, usize, usize); 11] = [
         (19, 16, 15),
         (22, 8, 7),
         (30, 12, 11),
@@ -71,6 +71,10 @@ fn other_payloads_have_their_error(rt: HostRuntime) -> Result<(), Fail> {
         (33, 12, 11),
         (67, 4, 3),
         (89, 4, 3),
+        (52, 12, 11),
+        (81, 4, 3),
+        (105, 8, 7),
+        (117, 8, 7),
     ];
     for (message_type, expected, received) in rows.iter() {
         let error = FamilyError::HeaderShort {

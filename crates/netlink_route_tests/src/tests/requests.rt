@@ -7,7 +7,7 @@ use std::alloc::Global;
 use std::test::Fail;
 
 // A message type, a payload, and the size of the header if the payload is rejected, else 0.
-const PAYLOADS: [(u16, &[u8], usize); 23] = [
+const PAYLOADS: [(u16, &[u8], usize); 31] = [
     (18, &[17, 0, 0, 0], 0),
     (22, &[0, 7, 8, 9], 0),
     (26, &[10], 0),
@@ -31,6 +31,14 @@ const PAYLOADS: [(u16, &[u8], usize); 23] = [
     (90, &[0; 3], 0),
     (90, &[], 4),
     (88, &[0; 3], 4),
+    (82, &[2], 0),
+    (82, &[], 4),
+    (80, &[0; 3], 4),
+    (106, &[10, 0, 0, 0], 0),
+    (118, &[10], 0),
+    (118, &[0; 5], 8),
+    (116, &[0; 4], 8),
+    (52, &[0; 4], 12),
 ];
 
 #[test]

@@ -4,6 +4,7 @@ use netlink_family::{AttributeError, FamilyError, Reason, TOP};
 use netlink_packet_core::{NetlinkDeserializable, NetlinkHeader};
 use netlink_route::RouteMessage;
 use std::alloc::Global;
+use std::test::Fail;
 
 /// The link "lo" with an MTU of 65536, its address (padding 0xaa), the kind "veth" in a nest
 /// without `NLA_F_NESTED`, and an empty attribute of kind 0x8041.
@@ -67,6 +68,22 @@ pub(crate) fn decoded(
     payload: &[u8],
 ) -> Result<RouteMessage, FamilyError> {
     RouteMessage::deserialize(alloc, &of_type(message_type), payload)
+}
+
+/// Returns the error text of a payload of this message type: a header of zeros, and attributes.
+/// Returns no text if the payload is decoded.
+pub(crate) fn error_text(
+    alloc: Global,
+    message_type: u16,
+    header_len: usize,
+    attributes: &[u8],
+) -> Result<String, Fail> {
+    let mut payload = vec![in alloc; 0u8; header_len]?;
+    payload.extend_from_slice(attributes)?;
+    match decoded(alloc, message_type, &payload).err() {
+        None => Ok(String::new(alloc)),
+        Some(error) => Ok(error.to_string(alloc)?),
+    }
 }
 
 /// Returns the error of an attribute outside any nest.

@@ -1,0 +1,4 @@
+pub mod Bucket
+pub mod Group
+pub mod NextHop
+pub mod Time
