@@ -1,6 +1,7 @@
 //! Messages as the kernel sends them, and invalid ones. The bytes are written by hand from
 //! linux/netlink.h, rtnetlink.h, if_link.h, if_addr.h, neighbour.h, fib_rules.h, net_namespace.h,
-//! netconf.h and nexthop.h, are in `examples/captured`, or are requests of `ip`.
+//! netconf.h, nexthop.h, pkt_sched.h, pkt_cls.h and gen_stats.h, are in `examples/captured`, are what a
+//! kernel sent while `tc` ran, or are requests of `ip`.
 
 mod calls;
 mod captured;
@@ -23,3 +24,6 @@ mod samples;
 mod settings;
 mod show;
 mod strings;
+mod traffic;
+mod traffic_actions;
+mod traffic_samples;

@@ -63,7 +63,7 @@ fn other_payloads_have_their_error(rt: HostRuntime) -> Result<(), Fail> {
     let alloc = rt.alloc();
     let unknown = FamilyError::UnknownType { message_type: 31 };
     assert!(rt; error_of(&rt, 31, &[])? == Some(unknown));
-    let rows: [(u16, usize, usize); 11] = [
+    let rows: [(u16, usize, usize); 16] = [
         (19, 16, 15),
         (22, 8, 7),
         (30, 12, 11),
@@ -75,6 +75,11 @@ fn other_payloads_have_their_error(rt: HostRuntime) -> Result<(), Fail> {
         (81, 4, 3),
         (105, 8, 7),
         (117, 8, 7),
+        (37, 20, 19),
+        (41, 20, 4),
+        (46, 20, 19),
+        (101, 20, 16),
+        (49, 4, 3),
     ];
     for (message_type, expected, received) in rows.iter() {
         let error = FamilyError::HeaderShort {
