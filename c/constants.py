@@ -13,11 +13,12 @@ from ported import has_headers
 from tally import note
 
 INCLUDES = ["linux/rtnetlink.h", "linux/if_link.h", "linux/if_tunnel.h", "linux/veth.h", "linux/if_addr.h", "linux/neighbour.h",
-            "linux/fib_rules.h", "linux/net_namespace.h", "linux/netconf.h", "linux/nexthop.h", "linux/genetlink.h",
-            "linux/netlink.h", "linux/lwtunnel.h", "linux/mpls_iptunnel.h", "linux/ila.h", "linux/seg6_iptunnel.h",
-            "linux/seg6_local.h", "linux/rpl_iptunnel.h", "linux/ioam6_iptunnel.h"]
-# Fewer than this are a failure. The headers of Linux 6.1 have 575 of the 599 constants, and later ones more.
-KNOWN_AT_LEAST = 565
+            "linux/fib_rules.h", "linux/net_namespace.h", "linux/netconf.h", "linux/nexthop.h", "linux/pkt_sched.h",
+            "linux/pkt_cls.h", "linux/gen_stats.h", "linux/genetlink.h", "linux/netlink.h", "linux/lwtunnel.h",
+            "linux/mpls_iptunnel.h", "linux/ila.h", "linux/seg6_iptunnel.h", "linux/seg6_local.h", "linux/rpl_iptunnel.h",
+            "linux/ioam6_iptunnel.h"]
+# Fewer than this are a failure. The headers of Linux 6.1 have 653 of the 677 constants, and later ones more.
+KNOWN_AT_LEAST = 643
 
 
 def tables():

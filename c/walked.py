@@ -13,7 +13,7 @@ from tally import note
 CAPTURED = os.path.join(TOP, "examples", "captured")
 # The name of the shape of a form, if it has another one.
 NAMES = {"S32": "i32", "S64": "i64", "STRING": "str", "ADDRESS": "ip", "LEAST": "min", "HEADER": "header nest"}
-INFO, INFO_KIND, INFO_DATA = 1, 1, 2  # the policy of IFLA_LINKINFO; IFLA_INFO_KIND, IFLA_INFO_DATA
+INFO_KIND, INFO_DATA = 1, 2  # IFLA_INFO_KIND or TCA_KIND, IFLA_INFO_DATA or TCA_OPTIONS
 ENCAP_TYPE, ENCAP = 21, 22  # RTA_ENCAP_TYPE, RTA_ENCAP, of policy 0
 ANY_KIND = 0xFFFF
 LINES_AT_LEAST = 20000
@@ -35,16 +35,16 @@ class Family:
         self.size = size
         found = [*tables().rows_of(kinds, 0)]
         self.rows = {it[:2]: it[2:] for it in found if len(it) == 5}
-        self.links = dict(it for it in found if len(it) == 2)
+        self.links = {(it[3], it[1]): it[2] for it in found if it[0] == "="}
         self.encapsulations = {it[1]: it[2] for it in found if it[0] == "&"}
 
     def row(self, policy, kind, block):
         """Returns the row of a kind in a block."""
-        if self.links and (policy, kind) == (INFO, INFO_DATA):
+        if self.links and kind == INFO_DATA:
             first = next((value for it, value in attributes(block) if it & 0x3FFF == INFO_KIND), b"")
             name = first.partition(b"\0")[0].decode()
-            if name in self.links:
-                return "FORM_NEST", 0, self.links[name]
+            if (policy, name) in self.links:
+                return "FORM_NEST", 0, self.links[policy, name]
         if self.encapsulations and (policy, kind) == (0, ENCAP):
             first = next((value for it, value in attributes(block) if it & 0x3FFF == ENCAP_TYPE), b"")
             if len(first) == 2 and (chosen := self.encapsulations.get(int.from_bytes(first, "little"))):

@@ -217,11 +217,10 @@ static void add_row(struct draft_input *draft, const struct model_row *row, uint
     write_number(draft->bytes + at, 2, false, draft->size - at);
 }
 
-/* Adds the kind of a link and, before it or after it, its data. */
-static void add_link(struct draft_input *draft, uint32_t depth)
+/* Adds the kind of a link or of a discipline and, before it or after it, its data. */
+static void add_link(struct draft_input *draft, const struct model_link *link, uint32_t depth)
 {
-    const struct model_link *link = &model_links[below(LINKS)];
-    const struct model_row data = { 0, 1, NLP_IFLA_INFO_DATA, FORM_NEST, 0, link->policy };
+    const struct model_row data = { link->family, link->within, NLP_IFLA_INFO_DATA, FORM_NEST, 0, link->policy };
     const size_t size = strlen(link->name), start = draft->size;
     const uint32_t order = below(4);
     if (order == 0)
@@ -234,6 +233,17 @@ static void add_link(struct draft_input *draft, uint32_t depth)
     add_padding(draft, start);
     if (order > 1)
         add_row(draft, &data, depth);
+}
+
+/* Adds, most of the time, one of the kinds that choose the shape of data in a policy, if it has some. */
+static void add_chosen(struct draft_input *draft, uint32_t family, uint16_t policy, uint32_t depth)
+{
+    uint32_t count = 0, chosen = 0;
+    for (uint32_t i = 0; i < LINKS; i++)
+        if (model_links[i].family == family && model_links[i].within == policy && below(++count) == 0)
+            chosen = i;
+    if (count > 0 && below(8) != 0)
+        add_link(draft, &model_links[chosen], depth);
 }
 
 /* Adds the type of an encapsulation and, before it or after it, the encapsulation. */
@@ -257,8 +267,7 @@ static void add_encapsulation(struct draft_input *draft, uint32_t depth)
 static void add_rows(struct draft_input *draft, uint32_t family, uint16_t policy, uint32_t depth)
 {
     const size_t start = draft->size;
-    if (family == 0 && policy == 1 && below(8) != 0)
-        add_link(draft, depth);
+    add_chosen(draft, family, policy, depth);
     if (family == ROUTES && policy == 0 && draft->size < 350 && below(2) != 0)
         add_encapsulation(draft, depth);
     for (uint32_t left = below(depth == 0 ? 7 : 4); left > 0 && draft->size < 350; left--) {

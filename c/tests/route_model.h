@@ -68,19 +68,21 @@ static inline struct model_row encapsulation_in(const uint8_t *block, size_t len
     return row;
 }
 
-/* Returns the row of a kind in a block. The first IFLA_INFO_KIND chooses what IFLA_INFO_DATA is. */
+/* Returns the row of a kind in a block. The first IFLA_INFO_KIND chooses what IFLA_INFO_DATA is, and the first TCA_KIND
+ * what TCA_OPTIONS is, which have the same numbers. */
 static inline struct model_row row_in(int family, uint16_t policy, const uint8_t *block, size_t len, uint16_t kind)
 {
     struct model_row row = row_of(family, policy, kind & NLP_KIND_MASK);
     struct nlp_attr chooser;
     if (family == ROUTES && policy == 0 && row.kind == NLP_RTA_ENCAP)
         return encapsulation_in(block, len, row);
-    if (family != 0 || policy != 1 || row.kind != NLP_IFLA_INFO_DATA || !first_of(block, len, NLP_IFLA_INFO_KIND, &chooser))
+    if (row.kind != NLP_IFLA_INFO_DATA || !first_of(block, len, NLP_IFLA_INFO_KIND, &chooser))
         return row;
     const uint8_t *name = block + chooser.offset, *end = memchr(name, 0, chooser.size);
     const size_t size = end == NULL ? chooser.size : (size_t)(end - name);
     for (size_t i = 0; i < LINKS; i++)
-        if (strlen(model_links[i].name) == size && memcmp(model_links[i].name, name, size) == 0) {
+        if (model_links[i].family == family && model_links[i].within == policy && strlen(model_links[i].name) == size
+            && memcmp(model_links[i].name, name, size) == 0) {
             row.form = FORM_NEST;
             row.inner = model_links[i].policy;
         }

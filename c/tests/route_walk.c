@@ -122,6 +122,13 @@ static void shapes(void)
         { NLP_RTM_NEWNEXTHOPBUCKET, 2, NLP_NHA_RES_BUCKET_IDLE_TIME, { 5, 0, 0 }, "NHA_RES_BUCKET_IDLE_TIME" },
         { NLP_RTM_NEWNETCONF, 0, NLP_NETCONFA_IFINDEX, { 4, 0, 0 }, "NETCONFA_IFINDEX" },
         { NLP_RTM_NEWPREFIX, 0, NLP_PREFIX_CACHEINFO, { 15, 8, 0 }, "PREFIX_CACHEINFO" },
+        { NLP_RTM_NEWQDISC, 0, NLP_TCA_OPTIONS, { 0, 0, 0 }, "TCA_OPTIONS without a kind" },
+        { NLP_RTM_NEWQDISC, 5, NLP_TCA_HTB_CEIL64, { 5, 0, 0 }, "TCA_HTB_CEIL64" },
+        { NLP_RTM_NEWTCLASS, 1, NLP_TCA_STATS_QUEUE, { 15, 20, 0 }, "TCA_STATS_QUEUE" },
+        { NLP_RTM_NEWTFILTER, 0, NLP_TCA_DUMP_FLAGS, { 14, 8, 0 }, "TCA_DUMP_FLAGS" },
+        { NLP_RTM_NEWCHAIN, 0, NLP_TCA_CHAIN, { 3, 0, 0 }, "TCA_CHAIN" },
+        { NLP_RTM_NEWACTION, 2, 32, { 16, 0, 3 }, "an action" },
+        { NLP_RTM_NEWACTION, 3, NLP_TCA_ACT_STATS, { 16, 0, 1 }, "TCA_ACT_STATS" },
     };
     for (size_t at = 0; at < sizeof rows / sizeof rows[0]; at++) {
         const struct nlp_view view = block_at(rows[at].type, rows[at].policy, 0, 0);

@@ -32,7 +32,7 @@ CAPPED, TLVS = 0x100, 0x200  # NLM_F_CAPPED, NLM_F_ACK_TLVS
 # The families by their message types, of which the one with the lowest bits 2 asks, and may have a short payload.
 FAMILIES = {it[0]: it[1:] for it in families()}
 TYPES = {base + step: base for base in FAMILIES for step in range(4)}
-for unused in (23, 27, 31, 35, 53, 54, 55, 65, 83, 91, 107, 119):
+for unused in (23, 27, 31, 35, 39, 43, 47, 51, 53, 54, 55, 65, 83, 91, 103, 107, 119):
     del TYPES[unused]
 # The families of messages about addresses, routes and neighbours that a table describes.
 DESCRIBED = (0, 2, 7, 10, 28, 128, 129)
@@ -62,11 +62,12 @@ def value_of(block, kind):
 
 def row_of(kinds, block, kind, top):
     """Returns the name, the form, its number and the kinds inside of a kind among others in a block. The kind of a link
-    decides what IFLA_INFO_DATA has, and the type of an encapsulation what RTA_ENCAP has: the first one."""
+    decides what IFLA_INFO_DATA has, TCA_KIND what TCA_OPTIONS has, which have the same numbers, and the type of an
+    encapsulation what RTA_ENCAP has: the first one."""
     if kinds is None:  # a next hop, whose kind is its flags and its hops
         return None, "header", 4, top
     kind &= 0x3FFF
-    found = next((it for it in kinds if it[0] == str(kind)), None)
+    found = next((it for it in kinds if it[0] in (str(kind), "*")), None)
     if found is None:
         return None, "bytes", 0, None
     _number, name, form, size, inside = found

@@ -11,8 +11,8 @@ INTEGERS = {"u8": 1, "u16": 2, "u32": 4, "u64": 8, "s32": 4, "s64": 8, "be16": 2
 
 def families():
     """Returns the first message type, the size of the header, the fields and the kinds of each family, and the same for
-    each line `also` of a family. A kind is a list: its number, its name, its form, the number after that, and the kinds in
-    it. The number of an encapsulation follows a `&`, so that it is no kind."""
+    each line `also` of a family. A kind is a list: its number, or `*` for any, its name, its form, the number after that,
+    and the kinds in it. The number of an encapsulation follows a `&`, so that it is no kind."""
     found = []
     with open(TABLE, encoding="utf-8") as file:
         for line in file:

@@ -41,12 +41,15 @@ SHORT_ERROR = b"at byte 52, in policy 6: attribute 5 has a value of 1 bytes inst
 # A request of `ip` with other bytes than zeros in the padding after RTA_ENCAP_TYPE. The canonical form has zeros there.
 PADDED, PADDING = "kinds.tsv, line 117, frame 0", slice(66, 68)
 # The crate of each protocol, and its message types: NETLINK_ROUTE, with RTM_NEWLINK to RTM_GETADDR, RTM_NEWROUTE to
-# RTM_GETROUTE, RTM_NEWNEIGH to RTM_GETNEIGH, RTM_NEWRULE to RTM_GETRULE, RTM_NEWPREFIX, RTM_NEWNEIGHTBL,
-# RTM_GETNEIGHTBL and RTM_SETNEIGHTBL, RTM_NEWNETCONF to RTM_GETNETCONF, RTM_NEWNSID to RTM_GETNSID, RTM_NEWNEXTHOP to
-# RTM_GETNEXTHOP, and RTM_NEWNEXTHOPBUCKET to RTM_GETNEXTHOPBUCKET; and NETLINK_GENERIC, with GENL_ID_CTRL.
+# RTM_GETROUTE, RTM_NEWNEIGH to RTM_GETNEIGH, RTM_NEWRULE to RTM_GETRULE, those of traffic control and its actions,
+# RTM_NEWPREFIX, RTM_NEWNEIGHTBL, RTM_GETNEIGHTBL and RTM_SETNEIGHTBL, RTM_NEWNETCONF to RTM_GETNETCONF, RTM_NEWNSID to
+# RTM_GETNSID, RTM_NEWCHAIN to RTM_GETCHAIN, RTM_NEWNEXTHOP to RTM_GETNEXTHOP, and RTM_NEWNEXTHOPBUCKET to
+# RTM_GETNEXTHOPBUCKET; and NETLINK_GENERIC, with GENL_ID_CTRL.
 CRATES = {"0": "netlink_route_tests", "16": "netlink_generic_tests"}
 ROUTE = [*range(16, 23), *range(24, 27), *range(28, 31), *range(32, 35), 52, 64, 66, 67, *range(80, 83), *range(88, 91)]
 ROUTE += [*range(104, 107), *range(116, 119)]
+# Disciplines, classes, filters, actions, and chains of filters.
+ROUTE += [*range(36, 39), *range(40, 43), *range(44, 47), *range(48, 51), *range(100, 103)]
 FAMILIES = {"0": ROUTE, "16": [16]}
 
 HEADER_SIZE = 16

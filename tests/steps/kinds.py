@@ -6,8 +6,9 @@ be the one that this script makes: the names, and the values by their form and b
 byte short or long, or has another form, must be rejected, with the error text that this script makes: with the kind, the
 offset of the attribute, the policy and the sizes. So must a frame whose nest is cut within an attribute.
 
-The attributes of a kind of link are in IFLA_INFO_DATA, before or after IFLA_INFO_KIND. The first kind counts. Those of an
-encapsulation are in RTA_ENCAP, before or after RTA_ENCAP_TYPE, and the first type counts.
+The attributes of a kind of link are in IFLA_INFO_DATA, before or after IFLA_INFO_KIND. The first kind counts. So it is
+with TCA_OPTIONS and TCA_KIND, which have the same numbers. The attributes of an encapsulation are in RTA_ENCAP, before or
+after RTA_ENCAP_TYPE, and the first type counts.
 """
 
 import os
@@ -24,7 +25,8 @@ NORMALIZES = "tests::captured::standard_input_is_normalized"
 SHOWS = "tests::captured::standard_input_is_shown"
 RESULT = b"\ntest result: ok\n"
 NESTED, QUERY = 0x8000, 0x4000  # NLA_F_NESTED and the other flag bit, NLA_F_NET_BYTEORDER
-INFO_KIND, INFO_DATA, GATEWAY = 1, 2, 5  # IFLA_INFO_KIND, IFLA_INFO_DATA, RTA_GATEWAY
+INFO_KIND, INFO_DATA, GATEWAY = 1, 2, 5  # IFLA_INFO_KIND or TCA_KIND, IFLA_INFO_DATA or TCA_OPTIONS, RTA_GATEWAY
+NUMBERS = 0, 7, 0x3FFF  # of attributes that may have any number
 ENCAP_TYPE, ENCAP = 21, 22  # RTA_ENCAP_TYPE, RTA_ENCAP
 
 
@@ -63,31 +65,33 @@ def indented(lines):
 
 def nests(kind, name, policy, inside, offset, header=b""):
     """Yields the cases of a nest with these kinds, after a header."""
-    first = f"{name}: {header.hex()}" if header else f"{name}:"
     start = offset + 4 + len(header)
     for block, lines, error in blocks(inside, start, policy):
-        lines = [first, *indented(lines)] if lines else None
-        yield attribute(kind, header + block), lines, error
-        yield attribute(kind | NESTED, header + block), lines, error
-    cut = attribute(int(inside[0][0]), bytes(4))[:-1]
+        for number in (kind, kind | NESTED):
+            label = str(number) if name == "-" else name
+            first = f"{label}: {header.hex()}" if header else f"{label}:"
+            yield attribute(number, header + block), [first, *indented(lines)] if lines else None, error
+    cut = attribute(1, bytes(4))[:-1]
     error = f"at byte {start}, in policy {policy}: an attribute of 8 bytes is truncated to 7"
     yield attribute(kind, header + cut), None, error
 
 
-def links(name, policy, inside, offset):
-    """Yields the cases of a kind of link, within IFLA_LINKINFO."""
+def links(name, policy, inside, offset, names):
+    """Yields the cases of a kind of link, within IFLA_LINKINFO, or of a discipline. `names` has those of the kinds beside
+    it."""
     with_nul, without, other = (attribute(INFO_KIND, it) for it in (name.encode() + b"\0", name.encode(), b"other"))
-    text = f"IFLA_INFO_KIND: {name}"
+    data_name, kind_name = names[str(INFO_DATA)], names[str(INFO_KIND)]
+    text = f"{kind_name}: {name}"
     for block, lines, error in blocks(inside, offset + len(with_nul) + 4, policy):
-        lines = [text, "IFLA_INFO_DATA:", *indented(lines)] if lines else None
+        lines = [text, f"{data_name}:", *indented(lines)] if lines else None
         yield with_nul + attribute(INFO_DATA, block), lines, error
     for block, lines, error in blocks(inside, offset + 4, policy):
-        lines = ["IFLA_INFO_DATA:", *indented(lines), text] if lines else None
+        lines = [f"{data_name}:", *indented(lines), text] if lines else None
         yield attribute(INFO_DATA | NESTED, block) + without, lines, error
     data = attribute(INFO_DATA, b"\1")
     error = f"at byte {offset + len(without + other) + 4}, in policy {policy}: 1 bytes are too few for an attribute"
     yield without + other + data, None, error
-    yield other + without + data, ["IFLA_INFO_KIND: other", text, "IFLA_INFO_DATA: 01"], None
+    yield other + without + data, [f"{kind_name}: other", text, f"{data_name}: 01"], None
 
 
 def encapsulations(number, policy, inside, offset):
@@ -149,17 +153,19 @@ def hops(kind, name, policy, offset):
 def blocks(kinds, offset, policy):
     """Yields a block, and the lines of its text or None, and the text of its error or None, for each case of each kind.
     `offset` is that of the block."""
+    names = {it[0]: it[1] for it in kinds}
     for kind, name, form, size, inside in kinds:
         if form == "link":
-            yield from links(name, size, inside, offset)
+            yield from links(name, size, inside, offset, names)
             continue
         if form == "encapsulation":
             yield from encapsulations(int(kind[1:]), size, inside, offset)
             continue
-        kind = int(kind)
         if form == "nest":
-            yield from nests(kind, name, size, inside, offset)
+            for number in NUMBERS if kind == "*" else [int(kind)]:
+                yield from nests(number, name, size, inside, offset)
             continue
+        kind = int(kind)
         if form == "header":
             header = bytes(range(1, size + 1))
             yield from nests(kind, name, 0, inside, offset, header)

@@ -1142,6 +1142,166 @@ pub const PREFIX_ADDRESS: Kind = Kind(1);
 /// The kind `PREFIX_CACHEINFO`.
 pub const PREFIX_CACHEINFO: Kind = Kind(2);
 
+// Traffic control, and `struct tcmsg`.
+/// The message type `RTM_NEWQDISC`.
+pub const RTM_NEWQDISC: u16 = 36;
+/// The message type `RTM_DELQDISC`.
+pub const RTM_DELQDISC: u16 = 37;
+/// The message type `RTM_GETQDISC`.
+pub const RTM_GETQDISC: u16 = 38;
+/// The message type `RTM_NEWTCLASS`.
+pub const RTM_NEWTCLASS: u16 = 40;
+/// The message type `RTM_DELTCLASS`.
+pub const RTM_DELTCLASS: u16 = 41;
+/// The message type `RTM_GETTCLASS`.
+pub const RTM_GETTCLASS: u16 = 42;
+/// The message type `RTM_NEWTFILTER`.
+pub const RTM_NEWTFILTER: u16 = 44;
+/// The message type `RTM_DELTFILTER`.
+pub const RTM_DELTFILTER: u16 = 45;
+/// The message type `RTM_GETTFILTER`.
+pub const RTM_GETTFILTER: u16 = 46;
+/// The message type `RTM_NEWCHAIN`.
+pub const RTM_NEWCHAIN: u16 = 100;
+/// The message type `RTM_DELCHAIN`.
+pub const RTM_DELCHAIN: u16 = 101;
+/// The message type `RTM_GETCHAIN`.
+pub const RTM_GETCHAIN: u16 = 102;
+/// The field `tcm_family`.
+pub const TCM_FAMILY: Field = Field(0x001);
+/// The field `tcm_ifindex`.
+pub const TCM_IFINDEX: Field = Field(0x404);
+/// The field `tcm_handle`.
+pub const TCM_HANDLE: Field = Field(0x803);
+/// The field `tcm_parent`.
+pub const TCM_PARENT: Field = Field(0xc03);
+/// The field `tcm_info`.
+pub const TCM_INFO: Field = Field(0x1003);
+/// The kind `TCA_KIND`.
+pub const TCA_KIND: Kind = Kind(1);
+/// The kind `TCA_OPTIONS`.
+pub const TCA_OPTIONS: Kind = Kind(2);
+/// The kind `TCA_STATS`.
+pub const TCA_STATS: Kind = Kind(3);
+/// The kind `TCA_XSTATS`.
+pub const TCA_XSTATS: Kind = Kind(4);
+/// The kind `TCA_RATE`.
+pub const TCA_RATE: Kind = Kind(5);
+/// The kind `TCA_FCNT`.
+pub const TCA_FCNT: Kind = Kind(6);
+/// The kind `TCA_STATS2`.
+pub const TCA_STATS2: Kind = Kind(7);
+/// The kind `TCA_STAB`.
+pub const TCA_STAB: Kind = Kind(8);
+/// The kind `TCA_DUMP_INVISIBLE`.
+pub const TCA_DUMP_INVISIBLE: Kind = Kind(10);
+/// The kind `TCA_CHAIN`.
+pub const TCA_CHAIN: Kind = Kind(11);
+/// The kind `TCA_HW_OFFLOAD`.
+pub const TCA_HW_OFFLOAD: Kind = Kind(12);
+/// The kind `TCA_INGRESS_BLOCK`.
+pub const TCA_INGRESS_BLOCK: Kind = Kind(13);
+/// The kind `TCA_EGRESS_BLOCK`.
+pub const TCA_EGRESS_BLOCK: Kind = Kind(14);
+/// The kind `TCA_DUMP_FLAGS`.
+pub const TCA_DUMP_FLAGS: Kind = Kind(15);
+/// The kind `TCA_EXT_WARN_MSG`.
+pub const TCA_EXT_WARN_MSG: Kind = Kind(16);
+/// The kind `TCA_STATS_BASIC`.
+pub const TCA_STATS_BASIC: Kind = Kind(1);
+/// The kind `TCA_STATS_RATE_EST`.
+pub const TCA_STATS_RATE_EST: Kind = Kind(2);
+/// The kind `TCA_STATS_QUEUE`.
+pub const TCA_STATS_QUEUE: Kind = Kind(3);
+/// The kind `TCA_STATS_APP`.
+pub const TCA_STATS_APP: Kind = Kind(4);
+/// The kind `TCA_STATS_RATE_EST64`.
+pub const TCA_STATS_RATE_EST64: Kind = Kind(5);
+/// The kind `TCA_STATS_BASIC_HW`.
+pub const TCA_STATS_BASIC_HW: Kind = Kind(7);
+/// The kind `TCA_STATS_PKT64`.
+pub const TCA_STATS_PKT64: Kind = Kind(8);
+/// The kind `TCA_STAB_BASE`.
+pub const TCA_STAB_BASE: Kind = Kind(1);
+/// The kind `TCA_STAB_DATA`.
+pub const TCA_STAB_DATA: Kind = Kind(2);
+/// The kind `TCA_FQ_CODEL_TARGET`.
+pub const TCA_FQ_CODEL_TARGET: Kind = Kind(1);
+/// The kind `TCA_FQ_CODEL_LIMIT`.
+pub const TCA_FQ_CODEL_LIMIT: Kind = Kind(2);
+/// The kind `TCA_FQ_CODEL_INTERVAL`.
+pub const TCA_FQ_CODEL_INTERVAL: Kind = Kind(3);
+/// The kind `TCA_FQ_CODEL_ECN`.
+pub const TCA_FQ_CODEL_ECN: Kind = Kind(4);
+/// The kind `TCA_FQ_CODEL_FLOWS`.
+pub const TCA_FQ_CODEL_FLOWS: Kind = Kind(5);
+/// The kind `TCA_FQ_CODEL_QUANTUM`.
+pub const TCA_FQ_CODEL_QUANTUM: Kind = Kind(6);
+/// The kind `TCA_FQ_CODEL_CE_THRESHOLD`.
+pub const TCA_FQ_CODEL_CE_THRESHOLD: Kind = Kind(7);
+/// The kind `TCA_FQ_CODEL_DROP_BATCH_SIZE`.
+pub const TCA_FQ_CODEL_DROP_BATCH_SIZE: Kind = Kind(8);
+/// The kind `TCA_FQ_CODEL_MEMORY_LIMIT`.
+pub const TCA_FQ_CODEL_MEMORY_LIMIT: Kind = Kind(9);
+/// The kind `TCA_FQ_CODEL_CE_THRESHOLD_SELECTOR`.
+pub const TCA_FQ_CODEL_CE_THRESHOLD_SELECTOR: Kind = Kind(10);
+/// The kind `TCA_FQ_CODEL_CE_THRESHOLD_MASK`.
+pub const TCA_FQ_CODEL_CE_THRESHOLD_MASK: Kind = Kind(11);
+/// The kind `TCA_HTB_PARMS`.
+pub const TCA_HTB_PARMS: Kind = Kind(1);
+/// The kind `TCA_HTB_INIT`.
+pub const TCA_HTB_INIT: Kind = Kind(2);
+/// The kind `TCA_HTB_CTAB`.
+pub const TCA_HTB_CTAB: Kind = Kind(3);
+/// The kind `TCA_HTB_RTAB`.
+pub const TCA_HTB_RTAB: Kind = Kind(4);
+/// The kind `TCA_HTB_DIRECT_QLEN`.
+pub const TCA_HTB_DIRECT_QLEN: Kind = Kind(5);
+/// The kind `TCA_HTB_RATE64`.
+pub const TCA_HTB_RATE64: Kind = Kind(6);
+/// The kind `TCA_HTB_CEIL64`.
+pub const TCA_HTB_CEIL64: Kind = Kind(7);
+/// The kind `TCA_HTB_OFFLOAD`.
+pub const TCA_HTB_OFFLOAD: Kind = Kind(9);
+
+// Actions of traffic control, and `struct tcamsg`.
+/// The message type `RTM_NEWACTION`.
+pub const RTM_NEWACTION: u16 = 48;
+/// The message type `RTM_DELACTION`.
+pub const RTM_DELACTION: u16 = 49;
+/// The message type `RTM_GETACTION`.
+pub const RTM_GETACTION: u16 = 50;
+/// The field `tca_family`.
+pub const TCA_FAMILY: Field = Field(0x001);
+/// The kind `TCA_ROOT_TAB`.
+pub const TCA_ROOT_TAB: Kind = Kind(1);
+/// The kind `TCA_ROOT_FLAGS`.
+pub const TCA_ROOT_FLAGS: Kind = Kind(2);
+/// The kind `TCA_ROOT_COUNT`.
+pub const TCA_ROOT_COUNT: Kind = Kind(3);
+/// The kind `TCA_ROOT_TIME_DELTA`.
+pub const TCA_ROOT_TIME_DELTA: Kind = Kind(4);
+/// The kind `TCA_ROOT_EXT_WARN_MSG`.
+pub const TCA_ROOT_EXT_WARN_MSG: Kind = Kind(5);
+/// The kind `TCA_ACT_KIND`.
+pub const TCA_ACT_KIND: Kind = Kind(1);
+/// The kind `TCA_ACT_OPTIONS`.
+pub const TCA_ACT_OPTIONS: Kind = Kind(2);
+/// The kind `TCA_ACT_INDEX`.
+pub const TCA_ACT_INDEX: Kind = Kind(3);
+/// The kind `TCA_ACT_STATS`.
+pub const TCA_ACT_STATS: Kind = Kind(4);
+/// The kind `TCA_ACT_COOKIE`.
+pub const TCA_ACT_COOKIE: Kind = Kind(6);
+/// The kind `TCA_ACT_FLAGS`.
+pub const TCA_ACT_FLAGS: Kind = Kind(7);
+/// The kind `TCA_ACT_HW_STATS`.
+pub const TCA_ACT_HW_STATS: Kind = Kind(8);
+/// The kind `TCA_ACT_USED_HW_STATS`.
+pub const TCA_ACT_USED_HW_STATS: Kind = Kind(9);
+/// The kind `TCA_ACT_IN_HW_COUNT`.
+pub const TCA_ACT_IN_HW_COUNT: Kind = Kind(10);
+
 // Generic netlink's controller, and `struct genlmsghdr`.
 /// The message type `GENL_ID_CTRL`.
 pub const GENL_ID_CTRL: u16 = 16;
