@@ -26,7 +26,7 @@ SHOWS = "tests::captured::standard_input_is_shown"
 RESULT = b"\ntest result: ok\n"
 NESTED, QUERY = 0x8000, 0x4000  # NLA_F_NESTED and the other flag bit, NLA_F_NET_BYTEORDER
 INFO_KIND, INFO_DATA, GATEWAY = 1, 2, 5  # IFLA_INFO_KIND or TCA_KIND, IFLA_INFO_DATA or TCA_OPTIONS, RTA_GATEWAY
-NUMBERS = 0, 7, 0x3FFF  # of attributes that may have any number
+NUMBERS = 0, 0x3FFF  # of attributes that may have any number
 ENCAP_TYPE, ENCAP = 21, 22  # RTA_ENCAP_TYPE, RTA_ENCAP
 
 
