@@ -1,5 +1,6 @@
 //! Messages of route netlink (linux/rtnetlink.h): links, addresses, neighbours, routes, rules,
-//! neighbour tables, ids of network namespaces, next hops, settings of links, and announced prefixes.
+//! neighbour tables, ids of network namespaces, next hops, settings of links, announced prefixes, and
+//! traffic control with its actions.
 //! Each family is a table in a module of its own, with the constants of its header file.
 //! `RouteMessage` joins them.
 #![tactic(auto)]
@@ -21,6 +22,8 @@ mod route;
 mod route_rows;
 pub mod routes;
 pub mod rules;
+pub mod traffic_actions;
+pub mod traffic_control;
 
 pub use crate::addresses::{AddressMessage, Addresses};
 pub use crate::links::{LinkMessage, Links};
@@ -33,7 +36,9 @@ pub use crate::next_hop_objects::{NextHopObjectMessage, NextHopObjects};
 pub use crate::next_hops::{NextHop, NextHops};
 pub use crate::prefixes::{PrefixMessage, Prefixes};
 pub use crate::route::{
-    AllTables, LastTables, LaterTables, OtherTables, RouteMessage, RouteTables,
+    AllTables, LastTables, LaterTables, OtherTables, PacketTables, RouteMessage, RouteTables,
 };
 pub use crate::routes::{RouteEntryMessage, Routes};
 pub use crate::rules::{RuleMessage, Rules};
+pub use crate::traffic_actions::{TrafficActionMessage, TrafficActions};
+pub use crate::traffic_control::{TrafficControl, TrafficControlMessage};

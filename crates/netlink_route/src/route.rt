@@ -12,10 +12,12 @@ use crate::next_hop_objects::NextHopObjects;
 use crate::prefixes::Prefixes;
 use crate::routes::Routes;
 use crate::rules::Rules;
+use crate::traffic_actions::TrafficActions;
+use crate::traffic_control::TrafficControl;
 use netlink_family::{Both, Join, Joined, OwnedMessage};
 
 /// The tables of links, addresses, neighbours, routes, rules, neighbour tables, ids of network
-/// namespaces, next hops, settings of links, and announced prefixes.
+/// namespaces, next hops, settings of links, announced prefixes, traffic control, and its actions.
 #[derive(Clone, Copy, Debug, PartialEq, Eq)]
 pub struct RouteTables;
 
@@ -29,7 +31,13 @@ pub type OtherTables = Both<Neighbours, Both<Routes, LaterTables>>;
 pub type LaterTables = Both<Rules, Both<NeighbourTables, LastTables>>;
 
 /// The tables that follow those of neighbour tables.
-pub type LastTables = Both<Namespaces, Both<NextHopObjects, Both<NetworkConfigurations, Prefixes>>>;
+pub type LastTables = Both<
+    Namespaces,
+    Both<NextHopObjects, Both<NetworkConfigurations, Both<Prefixes, PacketTables>>>,
+>;
+
+/// The tables that follow those of announced prefixes.
+pub type PacketTables = Both<TrafficControl, TrafficActions>;
 
 impl Join for RouteTables {
     type All = AllTables;
