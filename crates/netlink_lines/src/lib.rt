@@ -23,7 +23,7 @@
 //! | `; byte 52, attribute 18/2/5` | `concern::place_words` | `Concern::place_words` |
 //! | `; attribute 4 is missing` | `concern::missing_words` | `Concern::missing_words` |
 //! | `noop`, `overrun` | `messages::item_shown` | `Messages::item_lines` |
-//! | `type 36, 28 bytes` | `messages::type_line` | `Messages::type_line` |
+//! | `type 56, 28 bytes` | `messages::type_line` | `Messages::type_line` |
 //! | `  44  08 00 04 00 78 05 00 00  IFLA_MTU: 1400`, the lines after it | `bytes::with_bytes` | `Bytes::frame_bytes` |
 //! | `byte 20: ` before an error | `messages::malformed` | `Messages::bad` |
 //! | `Failed to parse message with type 16: ..` | `messages::error_shown` | `Messages::error_lines` |
