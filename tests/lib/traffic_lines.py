@@ -239,7 +239,7 @@ SHORT_TRAFFIC += [(message(102, bytes(0)), 20)] + [(message(kind, bytes(size)), 
 
 # Malformed attributes: the offset of each in its payload, what is wrong with it, and its policy.
 INVALID_TRAFFIC = [
-    (traffic(36, None, attribute(1, b"a\0b\0")), 20, "attribute 1 has a string with a NUL before its end"),
+    (traffic(36, None, attribute(1, b"a\0b\0")), 20, "attribute 1 is a string with a NUL before its last byte"),
     (traffic(40, None, integer(11, 1, 2)), 20, "attribute 11 has a value of 2 bytes instead of 4"),
     (discipline("x", integer(12, 1)), 28, "attribute 12 has a value of 4 bytes instead of 1"),
     (traffic(46, None, b"\3\0\1\0"), 20, "an attribute has length 3, less than 4"),

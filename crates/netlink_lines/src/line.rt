@@ -21,9 +21,7 @@ use netlink_names::device::Known;
 use netlink_names::known::learn_link;
 use netlink_names::name_table::{NameTable, Names};
 use netlink_next_hop_lines::next_hop::next_hop_line;
-use netlink_route::{
-    AllTables, LastTables, LaterTables, OtherTables, PacketTables, RouteTables,
-};
+use netlink_route::{AllTables, LastTables, LaterTables, OtherTables, PacketTables, RouteTables};
 use netlink_route_lines::namespace::namespace_text;
 use netlink_route_lines::route::route_entry_line;
 use netlink_route_lines::rule::rule_text;
