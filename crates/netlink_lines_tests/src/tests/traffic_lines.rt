@@ -1,5 +1,5 @@
 //! Traffic control, made by hand after linux/rtnetlink.h, pkt_sched.h and pkt_cls.h. `tc monitor` of
-//! iproute2 6.1 printed the first 33 lines, apart from spaces; the others are by hand. A link is `if` and
+//! iproute2 6.1 printed the first 32 lines, apart from spaces; the others are by hand. A link is `if` and
 //! its index.
 
 use crate::tests::shown::{joined, shown};
@@ -10,7 +10,7 @@ use std::test::Fail;
 /// filters, chains, protocols, and how many actions there are. Then what `tc` prints otherwise or not at
 /// all: times and sizes, options without words, messages without a kind, bytes that are not printable, the
 /// first action of a list, and requests.
-const MESSAGES: [(u8, &[u8], &str); 49] = [
+const MESSAGES: [(u8, &[u8], &str); 48] = [
     (
         36,
         &[
@@ -51,14 +51,6 @@ const MESSAGES: [(u8, &[u8], &str); 49] = [
             5, 0, 12, 0, 0, 0, 0, 0, 8, 0, 13, 0, 0, 0, 0, 0, 8, 0, 14, 0, 0, 0, 0, 0,
         ],
         "qdisc x 1: dev if5 parent :2\n",
-    ),
-    (
-        36,
-        &[
-            0, 0, 0, 0, 0, 0, 0, 0, 0, 0, 1, 0, 0, 0, 2, 0, 1, 0, 0, 0, 7, 0, 1, 0, 109, 113, 0, 0,
-            4, 0, 2, 128,
-        ],
-        "qdisc mq 1: dev * parent 2:\n",
     ),
     (
         36,
