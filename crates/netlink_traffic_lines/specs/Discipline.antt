@@ -1,5 +1,5 @@
 -- What a queueing discipline has.
-use Rattle.std.specs.Prelude.{ℕ, ◌==◌, List, [], ◌∷◌, slice_index, Option, Some, None, codes, if◌then◌else◌}
+use Rattle.std.specs.Prelude.{ℕ, ◌==◌, List, [], ◌∷◌, slice_index, Some, codes, if◌then◌else◌}
 use Rattle.std.specs.Option.{option_map}
 use Rattle.netlink_family.specs.Finding.{first_at}
 use Rattle.netlink_packet_core.specs.Numbers.{number_le}

@@ -1,6 +1,6 @@
 -- The header of a message (`struct tcmsg` of linux/rtnetlink.h), and the ids of queueing disciplines and classes, 16 bits
 -- for each of its two numbers.
-use Rattle.std.specs.Prelude.{ℕ, ◌==◌, ◌/◌, ◌%◌, false, List, [], ◌++◌, take, Option, codes, if◌then◌else◌}
+use Rattle.std.specs.Prelude.{ℕ, ◌==◌, ◌/◌, ◌%◌, false, List, ◌++◌, take, codes, if◌then◌else◌}
 use Rattle.std.specs.Fmt.{digits}
 use Rattle.std.specs.Int.{cast_unsigned, w32}
 use Rattle.std.specs.Option.{option_map}

@@ -1,5 +1,5 @@
 -- The options of a queueing discipline, by its kind, in the order of `tc qdisc show`.
-use Rattle.std.specs.Prelude.{ℕ, Bool, List, [], ◌∷◌, bytes_eq, is_some, length, nat_lt, Option, Some, None, codes, if◌then◌else◌}
+use Rattle.std.specs.Prelude.{ℕ, List, [], ◌∷◌, bytes_eq, is_some, length, nat_lt, Option, Some, None, codes, if◌then◌else◌}
 use Rattle.netlink_packet_core.specs.Fields.{number_at}
 use Rattle.netlink_route.specs.declared.traffic_control.TheConstants.{TCA_FQ_CODEL_CE_THRESHOLD, TCA_FQ_CODEL_DROP_BATCH_SIZE, TCA_FQ_CODEL_ECN, TCA_FQ_CODEL_FLOWS, TCA_FQ_CODEL_INTERVAL, TCA_FQ_CODEL_LIMIT, TCA_FQ_CODEL_MEMORY_LIMIT, TCA_FQ_CODEL_QUANTUM, TCA_FQ_CODEL_TARGET, TCA_HTB_DIRECT_QLEN, TCA_HTB_INIT, TCA_HTB_OFFLOAD}
 use Rattle.netlink_traffic_lines.specs.Values.{counted, is_set, number_in, unit_part, value_in}

@@ -3,7 +3,6 @@
 ghost use Rattle.std.specs.Prelude.{◌≡◌, OnOk, slice_index, string_bytes};
 ghost use Rattle.std.specs.Option.{option_map};
 ghost use Rattle.netlink_family.specs.Finding.{first_at};
-ghost use Rattle.netlink_packet_core.specs.Numbers.{number_le};
 ghost use Rattle.netlink_route.specs.declared.traffic_control.TheConstants.{TCA_HW_OFFLOAD};
 ghost use Rattle.netlink_traffic_lines.specs.Discipline.{above_part, discipline_front, discipline_state, discipline_text, users_part};
 ghost use Rattle.netlink_traffic_lines.specs.Values.{is_set};

@@ -1,6 +1,6 @@
 //! The options of a queueing discipline.
 
-ghost use Rattle.std.specs.Prelude.{◌≡◌, OnOk, bytes_eq, codes, string_bytes};
+ghost use Rattle.std.specs.Prelude.{◌≡◌, OnOk, bytes_eq, string_bytes};
 ghost use Rattle.std.specs.Option.{option_copied};
 ghost use Rattle.netlink_traffic_lines.specs.Options.{codel_rest, codel_sizes, codel_text, codel_times, direct_parts, global_parts, htb_text, known_options, options_text};
 ghost use Rattle.netlink_words.specs.Parts.{AddsPart, AddsParts, hex_part, keyed};
