@@ -134,11 +134,11 @@ def file_shown(data, shown):
 
 def made_file(message, order, resolution):
     """Returns a file with packets of each kind. `message` makes a message by its type and its payload."""
-    messages = [message(kind, bytes(kind % 5)) for kind in range(40, 48)]
+    messages = [message(kind, bytes(kind % 5)) for kind in range(140, 148)]
     padded = b"".join(it + bytes(-len(it) % 4) for it in messages)
     datagrams = [messages[0], padded, b"", padded + messages[1][:-1], b"\1"]
     datagrams += [messages[0] + bytes(25), padded + bytes(3), bytes(16), messages[1] + bytes(18) + b"\1"]
-    datagrams += [message(40, b"", length) for length in (15, 1 << 21)]
+    datagrams += [message(56, b"", length) for length in (15, 1 << 21)]
     packets = [packet(it, order) for it in datagrams]
     packets += [packet(padded, order, family=family) for family in (16, 65535)]
     packets += [packet(padded, order, device=it) for it in (0, 1, 823)]
@@ -166,7 +166,7 @@ def pcap_rows(message, shown, streams):
             data = header(order, resolution, link_type)
             yield row(f"link type {link_type}", [], file_shown(data, shown), data)
     for size in (LONGEST - 16, LONGEST - 15):
-        data = header() + packet(message(40, bytes(size - 16)))
+        data = header() + packet(message(56, bytes(size - 16)))
         yield row(f"a datagram of {size} bytes", [], file_shown(data, shown), data)
     whole = made_file(message, BIG, "nanoseconds")
     for cut in range(4, len(whole)):
@@ -191,7 +191,7 @@ def tshark_errors(message):
     errors = []
     for order in (LITTLE, BIG):
         for resolution in MAGICS:
-            messages = [message(40, bytes(size)) for size in range(8)]
+            messages = [message(56, bytes(size)) for size in range(8)]
             packets = [packet(it, order, len(it) % 2 * 16, missing=len(it) // 20) for it in messages]
             with tempfile.NamedTemporaryFile(suffix=".pcap") as file:
                 file.write(header(order, resolution) + b"".join(packets))

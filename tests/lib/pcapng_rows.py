@@ -168,10 +168,10 @@ def others(order):
 
 def made_section(message, order):
     """Returns the blocks of a section with packets of each kind. `message` makes a message by its type and its payload."""
-    messages = [message(kind, bytes(kind % 5)) for kind in range(40, 48)]
+    messages = [message(kind, bytes(kind % 5)) for kind in range(140, 148)]
     padded = b"".join(it + bytes(-len(it) % 4) for it in messages)
     datagrams = [messages[0], padded, b"", padded + messages[1][:-1], b"\1", messages[0] + bytes(25), padded + bytes(3)]
-    datagrams += [messages[1] + bytes(18) + b"\1", message(40, b"", 15), message(40, b"", 1 << 21)]
+    datagrams += [messages[1] + bytes(18) + b"\1", message(56, b"", 15), message(56, b"", 1 << 21)]
     options = option(1, b"a comment", order) + option(2, bytes(4), order) + option(0, b"", order)
     blocks = [section(order, options=option(4, b"a program", order) + option(0, b"", order))]
     blocks += [*others(order)[:3], interface(order, options=option(2, b"nlmon0", order) + option(0, b"", order))]
@@ -187,7 +187,7 @@ def made_section(message, order):
 
 def made_snapped(message, order, snap):
     """Returns a section whose first interface captures few bytes of a packet."""
-    data = packed(message(40, b"") + message(41, b"abcd"))
+    data = packed(message(56, b"") + message(57, b"abcd"))
     cut = data[:snap] if snap else data
     return [section(order, (1, 2)), interface(order, snap=snap), interface(order), simple(cut, order, len(data)), simple(data[:20], order)]
 
@@ -241,7 +241,7 @@ def pcapng_rows(message, shown, streams):
             data = b"".join(blocks)
             yield row(f"{name} {order}", [], blocks_shown(data, shown), data)
     for size in (LONGEST, LONGEST + 1):
-        data = section() + interface() + enhanced(packed(message(40, bytes(size - 32))))
+        data = section() + interface() + enhanced(packed(message(56, bytes(size - 32))))
         yield row(f"a packet of {size} bytes", [], blocks_shown(data, shown), data)
     whole = b"".join(made_snapped(message, BIG, 0)) + b"".join(made_section(message, LITTLE)[:9])
     for cut in range(4, len(whole)):
@@ -280,7 +280,7 @@ def tshark_errors(message):
     for order in (LITTLE, BIG):
         for snap in SNAPS:
             data, of, wanted = b"".join(made_snapped(message, order, snap)), Section(), ""
-            data += enhanced(packed(message(40, b""), family=16), order, 1, missing=5, options=option(1, b"a comment", order))
+            data += enhanced(packed(message(56, b""), family=16), order, 1, missing=5, options=option(1, b"a comment", order))
             with tempfile.NamedTemporaryFile(suffix=".pcapng") as file:
                 file.write(data)
                 file.flush()

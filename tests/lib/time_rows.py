@@ -44,7 +44,7 @@ def of_resolution(resolution, order):
 def time_rows(message, link, line):
     """Yields runs with `--time`. `message` makes a message by its type and its payload; `link` is a message of a link, and
     `line` its line."""
-    two, lines = message(40, b"") + message(41, b""), ("type 40, 16 bytes\n", "type 41, 16 bytes\n")
+    two, lines = message(56, b"") + message(57, b""), ("type 56, 16 bytes\n", "type 57, 16 bytes\n")
     for order in (LITTLE, BIG):
         for name in MAGICS:
             data, wanted = header(order, name), ""
@@ -85,7 +85,7 @@ def time_errors(program, message):
     for order in (LITTLE, BIG):
         for resolution in READ:
             data = section(order) + of_resolution(resolution, order)
-            data += b"".join(counted(packed(message(40, b"")), count, order) for count in COUNTS[:5])
+            data += b"".join(counted(packed(message(56, b"")), count, order) for count in COUNTS[:5])
             with tempfile.NamedTemporaryFile(suffix=".pcapng") as file:
                 file.write(data)
                 file.flush()

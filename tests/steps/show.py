@@ -5,8 +5,8 @@ also with `--json`, on pipes that stay open, with wrong arguments, and with inpu
 
 This script computes the expected lines for the captured datagrams itself, with Python's struct and ipaddress and the
 numbers of linux/if.h, if_link.h and if_addr.h. The expected lines for acknowledgements, errors and messages made here
-are written by hand, or are those that `ip` prints (hop_lines.py, ip_lines.py and monitor_lines.py in tests/lib). The
-expected error texts are those of docs/FORMAT.md.
+are written by hand, or are those that `ip` or `tc` prints (hop_lines.py, ip_lines.py, monitor_lines.py and
+traffic_lines.py in tests/lib). The expected error texts are those of docs/FORMAT.md.
 """
 
 import ipaddress
@@ -33,6 +33,7 @@ from pcap_rows import pcap_rows, tshark_errors, without_padding  # noqa: E402
 from pcapng_rows import block, enhanced, interface, others, packed, pcapng_errors, pcapng_rows, section, simple  # noqa: E402
 from pcapng_rows import tshark_errors as tshark_block_errors  # noqa: E402
 from time_rows import time_errors, time_rows  # noqa: E402
+from traffic_lines import INVALID_TRAFFIC, SHORT_TRAFFIC, TRAFFIC_LINES  # noqa: E402
 
 CAPTURED = ["links-0", "links-1", "links-2", "addresses-0", "addresses-1", "link-by-name-0"]
 CAPTURED += ["event-0", "event-1", "event-2"]
@@ -246,8 +247,8 @@ MALFORMED = [
         invalid(20, 8, "attribute 2 has an address of 5 bytes instead of 4 or 16"),
     ),
 ]
-MALFORMED += [(data, short(number(data[4:6]), len(data) - 16, size)) for data, size in SHORT_HOPS]
-MALFORMED += [(data, invalid(number(data[4:6]), *why)) for data, *why in INVALID_HOPS]
+MALFORMED += [(data, short(number(data[4:6]), len(data) - 16, size)) for data, size in SHORT_HOPS + SHORT_TRAFFIC]
+MALFORMED += [(data, invalid(number(data[4:6]), *why)) for data, *why in INVALID_HOPS + INVALID_TRAFFIC]
 
 # Messages about links and addresses that have a line, and the line of each: requests with a `struct rtgenmsg` instead of
 # the header, padding in the header, strings without a NUL or of bytes that are not printable, a negative index, and a
@@ -291,7 +292,7 @@ LINES += [
     (frame(89, bytes(4) + attribute(1, b"\xff\xff\xff\xff")), b"Deleted nsid unassigned\n"),
     (frame(32, b"\2\0\0\0\xfe\0\0\1" + bytes(4) + attribute(22, b"\6")), b"0: from all ipproto tcp lookup main\n"),
 ]
-LINES += [(frame(40, bytes(LONGEST - 16)), b"type 40, 1048576 bytes\n")]
+LINES += [(frame(56, bytes(LONGEST - 16)), b"type 56, 1048576 bytes\n")]
 
 # Routes of MPLS, and the lines that `ip` 6.1 prints for them.
 LABEL = b"\x1c\x14\0\0\xfe\3\0\1" + bytes(4) + attribute(1, b"\0\6\x41\0")
@@ -342,8 +343,8 @@ LINES += [
     (frame(88, bytes(4) + attribute(5, b"\2\0\0\0")), b"current-nsid 2\n"),
 ]
 
-# Next hops, settings of links and announced prefixes.
-LINES += HOP_LINES
+# Next hops, settings of links and announced prefixes, and traffic control.
+LINES += HOP_LINES + TRAFFIC_LINES
 
 # A request of 18 bytes and its padding.
 REQUEST = struct.pack("<IHHII", 18, 16, 5, 1, 0) + b"\7\7\0\0"
@@ -387,7 +388,7 @@ STREAMS = [
     (link(NAMED) + time(0, 0) + link(NAMED) + time(1, 2), LINE + b"[0.000000] " + LINE),
     (time(1, 2), b""),
     (time(1, 2) + link(NAMED, flags=DUMP_INTR), b"[1.000002] interrupted\n" + LINE),
-    (time(1, 1_000_000) + frame(40, bytes(4)), b"[1.1000000] type 40, 20 bytes\n"),
+    (time(1, 1_000_000) + frame(56, bytes(4)), b"[1.1000000] type 56, 20 bytes\n"),
     (time(0xFFFFFFFF, 10) + frame(3, bytes(4)), b"[4294967295.000010] done\n"),
     (frame(15, bytes(8), flags=DUMP_INTR) + link(NAMED), b"[0.000000] " + LINE),
 ]
@@ -478,7 +479,7 @@ RULE_MEMBERS = '"priority":0,"src":"all","table":"main"'
 HEADED = struct.pack("<IHHII", 17, 40, 0x8001, 7, 0xFFFFFFFF) + b"a"
 OBJECTS = [
     (link(NAMED), LINK_OBJECT),
-    (HEADED, '{"type":40,"bytes":17,"nlmsg_flags":32769,"nlmsg_seq":7,"nlmsg_pid":4294967295}\n'),
+    (HEADED, '{"type":56,"bytes":17,"nlmsg_flags":32769,"nlmsg_seq":7,"nlmsg_pid":4294967295}\n'),
     (frame(22, OLD, flags=0x301), f'{{"type":22,"bytes":40,{NUMBERS.replace("0", "769", 1)}}}\n'),
     (frame(20, b"\x2d" + bytes(7) + attribute(2, b"\x09")), f'{{"type":20,"bytes":32,{NUMBERS}}}\n'),
     (frame(24, bytes(12)), object_text("RTM_NEWROUTE", ZERO_MEMBERS)),
@@ -632,8 +633,8 @@ def rows():
     yield row("a message that ends early as JSON", ["--json"], wanted, link(NAMED) + b"\0")
     timed = time(1, 2) + MALFORMED[0][0]
     yield row(f"{timed.hex()} as JSON", ["--json"], (1, f'{{"sec":1,"usec":2,"byte":24,{rest}'.encode(), BAD), timed)
-    whole = pcap_packet(bytes(40), family=16) + pcap_packet(link(NAMED) + frame(40, b"abc"))
-    objects = ['{"netlink_family":16,"bytes":40}\n', LINK_OBJECT, f'{{"type":40,"bytes":19,{NUMBERS}}}\n']
+    whole = pcap_packet(bytes(40), family=16) + pcap_packet(link(NAMED) + frame(56, b"abc"))
+    objects = ['{"netlink_family":16,"bytes":40}\n', LINK_OBJECT, f'{{"type":56,"bytes":19,{NUMBERS}}}\n']
     yield row("packets as JSON", ["--json"], (0, "".join(objects).encode(), ""), pcap_header() + whole)
     stamped = "".join([objects[0], *[before('"sec":1700000000,"usec":5', it) for it in objects[1:]]]).encode()
     for words in (["--json", "--time"], ["--time", "--json"]):
@@ -722,8 +723,8 @@ def failing_rows(devices):
 def live_checks(program):
     """Yields what differs on pipes that stay open, that are closed early, or that carry many messages, or None. Padding
     comes late, with the next message; a packet is whole before its lines appear."""
-    kind, broken = frame(40, b"abc"), MALFORMED[0]
-    messages = [(link(NAMED), LINE, LINK_OBJECT), (kind, b"type 40, 19 bytes\n", f'{{"type":40,"bytes":19,{NUMBERS}}}\n')]
+    kind, broken = frame(56, b"abc"), MALFORMED[0]
+    messages = [(link(NAMED), LINE, LINK_OBJECT), (kind, b"type 56, 19 bytes\n", f'{{"type":56,"bytes":19,{NUMBERS}}}\n')]
     messages += [(frame(28, NEIGHBOUR), SHOWN, object_text("RTM_NEWNEIGH", NEIGHBOUR_MEMBERS))]
     messages += [(broken[0], f"byte 108: {broken[1]}\n".encode(), f'{{"byte":108,"error":"{broken[1]}",{NUMBERS}}}\n')]
     said = object_text("NLMSG_ERROR", f'{INVALID},"text":"a b"', 0x300)

@@ -14,6 +14,8 @@ use Rattle.netlink_address_lines.specs.Neighbour.{neighbour_line}
 use Rattle.netlink_address_lines.specs.NeighbourTable.{neighbour_table_line}
 use Rattle.netlink_route_lines.specs.Route.{route_entry_line}
 use Rattle.netlink_route_lines.specs.Rule.{rule_line}
+use Rattle.netlink_traffic_lines.specs.Action.{action_line}
+use Rattle.netlink_traffic_lines.specs.Traffic.{traffic_line}
 use Rattle.netlink_names.specs.declared.device.Known.{Known}
 
 -- a code other than 0, and its name
@@ -62,14 +64,28 @@ configuration_types = 80 ∷ 81 ∷ 82 ∷ []
 abbrev pub prefix_types : List ℕ
 prefix_types = 52 ∷ []
 
--- the line of a message that is about an id of a namespace, a next hop, the settings of a link or a prefix
+-- those of queueing disciplines, classes, filters and chains, and of actions
+abbrev pub traffic_types : List ℕ
+traffic_types = 36 ∷ 37 ∷ 38 ∷ 40 ∷ 41 ∷ 42 ∷ 44 ∷ 45 ∷ 46 ∷ 100 ∷ 101 ∷ 102 ∷ []
+
+abbrev pub action_types : List ℕ
+action_types = 48 ∷ 49 ∷ 50 ∷ []
+
+-- the line of a message that is about traffic control or its actions
+abbrev pub packet_line : List Known → ℕ → List ℕ → Option (List ℕ)
+packet_line known t payload =
+    if has_type traffic_types t then Some (traffic_line known t payload)
+    else if has_type action_types t then Some (action_line t payload)
+    else None
+
+-- that is about an id of a namespace, a next hop, the settings of a link, a prefix or one of these
 abbrev pub last_line : List Known → ℕ → List ℕ → Option (List ℕ)
 last_line known t payload =
     if has_type namespace_types t then Some (namespace_line t payload)
     else if has_type next_hop_types t then Some (next_hop_line known t payload)
     else if has_type configuration_types t then Some (configuration_line known t payload)
     else if has_type prefix_types t then Some (prefix_line known payload)
-    else None
+    else packet_line known t payload
 
 -- that is about a rule, a neighbour table or one of these
 abbrev pub later_line : List Known → ℕ → List ℕ → Option (List ℕ)

@@ -15,7 +15,8 @@ use Rattle.netlink_objects.specs.Prefix.{prefix_parts}
 use Rattle.netlink_objects.specs.Route.{route_parts as route_members}
 use Rattle.netlink_objects.specs.Rule.{rule_parts}
 
--- the members of a message that is about an id of a network namespace, a next hop, the settings of a link or a prefix
+-- the members of a message that is about an id of a network namespace, a next hop, the settings of a link or a prefix;
+-- those about traffic control have none
 abbrev pub last_parts : List Known → ℕ → List ℕ → List (List Field)
 last_parts known t payload =
     if has_type namespace_types t then namespace_parts t payload
@@ -64,6 +65,18 @@ message_name t =
     else if t == 32 then codes "RTM_NEWRULE"
     else if t == 33 then codes "RTM_DELRULE"
     else if t == 34 then codes "RTM_GETRULE"
+    else if t == 36 then codes "RTM_NEWQDISC"
+    else if t == 37 then codes "RTM_DELQDISC"
+    else if t == 38 then codes "RTM_GETQDISC"
+    else if t == 40 then codes "RTM_NEWTCLASS"
+    else if t == 41 then codes "RTM_DELTCLASS"
+    else if t == 42 then codes "RTM_GETTCLASS"
+    else if t == 44 then codes "RTM_NEWTFILTER"
+    else if t == 45 then codes "RTM_DELTFILTER"
+    else if t == 46 then codes "RTM_GETTFILTER"
+    else if t == 48 then codes "RTM_NEWACTION"
+    else if t == 49 then codes "RTM_DELACTION"
+    else if t == 50 then codes "RTM_GETACTION"
     else if t == 52 then codes "RTM_NEWPREFIX"
     else if t == 64 then codes "RTM_NEWNEIGHTBL"
     else if t == 66 then codes "RTM_GETNEIGHTBL"
@@ -74,6 +87,9 @@ message_name t =
     else if t == 88 then codes "RTM_NEWNSID"
     else if t == 89 then codes "RTM_DELNSID"
     else if t == 90 then codes "RTM_GETNSID"
+    else if t == 100 then codes "RTM_NEWCHAIN"
+    else if t == 101 then codes "RTM_DELCHAIN"
+    else if t == 102 then codes "RTM_GETCHAIN"
     else if t == 104 then codes "RTM_NEWNEXTHOP"
     else if t == 105 then codes "RTM_DELNEXTHOP"
     else if t == 106 then codes "RTM_GETNEXTHOP"

@@ -1,14 +1,19 @@
 -- What a program asks of the kernel: to change something, or to list what there is.
-use Rattle.std.specs.Prelude.{ℕ, ◌==◌, ◌&&◌, ◌/◌, not, nat_eq, Bool, List, ◌++◌, drop, codes, if◌then◌else◌}
+use Rattle.std.specs.Prelude.{ℕ, ◌==◌, ◌&&◌, ◌||◌, ◌/◌, not, nat_eq, Bool, List, ◌++◌, drop, codes, if◌then◌else◌}
 use Rattle.std.specs.Int.Bits.{bit_and}
 use Rattle.std.specs.List.{starts_with}
 use Rattle.netlink_packet_core.specs.declared.constants.TheConstants.{NLM_F_DUMP, NLM_F_REQUEST}
 use Rattle.netlink_replies.specs.Headers.{has_flag}
 
--- a message with these flags and of this type asks for a change: the two lowest bits of the types `RTM_GET*` are 2, and
--- the kernel repeats the flags of a request in its own message about a next hop (104 to 106)
+-- the groups of four types in which the kernel repeats the flags of a request in its own messages: those of traffic
+-- control (36 to 50, 100 to 102) and of next hops (104 to 106)
+abbrev pub repeats_flags : ℕ → Bool
+repeats_flags group =
+    group == 9 || group == 10 || group == 11 || group == 12 || group == 25 || group == 26
+
+-- a message with these flags and of this type asks for a change: the two lowest bits of the types `RTM_GET*` are 2
 abbrev pub is_request : ℕ → ℕ → Bool
-is_request flags t = (has_flag flags NLM_F_REQUEST && not (bit_and t 3 == 2)) && not (t / 4 == 26)
+is_request flags t = (has_flag flags NLM_F_REQUEST && not (bit_and t 3 == 2)) && not (repeats_flags (t / 4))
 
 -- it asks for a dump, by either bit of `NLM_F_DUMP`
 abbrev pub is_dump : ℕ → ℕ → Bool

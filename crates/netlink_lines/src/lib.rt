@@ -2,8 +2,9 @@
 //! those of a stream, or of a pcap or pcapng file, as each message arrives. `Line::line` returns that of one message, and
 //! functions such as `link_text` those of one family. With `Options::json`, an object of JSON takes their place.
 //!
-//! The words of the lines are in `netlink_link_lines`, `netlink_address_lines`, `netlink_route_lines` and
-//! `netlink_next_hop_lines`. This crate adds what these tables show. A definition `File::name` is in `specs/File.antt`.
+//! The words of the lines are in `netlink_link_lines`, `netlink_address_lines`, `netlink_route_lines`,
+//! `netlink_next_hop_lines` and `netlink_traffic_lines`. This crate adds what these tables show. A definition
+//! `File::name` is in `specs/File.antt`.
 //!
 //! Of a message:
 //!
@@ -14,7 +15,7 @@
 //! | `[MROUTE]` | `options::label_of` | `Options::label_of` |
 //! | `interrupted`, a line before | `messages::marked` | `Ack::marked_if` |
 //! | `request `, or `request delete` for `Deleted` | `requests::request_line` | `Requests::request_line` |
-//! | the line of one of the four crates | `line::line_of` | `Lines::route_line` |
+//! | the line of one of the five crates | `line::line_of` | `Lines::route_line` |
 //! | `done` | `line::done_line` | `Lines::done_line` |
 //! | ` -4`, the code after `done` | `line::code_words` | `Lines::code_words` |
 //! | `ack`, `error -22` | `line::error_line` | `Lines::error_line` |
@@ -23,7 +24,7 @@
 //! | `; byte 52, attribute 18/2/5` | `concern::place_words` | `Concern::place_words` |
 //! | `; attribute 4 is missing` | `concern::missing_words` | `Concern::missing_words` |
 //! | `noop`, `overrun` | `messages::item_shown` | `Messages::item_lines` |
-//! | `type 36, 28 bytes` | `messages::type_line` | `Messages::type_line` |
+//! | `type 56, 28 bytes` | `messages::type_line` | `Messages::type_line` |
 //! | `  44  08 00 04 00 78 05 00 00  IFLA_MTU: 1400`, the lines after it | `bytes::with_bytes` | `Bytes::frame_bytes` |
 //! | `byte 20: ` before an error | `messages::malformed` | `Messages::bad` |
 //! | `Failed to parse message with type 16: ..` | `messages::error_shown` | `Messages::error_lines` |
@@ -99,5 +100,7 @@ pub use netlink_next_hop_lines::next_hop::next_hop_text;
 pub use netlink_route_lines::namespace::namespace_text;
 pub use netlink_route_lines::route::route_text;
 pub use netlink_route_lines::rule::rule_text;
+pub use netlink_traffic_lines::action::action_text;
+pub use netlink_traffic_lines::traffic::traffic_text;
 pub use netlink_words::number_names::{family_text, scope_text, state_text};
 pub use netlink_words::text::{ip_words, name_text, sentence_text};

@@ -80,7 +80,7 @@ fn put_later(
 }
 
 /// Appends the members of a message about an id of a namespace, a next hop, the settings of a link, or an
-/// announced prefix.
+/// announced prefix. Other messages have none.
 fn put_last(
     alloc: Global,
     object: &mut Object,
@@ -96,7 +96,10 @@ fn put_last(
             Ok(next_hop) => put_next_hop_object(alloc, object, known, &next_hop),
             Err(other) => match other.split() {
                 Ok(settings) => put_network_configuration(alloc, object, known, &settings),
-                Err(prefix) => put_prefix(alloc, object, known, &prefix),
+                Err(other) => match other.split() {
+                    Ok(prefix) => put_prefix(alloc, object, known, &prefix),
+                    Err(_) => Ok(()),
+                },
             },
         },
     }
@@ -124,6 +127,18 @@ pub(crate) fn message_name(message_type: u16) -> &'static str
         32 => "RTM_NEWRULE",
         33 => "RTM_DELRULE",
         34 => "RTM_GETRULE",
+        36 => "RTM_NEWQDISC",
+        37 => "RTM_DELQDISC",
+        38 => "RTM_GETQDISC",
+        40 => "RTM_NEWTCLASS",
+        41 => "RTM_DELTCLASS",
+        42 => "RTM_GETTCLASS",
+        44 => "RTM_NEWTFILTER",
+        45 => "RTM_DELTFILTER",
+        46 => "RTM_GETTFILTER",
+        48 => "RTM_NEWACTION",
+        49 => "RTM_DELACTION",
+        50 => "RTM_GETACTION",
         52 => "RTM_NEWPREFIX",
         64 => "RTM_NEWNEIGHTBL",
         66 => "RTM_GETNEIGHTBL",
@@ -134,6 +149,9 @@ pub(crate) fn message_name(message_type: u16) -> &'static str
         88 => "RTM_NEWNSID",
         89 => "RTM_DELNSID",
         90 => "RTM_GETNSID",
+        100 => "RTM_NEWCHAIN",
+        101 => "RTM_DELCHAIN",
+        102 => "RTM_GETCHAIN",
         104 => "RTM_NEWNEXTHOP",
         105 => "RTM_DELNEXTHOP",
         106 => "RTM_GETNEXTHOP",

@@ -1,7 +1,7 @@
 //! What a program asks of the kernel: to change something, or to list what there is.
 
 ghost use Rattle.std.specs.Prelude.{◌≡◌, IfOk, string_bytes};
-ghost use Rattle.netlink_lines.specs.Requests.{asked_line, is_dump, is_request, request_line};
+ghost use Rattle.netlink_lines.specs.Requests.{asked_line, is_dump, is_request, repeats_flags, request_line};
 
 use netlink_packet_core::{NLM_F_DUMP, NLM_F_REQUEST};
 use std::alloc::{AllocError, Global};
@@ -12,16 +12,24 @@ const KIND_BITS: u16 = 3;
 
 const GETS: u16 = 2;
 
-/// The group of the types of next hops. The kernel repeats the flags of a request in its own message
-/// about the next hop that it added, replaced or deleted, so they say nothing there.
-const NEXT_HOPS: u16 = 26;
-
 /// Returns whether a message with these flags and of this type asks for a change.
 pub(crate) fn is_request(flags: u16, message_type: u16) -> bool
     ensures { result ≡ is_request flags message_type }
 {
     let asks = (flags & NLM_F_REQUEST != 0) & (message_type & KIND_BITS != GETS);
-    asks & (message_type / 4 != NEXT_HOPS)
+    asks & !repeats_flags(message_type / 4)
+}
+
+/// Returns whether the flags of a message say nothing, by its group of four types: those of traffic
+/// control and of next hops. The kernel repeats the flags of a request in its own message about what it
+/// added, replaced or deleted.
+fn repeats_flags(group: u16) -> bool
+    ensures { result ≡ repeats_flags group }
+{
+    match group {
+        9 | 10 | 11 | 12 | 25 | 26 => true,
+        _ => false,
+    }
 }
 
 /// Returns whether a message with these flags and of this type asks for a dump, by either bit of

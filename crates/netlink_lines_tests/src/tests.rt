@@ -20,4 +20,5 @@ mod rule_lines;
 mod runs;
 mod shown;
 mod times;
+mod traffic_lines;
 mod words;

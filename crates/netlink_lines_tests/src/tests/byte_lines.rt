@@ -61,7 +61,7 @@ const REFUSED_LINES: &str = "error -22 (Invalid argument); byte 52
 const OTHERS: [u8; 64] = [
     20, 0, 0, 0, 3, 0, 0, 0, 0, 0, 0, 0, 0, 0, 0, 0, 0, 0, 0, 0, // NLMSG_DONE
     24, 0, 0, 0, 15, 0, 0, 0, 0, 0, 0, 0, 0, 0, 0, 0, 1, 0, 0, 0, 2, 0, 0, 0, // a time
-    18, 0, 0, 0, 40, 0, 0, 0, 0, 0, 0, 0, 0, 0, 0, 0, 1, 2, 0, 0, // 40
+    18, 0, 0, 0, 56, 0, 0, 0, 0, 0, 0, 0, 0, 0, 0, 0, 1, 2, 0, 0, // 56
 ];
 
 const OTHER_LINES: &str = "done
@@ -71,9 +71,9 @@ const OTHER_LINES: &str = "done
   8  00 00 00 00  nlmsg_seq: 0
   12  00 00 00 00  nlmsg_pid: 0
   16  00 00 00 00  error: 0
-[1.000002] type 40, 18 bytes
+[1.000002] type 56, 18 bytes
   0  12 00 00 00  nlmsg_len: 18
-  4  28 00  nlmsg_type: 40
+  4  38 00  nlmsg_type: 56
   6  00 00  nlmsg_flags: 0
   8  00 00 00 00  nlmsg_seq: 0
   12  00 00 00 00  nlmsg_pid: 0

@@ -153,7 +153,7 @@ const MESSAGES: [(u8, u8, &[u8], &str, &str); 40] = [
         "request nsid 1 fd 4 target-nsid unassigned current-nsid 7\n",
     ),
     (89, 4, &[0; 4], "[NSID]", "Deleted nsid\n"),
-    (44, 1, &NOBODY, "", "type 44, 28 bytes\n"),
+    (56, 1, &NOBODY, "", "type 56, 28 bytes\n"),
     (15, 1, &TIME, "", "[1.000002] interrupted\n"),
     (16, 0x11, &WAN, "[LINK]", "request 3: wan0: <> link/ether\n"),
     (17, 0, &BARE, "[LINK]", "Deleted 3: if3: <> link/ether\n"),

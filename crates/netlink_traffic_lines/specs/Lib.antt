@@ -1,0 +1,9 @@
+pub mod Action
+pub mod Class
+pub mod Discipline
+pub mod Filter
+pub mod Ids
+pub mod Options
+pub mod PacketProtocols
+pub mod Traffic
+pub mod Values
