@@ -214,10 +214,14 @@ BY_HAND += [
     (actions(49), "deleted total acts 0"),
 ]
 
-# Requests. `tc` takes those for a change as facts, as the program does, and prints no line of the others.
+# Requests. `tc` takes those for a change as facts, and prints no line of the others.
 BY_HAND += [
-    (discipline("htb", flags=ASKED | ADDED), "qdisc htb 1: dev if5 root"),
-    (discipline("htb", kind=37, flags=ASKED), "deleted qdisc htb 1: dev if5 root"),
+    (discipline("htb", flags=ASKED | ADDED), "request qdisc htb 1: dev if5 root"),
+    (discipline("htb", kind=37, flags=ASKED), "request delete qdisc htb 1: dev if5 root"),
+    (traffic(41, "htb", handle=0x10010, flags=ASKED), "request delete class htb 1:10 dev if5 parent none"),
+    (traffic(100, None, integer(11, 3), parent=ROOT, flags=ADDED | ASKED), "request chain dev if5 root chain 3"),
+    (traffic(45, "x", parent=ROOT, flags=ASKED), "deleted filter dev if5 root x"),
+    (actions(49, count(1), flags=ASKED), "deleted total acts 1"),
     (traffic(38, None, index=0, flags=DUMP), "Get qdisc 0: dev * refcnt 0"),
     (message(38, b"\0", flags=DUMP), "Get qdisc 0: dev * refcnt 0"),
     (traffic(42, None, flags=DUMP), "Get class dev if5 parent none"),

@@ -30,11 +30,13 @@ impl<F: Table, G: Table> Table for Both<F, G> {
 
     ghost fields = { λ t. if has_type F.types t then F.fields t else G.fields t };
 
+    #[inline(always)]
     #[tactic(auto, using(crate::specs::MessageLaws::has_append))]
     fn has(message_type: u16) -> bool {
         F::has(message_type) || G::has(message_type)
     }
 
+    #[inline(always)]
     fn header_len(message_type: u16) -> usize {
         if F::has(message_type) {
             return F::header_len(message_type);
@@ -42,6 +44,7 @@ impl<F: Table, G: Table> Table for Both<F, G> {
         G::header_len(message_type)
     }
 
+    #[inline(always)]
     fn allows_short(message_type: u16) -> bool {
         if F::has(message_type) {
             return F::allows_short(message_type);
@@ -49,6 +52,7 @@ impl<F: Table, G: Table> Table for Both<F, G> {
         G::allows_short(message_type)
     }
 
+    #[inline(always)]
     fn rows(message_type: u16) -> &'static [Row] {
         if F::has(message_type) {
             return F::rows(message_type);
@@ -56,6 +60,7 @@ impl<F: Table, G: Table> Table for Both<F, G> {
         G::rows(message_type)
     }
 
+    #[inline(always)]
     fn fields(message_type: u16) -> &'static [Field] {
         if F::has(message_type) {
             return F::fields(message_type);
@@ -63,6 +68,7 @@ impl<F: Table, G: Table> Table for Both<F, G> {
         G::fields(message_type)
     }
 
+    #[inline(always)]
     fn chooses_shape(message_type: u16, kind: u16) -> bool {
         if F::has(message_type) {
             return F::chooses_shape(message_type, kind);
@@ -99,26 +105,32 @@ impl<J: Join> Table for Joined<J> {
 
     ghost fields = { J.All.fields };
 
+    #[inline(always)]
     fn has(message_type: u16) -> bool {
         J::All::has(message_type)
     }
 
+    #[inline(always)]
     fn header_len(message_type: u16) -> usize {
         J::All::header_len(message_type)
     }
 
+    #[inline(always)]
     fn allows_short(message_type: u16) -> bool {
         J::All::allows_short(message_type)
     }
 
+    #[inline(always)]
     fn rows(message_type: u16) -> &'static [Row] {
         J::All::rows(message_type)
     }
 
+    #[inline(always)]
     fn fields(message_type: u16) -> &'static [Field] {
         J::All::fields(message_type)
     }
 
+    #[inline(always)]
     fn chooses_shape(message_type: u16, kind: u16) -> bool {
         J::All::chooses_shape(message_type, kind)
     }

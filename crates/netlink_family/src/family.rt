@@ -72,6 +72,7 @@ pub trait Table {
 }
 
 /// Returns the rows, which are sorted.
+#[inline(always)]
 pub(crate) fn rows_of<F: Table>(message_type: u16) -> Rows
     ensures rows { rows_in result.list.now ≡ F.rows message_type }
 {

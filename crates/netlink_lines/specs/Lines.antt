@@ -72,27 +72,36 @@ abbrev pub action_types : List ℕ
 action_types = 48 ∷ 49 ∷ 50 ∷ []
 
 -- the line of a message that is about traffic control or its actions
-abbrev pub packet_line : List Known → ℕ → List ℕ → Option (List ℕ)
-packet_line known t payload =
+abbrev pub controlled_line : List Known → ℕ → List ℕ → Option (List ℕ)
+controlled_line known t payload =
     if has_type traffic_types t then Some (traffic_line known t payload)
     else if has_type action_types t then Some (action_line t payload)
     else None
 
--- that is about an id of a namespace, a next hop, the settings of a link, a prefix or one of these
+-- the types of the messages that are about an id of a namespace, a next hop, the settings of a link or a prefix
+abbrev pub last_types : List ℕ
+last_types = namespace_types ++ (next_hop_types ++ (configuration_types ++ prefix_types))
+
 abbrev pub last_line : List Known → ℕ → List ℕ → Option (List ℕ)
 last_line known t payload =
     if has_type namespace_types t then Some (namespace_line t payload)
     else if has_type next_hop_types t then Some (next_hop_line known t payload)
     else if has_type configuration_types t then Some (configuration_line known t payload)
     else if has_type prefix_types t then Some (prefix_line known payload)
-    else packet_line known t payload
+    else None
+
+-- the line of a message that is about one of these, or about traffic control
+abbrev pub more_line : List Known → ℕ → List ℕ → Option (List ℕ)
+more_line known t payload =
+    if has_type last_types t then last_line known t payload
+    else controlled_line known t payload
 
 -- that is about a rule, a neighbour table or one of these
 abbrev pub later_line : List Known → ℕ → List ℕ → Option (List ℕ)
 later_line known t payload =
     if has_type rule_types t then Some (rule_line t payload)
     else if has_type neighbour_table_types t then Some (neighbour_table_line known t payload)
-    else last_line known t payload
+    else more_line known t payload
 
 -- the line of a message that is about neither a link nor an address
 abbrev pub other_line : List Known → ℕ → List ℕ → Option (List ℕ)

@@ -2,7 +2,7 @@
 use Rattle.std.specs.Prelude.{ℕ, ◌==◌, List, [], codes, if◌then◌else◌}
 use Rattle.netlink_family.specs.Shapes.{has_type}
 use Rattle.netlink_json.specs.Fields.{Field}
-use Rattle.netlink_lines.specs.Lines.{address_types, configuration_types, link_types, namespace_types, neighbour_table_types, neighbour_types, next_hop_types, prefix_types, route_types, rule_types}
+use Rattle.netlink_lines.specs.Lines.{address_types, configuration_types, last_types, link_types, namespace_types, neighbour_table_types, neighbour_types, next_hop_types, prefix_types, route_types, rule_types}
 use Rattle.netlink_names.specs.declared.device.Known.{Known}
 use Rattle.netlink_objects.specs.Address.{address_parts}
 use Rattle.netlink_objects.specs.Link.{link_parts}
@@ -15,8 +15,7 @@ use Rattle.netlink_objects.specs.Prefix.{prefix_parts}
 use Rattle.netlink_objects.specs.Route.{route_parts as route_members}
 use Rattle.netlink_objects.specs.Rule.{rule_parts}
 
--- the members of a message that is about an id of a network namespace, a next hop, the settings of a link or a prefix;
--- those about traffic control have none
+-- the members of a message that is about an id of a network namespace, a next hop, the settings of a link or a prefix
 abbrev pub last_parts : List Known → ℕ → List ℕ → List (List Field)
 last_parts known t payload =
     if has_type namespace_types t then namespace_parts t payload
@@ -25,12 +24,16 @@ last_parts known t payload =
     else if has_type prefix_types t then prefix_parts known payload
     else []
 
+-- that is about one of these; those about traffic control have none
+abbrev pub more_parts : List Known → ℕ → List ℕ → List (List Field)
+more_parts known t payload = if has_type last_types t then last_parts known t payload else []
+
 -- that is about a rule, a neighbour table or one of these
 abbrev pub later_parts : List Known → ℕ → List ℕ → List (List Field)
 later_parts known t payload =
     if has_type rule_types t then rule_parts t payload
     else if has_type neighbour_table_types t then neighbour_table_parts known t payload
-    else last_parts known t payload
+    else more_parts known t payload
 
 -- that is about neither a link nor an address
 abbrev pub other_parts : List Known → ℕ → List ℕ → List (List Field)

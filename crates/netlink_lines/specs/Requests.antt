@@ -5,11 +5,10 @@ use Rattle.std.specs.List.{starts_with}
 use Rattle.netlink_packet_core.specs.declared.constants.TheConstants.{NLM_F_DUMP, NLM_F_REQUEST}
 use Rattle.netlink_replies.specs.Headers.{has_flag}
 
--- the groups of four types in which the kernel repeats the flags of a request in its own messages: those of traffic
--- control (36 to 50, 100 to 102) and of next hops (104 to 106)
+-- the groups of four types in which the kernel repeats the flags of a request in its own messages: those of filters (44
+-- to 46), of actions (48 to 50) and of next hops (104 to 106)
 abbrev pub repeats_flags : ℕ → Bool
-repeats_flags group =
-    group == 9 || group == 10 || group == 11 || group == 12 || group == 25 || group == 26
+repeats_flags group = group == 11 || group == 12 || group == 26
 
 -- a message with these flags and of this type asks for a change: the two lowest bits of the types `RTM_GET*` are 2
 abbrev pub is_request : ℕ → ℕ → Bool
@@ -23,6 +22,7 @@ is_dump flags t = (has_flag flags NLM_F_REQUEST && has_flag flags NLM_F_DUMP) &&
 abbrev pub request_line : List ℕ → List ℕ
 request_line line =
     if starts_with nat_eq line (codes "Deleted") then codes "request delete" ++ drop 7 line
+    else if starts_with nat_eq line (codes "deleted") then codes "request delete" ++ drop 7 line
     else codes "request " ++ line
 
 -- the line of a message with these flags and of this type, by its line as no request

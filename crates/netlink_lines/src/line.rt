@@ -2,7 +2,7 @@
 
 ghost use Rattle.std.specs.Prelude.{◌≡◌, IfOk, OnOk, string_bytes};
 ghost use Rattle.std.specs.Option.{option_map};
-ghost use Rattle.netlink_lines.specs.Lines.{code_words, done_line, error_line, known_by, last_line, later_line, other_line, packet_line, route_line};
+ghost use Rattle.netlink_lines.specs.Lines.{code_words, controlled_line, done_line, error_line, known_by, last_line, later_line, more_line, other_line, route_line};
 ghost use Rattle.netlink_json.specs.Fields.{AddsParts};
 ghost use Rattle.netlink_lines.specs.Members.{route_parts};
 ghost use Rattle.netlink_lines.specs.SystemErrors.{code_text};
@@ -21,7 +21,9 @@ use netlink_names::device::Known;
 use netlink_names::known::learn_link;
 use netlink_names::name_table::{NameTable, Names};
 use netlink_next_hop_lines::next_hop::next_hop_line;
-use netlink_route::{AllTables, LastTables, LaterTables, OtherTables, PacketTables, RouteTables};
+use netlink_route::{
+    AllTables, LastTables, LaterTables, MoreTables, OtherTables, RouteTables, TrafficTables,
+};
 use netlink_route_lines::namespace::namespace_text;
 use netlink_route_lines::route::route_entry_line;
 use netlink_route_lines::rule::rule_text;
@@ -195,13 +197,28 @@ fn later_line(
         Ok(rule) => Ok(Some(rule_text(alloc, &rule)?)),
         Err(other) => match other.split() {
             Ok(table) => Ok(Some(neighbour_table_line(alloc, known, &table)?)),
-            Err(other) => last_line(alloc, known, &other),
+            Err(other) => more_line(alloc, known, &other),
         },
     }
 }
 
-/// Returns the line of a message about an id of a namespace, a next hop, the settings of a link, an
-/// announced prefix, or traffic control.
+/// Returns the line of a message about what the tables after those of neighbour tables describe.
+fn more_line(
+    alloc: Global,
+    known: &Names<'_>,
+    message: &MessageView<'_, MoreTables>,
+) -> Result<Option<String>, AllocError>
+    ensures { IfOk result (λ text. option_map string_bytes text
+        ≡ more_line known.now message.now.message_type message.now.payload.now) }
+{
+    match message.split() {
+        Ok(last) => last_line(alloc, known, &last),
+        Err(traffic) => controlled_line(alloc, known, &traffic),
+    }
+}
+
+/// Returns the line of a message about an id of a namespace, a next hop, the settings of a link, or an
+/// announced prefix.
 fn last_line(
     alloc: Global,
     known: &Names<'_>,
@@ -216,23 +233,20 @@ fn last_line(
             Ok(next_hop) => Ok(Some(next_hop_line(alloc, known, &next_hop)?)),
             Err(other) => match other.split() {
                 Ok(settings) => Ok(Some(configuration_line(alloc, known, &settings)?)),
-                Err(other) => match other.split() {
-                    Ok(prefix) => Ok(Some(prefix_line(alloc, known, &prefix)?)),
-                    Err(packet) => packet_line(alloc, known, &packet),
-                },
+                Err(prefix) => Ok(Some(prefix_line(alloc, known, &prefix)?)),
             },
         },
     }
 }
 
 /// Returns the line of a message about traffic control or its actions.
-fn packet_line(
+fn controlled_line(
     alloc: Global,
     known: &Names<'_>,
-    message: &MessageView<'_, PacketTables>,
+    message: &MessageView<'_, TrafficTables>,
 ) -> Result<Option<String>, AllocError>
     ensures { IfOk result (λ text. option_map string_bytes text
-        ≡ packet_line known.now message.now.message_type message.now.payload.now) }
+        ≡ controlled_line known.now message.now.message_type message.now.payload.now) }
 {
     match message.split() {
         Ok(packet) => Ok(Some(traffic_line(alloc, known, &packet)?)),

@@ -2,7 +2,7 @@
 
 ghost use Rattle.std.specs.Prelude.{◌≡◌, OnOk};
 ghost use Rattle.netlink_json.specs.Fields.{AddsParts};
-ghost use Rattle.netlink_lines.specs.Members.{last_parts, later_parts, message_name, other_parts, route_parts};
+ghost use Rattle.netlink_lines.specs.Members.{last_parts, later_parts, message_name, more_parts, other_parts, route_parts};
 
 use netlink_family::MessageView;
 use netlink_json::Object;
@@ -17,7 +17,7 @@ use netlink_objects::next_hop_object::put_next_hop_object;
 use netlink_objects::prefix::put_prefix;
 use netlink_objects::route::put_route;
 use netlink_objects::rule::put_rule;
-use netlink_route::{AllTables, LastTables, LaterTables, OtherTables};
+use netlink_route::{AllTables, LastTables, LaterTables, MoreTables, OtherTables};
 use std::alloc::{AllocError, Global};
 
 /// Appends the members of a message of route netlink.
@@ -74,13 +74,30 @@ fn put_later(
         Ok(rule) => put_rule(alloc, object, &rule),
         Err(other) => match other.split() {
             Ok(table) => put_neighbour_table(alloc, object, known, &table),
-            Err(other) => put_last(alloc, object, known, &other),
+            Err(other) => put_more(alloc, object, known, &other),
         },
     }
 }
 
+/// Appends the members of a message about what the tables after those of neighbour tables describe. Those
+/// about traffic control have none.
+fn put_more(
+    alloc: Global,
+    object: &mut Object,
+    known: &Names<'_>,
+    message: &MessageView<'_, MoreTables>,
+) -> Result<(), AllocError>
+    ensures { OnOk result (AddsParts object.old object.new
+        (more_parts known.now message.now.message_type message.now.payload.now)) }
+{
+    match message.split() {
+        Ok(last) => put_last(alloc, object, known, &last),
+        Err(_) => Ok(()),
+    }
+}
+
 /// Appends the members of a message about an id of a namespace, a next hop, the settings of a link, or an
-/// announced prefix. Other messages have none.
+/// announced prefix.
 fn put_last(
     alloc: Global,
     object: &mut Object,
@@ -96,10 +113,7 @@ fn put_last(
             Ok(next_hop) => put_next_hop_object(alloc, object, known, &next_hop),
             Err(other) => match other.split() {
                 Ok(settings) => put_network_configuration(alloc, object, known, &settings),
-                Err(other) => match other.split() {
-                    Ok(prefix) => put_prefix(alloc, object, known, &prefix),
-                    Err(_) => Ok(()),
-                },
+                Err(prefix) => put_prefix(alloc, object, known, &prefix),
             },
         },
     }

@@ -20,14 +20,14 @@ pub(crate) fn is_request(flags: u16, message_type: u16) -> bool
     asks & !repeats_flags(message_type / 4)
 }
 
-/// Returns whether the flags of a message say nothing, by its group of four types: those of traffic
-/// control and of next hops. The kernel repeats the flags of a request in its own message about what it
+/// Returns whether the flags of a message say nothing, by its group of four types: those of filters, of
+/// actions and of next hops. The kernel repeats the flags of a request in its own message about what it
 /// added, replaced or deleted.
 fn repeats_flags(group: u16) -> bool
     ensures { result ≡ repeats_flags group }
 {
     match group {
-        9 | 10 | 11 | 12 | 25 | 26 => true,
+        11 | 12 | 26 => true,
         _ => false,
     }
 }
@@ -57,12 +57,15 @@ pub(crate) fn asked_line(
 }
 
 /// Returns the line of a request for a change, by the line of the same message without the flag:
-/// `request delete` in place of `Deleted`, or `request ` before the line.
+/// `request delete` in place of `Deleted` or `deleted`, or `request ` before the line.
 fn request_line(alloc: Global, line: &str) -> Result<String, AllocError>
     ensures { IfOk result (λ text. string_bytes text ≡ request_line line.now) }
 {
-    match line.strip_prefix("Deleted") {
-        Some(rest) => format!(in alloc; "request delete{rest}"),
-        None => format!(in alloc; "request {line}"),
+    if let Some(rest) = line.strip_prefix("Deleted") {
+        return format!(in alloc; "request delete{rest}");
     }
+    if let Some(rest) = line.strip_prefix("deleted") {
+        return format!(in alloc; "request delete{rest}");
+    }
+    format!(in alloc; "request {line}")
 }

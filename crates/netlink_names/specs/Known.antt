@@ -1,5 +1,5 @@
 -- The names of links that messages tell, the oldest first.
-use Rattle.std.specs.Prelude.{ℕ, ℤ, ◌==◌, not, Bool, false, bytes_eq, List, [], ◌∷◌, ◌++◌, drop, length, nat_lt, take, Option, Some, None, if◌then◌else◌}
+use Rattle.std.specs.Prelude.{ℕ, ℤ, ◌==◌, not, Bool, false, bytes_eq, List, [], ◌∷◌, ◌++◌, drop, length, nat_lt, slice_index, take, Option, Some, None, if◌then◌else◌}
 use Rattle.std.specs.Int.{cast_unsigned, w32}
 use Rattle.std.specs.List.{filter}
 use Rattle.std.specs.Option.{option_map}
@@ -67,9 +67,13 @@ link_string payload kind = option_map until_nul (link_bytes payload kind)
 abbrev pub index_of_link : List ℕ → ℕ
 index_of_link payload = cast_unsigned w32 (link_index payload)
 
--- the names after a message about a link: one that exists (16) or is deleted (17)
+-- the address family: AF_BRIDGE (7) is about a port of a bridge
+abbrev pub link_family : List ℕ → ℕ
+link_family payload = slice_index (link_header payload) 0
+
+-- the names after a message about a link: one that exists (16) or is deleted (17); a port that leaves its bridge stays
 unfoldable pub link_known : ℕ → List ℕ → List Known → List Known
 link_known t payload known =
     if t == 16 then with_name_if (index_of_link payload) (link_string payload IFLA_IFNAME) known
-    else if t == 17 then without (index_of_link payload) known
+    else if t == 17 then if link_family payload == 7 then known else without (index_of_link payload) known
     else known

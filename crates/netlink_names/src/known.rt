@@ -12,11 +12,15 @@ use crate::name_table::{Names, name_of};
 use crate::short_name::LONGEST_NAME;
 use netlink_family::MessageView;
 use netlink_route::Links;
-use netlink_route::links::{IFI_INDEX, IFLA_IFNAME, RTM_DELLINK, RTM_NEWLINK};
+use netlink_route::links::{IFI_FAMILY, IFI_INDEX, IFLA_IFNAME, RTM_DELLINK, RTM_NEWLINK};
 use std::alloc::{AllocError, Global};
 
 /// The number of links whose names are kept.
 pub(crate) const MOST_LINKS: usize = 65_536;
+
+/// The address family of messages about the ports of a bridge. A port that leaves its bridge is deleted
+/// there, and is still a link.
+const AF_BRIDGE: u8 = 7;
 
 /// What a message about a link says about its name.
 pub(crate) enum News<'a> {
@@ -43,13 +47,17 @@ pub(crate) fn news_of<'a>(link: &MessageView<'a, Links>) -> News<'a>
         };
     }
     if link.message_type == RTM_DELLINK {
+        if link.header().u8(IFI_FAMILY) == AF_BRIDGE {
+            return News::Nothing;
+        }
         return News::Deleted(index);
     }
     News::Nothing
 }
 
 /// Enters the name of a link that exists, or removes that of a link that is deleted. A link keeps its
-/// name if a message has no name or a longer one than the kernel allows. Returns `AllocError` if an
+/// name if a message has no name or a longer one than the kernel allows, or says that it is no port of a
+/// bridge any more. Returns `AllocError` if an
 /// allocation fails.
 pub fn learn_link(
     alloc: Global,

@@ -36,7 +36,8 @@ pub use crate::next_hop_objects::{NextHopObjectMessage, NextHopObjects};
 pub use crate::next_hops::{NextHop, NextHops};
 pub use crate::prefixes::{PrefixMessage, Prefixes};
 pub use crate::route::{
-    AllTables, LastTables, LaterTables, OtherTables, PacketTables, RouteMessage, RouteTables,
+    AllTables, LastTables, LaterTables, MoreTables, OtherTables, RouteMessage, RouteTables,
+    TrafficTables,
 };
 pub use crate::routes::{RouteEntryMessage, Routes};
 pub use crate::rules::{RuleMessage, Rules};

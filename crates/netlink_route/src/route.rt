@@ -28,16 +28,17 @@ pub type AllTables = Both<Links, Both<Addresses, OtherTables>>;
 pub type OtherTables = Both<Neighbours, Both<Routes, LaterTables>>;
 
 /// The tables that follow those of routes.
-pub type LaterTables = Both<Rules, Both<NeighbourTables, LastTables>>;
+pub type LaterTables = Both<Rules, Both<NeighbourTables, MoreTables>>;
 
-/// The tables that follow those of neighbour tables.
-pub type LastTables = Both<
-    Namespaces,
-    Both<NextHopObjects, Both<NetworkConfigurations, Both<Prefixes, PacketTables>>>,
->;
+/// The tables that follow those of neighbour tables. They are no one list, because each level costs the
+/// prover.
+pub type MoreTables = Both<LastTables, TrafficTables>;
 
-/// The tables that follow those of announced prefixes.
-pub type PacketTables = Both<TrafficControl, TrafficActions>;
+/// The tables of ids of network namespaces, next hops, settings of links and announced prefixes.
+pub type LastTables = Both<Namespaces, Both<NextHopObjects, Both<NetworkConfigurations, Prefixes>>>;
+
+/// The tables of traffic control and its actions.
+pub type TrafficTables = Both<TrafficControl, TrafficActions>;
 
 impl Join for RouteTables {
     type All = AllTables;

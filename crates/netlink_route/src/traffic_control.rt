@@ -1,9 +1,9 @@
 //! Traffic control: queueing disciplines, their classes, filters, and chains of filters
 //! (linux/rtnetlink.h, linux/pkt_sched.h, linux/gen_stats.h).
 
-ghost use Rattle.std.specs.Prelude.{◌==◌, ◌||◌, refl};
+ghost use Rattle.std.specs.Prelude.{◌==◌, ◌++◌, ◌||◌, refl};
 ghost use Rattle.netlink_family.specs.Shapes.{named, named_fields};
-ghost use Rattle.netlink_route.specs.declared.traffic_control.TheConstants.{FIELDS, ROWS, RTM_GETCHAIN, RTM_GETQDISC, RTM_GETTCLASS, RTM_GETTFILTER, TYPES};
+ghost use Rattle.netlink_route.specs.declared.traffic_control.TheConstants.{FIELDS, FILTERS, QUEUES, ROWS, RTM_GETCHAIN, RTM_GETQDISC, RTM_GETTCLASS, RTM_GETTFILTER};
 
 use netlink_family::{Family, Field, OwnedMessage, Row, Shape, TOP, Table, is_among};
 use netlink_packet_core::NLA_TYPE_MASK;
@@ -147,13 +147,17 @@ pub const TCA_HTB_CEIL64: u16 = 7;
 
 pub const TCA_HTB_OFFLOAD: u16 = 9;
 
-const TYPES: &'static [u16] = &[
+// Two lists, because the compiler looks through a short list without a loop.
+const QUEUES: &'static [u16] = &[
     RTM_NEWQDISC,
     RTM_DELQDISC,
     RTM_GETQDISC,
     RTM_NEWTCLASS,
     RTM_DELTCLASS,
     RTM_GETTCLASS,
+];
+
+const FILTERS: &'static [u16] = &[
     RTM_NEWTFILTER,
     RTM_DELTFILTER,
     RTM_GETTFILTER,
@@ -229,7 +233,7 @@ const ROWS: &'static [Row] = &[
 pub struct TrafficControl;
 
 impl Table for TrafficControl {
-    ghost types = { TYPES.now };
+    ghost types = { QUEUES.now ++ FILTERS.now };
 
     ghost header_len = { λ _. 20 };
 
@@ -239,8 +243,9 @@ impl Table for TrafficControl {
 
     ghost fields = { λ _. named_fields FIELDS.now (λ name. name.now) };
 
+    #[tactic(auto, using(netlink_family::specs::MessageLaws::has_append))]
     fn has(message_type: u16) -> bool {
-        is_among(TYPES, message_type)
+        is_among(QUEUES, message_type) || is_among(FILTERS, message_type)
     }
 
     fn header_len(_message_type: u16) -> usize {

@@ -1,11 +1,7 @@
 //! What a queueing discipline has.
 
-ghost use Rattle.std.specs.Prelude.{◌≡◌, OnOk, slice_index, string_bytes};
-ghost use Rattle.std.specs.Option.{option_map};
-ghost use Rattle.netlink_family.specs.Finding.{first_at};
-ghost use Rattle.netlink_route.specs.declared.traffic_control.TheConstants.{TCA_HW_OFFLOAD};
-ghost use Rattle.netlink_traffic_lines.specs.Discipline.{above_part, discipline_front, discipline_state, discipline_text, users_part};
-ghost use Rattle.netlink_traffic_lines.specs.Values.{is_set};
+ghost use Rattle.std.specs.Prelude.{◌≡◌, OnOk, string_bytes};
+ghost use Rattle.netlink_traffic_lines.specs.Discipline.{above_part, block_parts, discipline_front, discipline_state, discipline_text, egress_of, ingress_of, offload_of, offload_part, users_part};
 ghost use Rattle.netlink_words.specs.Parts.{AddsPart, AddsParts};
 
 use crate::ids::{handle_of, handle_text, index_of, info_of, kind_of, parent_of, push_parent};
@@ -18,7 +14,7 @@ use netlink_route::TrafficControl;
 use netlink_route::traffic_control::{
     TCA_EGRESS_BLOCK, TCA_HW_OFFLOAD, TCA_INGRESS_BLOCK, TCA_OPTIONS,
 };
-use netlink_words::parts::{or_zero, push_number, push_part, push_when};
+use netlink_words::parts::{or_zero, push_number, push_part};
 use netlink_words::text::name_text;
 use std::alloc::{AllocError, Global};
 
@@ -35,6 +31,7 @@ pub(crate) fn push_discipline(
 {
     push_front(alloc, text, known, packet)?;
     push_state(text, packet)?;
+    push_blocks(text, ingress_of(packet), egress_of(packet))?;
     let options = packet.view().first(TCA_OPTIONS);
     push_options(alloc, text, kind_of(packet), options)
 }
@@ -67,16 +64,36 @@ fn push_above(alloc: Global, text: &mut String, parent: u32) -> Result<(), Alloc
     push_parent(alloc, text, parent)
 }
 
-/// Appends how many use the discipline, whether the hardware does the work, and the blocks of filters.
+/// Appends how many use the discipline, and whether the hardware does the work.
 #[tactic(auto, unfolding(crate::specs::Discipline::discipline_state))]
 fn push_state(text: &mut String, packet: &MessageView<'_, TrafficControl>) -> Result<(), AllocError>
     ensures { OnOk result (AddsParts text.old text.new (discipline_state packet.now.payload.now)) }
 {
-    let view = packet.view();
     push_users(text, info_of(packet))?;
-    push_when(text, is_offloaded(packet), "offloaded")?;
-    push_counted(text, "ingress_block", or_zero(view.u32(TCA_INGRESS_BLOCK)))?;
-    push_counted(text, "egress_block", or_zero(view.u32(TCA_EGRESS_BLOCK)))
+    push_offload(text, offload_of(packet))
+}
+
+/// Appends the blocks of filters at the two sides, unless they are 0.
+#[tactic(auto, unfolding(crate::specs::Discipline::block_parts))]
+fn push_blocks(text: &mut String, ingress: u32, egress: u32) -> Result<(), AllocError>
+    ensures { OnOk result (AddsParts text.old text.new (block_parts ingress egress)) }
+{
+    push_counted(text, "ingress_block", ingress)?;
+    push_counted(text, "egress_block", egress)
+}
+
+/// Returns the block of filters for what comes in, 0 without one.
+fn ingress_of(packet: &MessageView<'_, TrafficControl>) -> u32
+    ensures { result ≡ ingress_of packet.now.payload.now }
+{
+    or_zero(packet.view().u32(TCA_INGRESS_BLOCK))
+}
+
+/// Returns the block of filters for what goes out, 0 without one.
+fn egress_of(packet: &MessageView<'_, TrafficControl>) -> u32
+    ensures { result ≡ egress_of packet.now.payload.now }
+{
+    or_zero(packet.view().u32(TCA_EGRESS_BLOCK))
 }
 
 /// Appends how many use the discipline, unless it is one.
@@ -90,14 +107,20 @@ fn push_users(text: &mut String, users: u32) -> Result<(), AllocError>
     push_number(text, "refcnt", Some(users))
 }
 
-/// Returns whether the hardware does the work.
-#[tactic(auto, unfolding(crate::specs::Values::is_set))]
-fn is_offloaded(packet: &MessageView<'_, TrafficControl>) -> bool
-    ensures { result ≡ is_set (option_map (λ value. slice_index value 0)
-        (first_at 20 packet.now.payload.now TCA_HW_OFFLOAD)) }
+/// Returns the number that says whether the hardware does the work.
+fn offload_of(packet: &MessageView<'_, TrafficControl>) -> Option<u8>
+    ensures { result ≡ offload_of packet.now.payload.now }
 {
-    match packet.view().u8(TCA_HW_OFFLOAD) {
-        None => false,
-        Some(number) => number != 0,
+    packet.view().u8(TCA_HW_OFFLOAD)
+}
+
+/// Appends that the hardware does the work, if a number other than 0 says so.
+#[tactic(auto, unfolding(crate::specs::Discipline::offload_part, netlink_words::specs::Parts::with_part))]
+fn push_offload(text: &mut String, offload: Option<u8>) -> Result<(), AllocError>
+    ensures { OnOk result (AddsPart text.old text.new (offload_part offload)) }
+{
+    match offload {
+        None | Some(0) => Ok(()),
+        Some(_) => push_part(text, "offloaded"),
     }
 }
