@@ -52,6 +52,35 @@ absent_gets table by payload view kind old n is some shaped = record {
   shaped = shaped;
 }
 
+-- the same, of a getter that writes where the bytes are
+pub absent_gets_part : {F : Type 0} (table : Ghosts F) (by : Shape → Option (List ℕ) → Option (List ℕ)) (payload : List ℕ) (view : View)
+    (kind : ℕ) (old : Part) (n : ℕ) → n ≡ absent_result (shape_of table payload view kind) (found_of payload view kind)
+    → n ≢ 0 → (IsViewOf table payload view → n ≢ 36) → GetsPart table by payload view kind old old n
+absent_gets_part table by payload view kind old n is some shaped = record {
+  answers =
+      absent_answers (shape_of table payload view kind) (found_of payload view kind)
+      (by (shape_of table payload view kind) (found_of payload view kind)) n is some;
+  written = λ zero. absurd (some zero);
+  inside = λ zero. absurd (some zero);
+  unchanged = λ _. refl;
+  shaped = shaped;
+}
+
+-- the same, of the getter of a nest
+pub absent_nest : {F : Type 0} (table : Ghosts F) (payload : List ℕ) (view : View) (kind : ℕ) (old : View) (n : ℕ)
+    → n ≡ absent_result (shape_of table payload view kind) (found_of payload view kind)
+    → n ≢ 0 → (IsViewOf table payload view → n ≢ 36) → GetsNest table payload view kind old old n
+absent_nest table payload view kind old n is some shaped = record {
+  answers =
+      absent_answers (shape_of table payload view kind) (found_of payload view kind)
+      (nest_by (shape_of table payload view kind) (found_of payload view kind)) n is some;
+  written = λ zero. absurd (some zero);
+  nest = λ zero. absurd (some zero);
+  unchanged = λ _. refl;
+  shaped = shaped;
+  again = λ _ zero. absurd (some zero);
+}
+
 -- the first bytes of the value
 pub text_gets : {F : Type 0} (table : Ghosts F) (payload : List ℕ) (view : View) (kind : ℕ) (old : Part) (shape : Shape) (part : Part)
     (value : List ℕ) (n : ℕ) → shape ≡ shape_of table payload view kind → found_of payload view kind ≡ Some value

@@ -1,0 +1,10 @@
+use Rattle.netlink_family.specs.Finding.{i32_by}
+use Rattle.netlink_route_c.proofs.Getting.{absent_gets}
+use Rattle.netlink_route_c.proofs.get.nlp_view_i32.Goals as goal
+
+pub returns-in-Err : goal.returns-in-Err
+returns-in-Err c = record {
+  gets =
+      absent_gets _ i32_by c.args.payload.now c.args.view.now c.args.kind c.args.number.now c.in-Err.result
+      c.in-Err.ensures.absent c.in-Err.ensures.some c.in-Err.ensures.shaped;
+}
