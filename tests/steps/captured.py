@@ -30,6 +30,9 @@ CAPTURED = os.path.join(TOP, "examples", "captured")
 # Files of datagrams that programs and the kernel sent, in examples/captured.
 PROGRAMS = ("programs.tsv", "kinds.tsv")
 
+# What `tc monitor` saw, beside links and neighbours.
+STREAM = "traffic/stream"
+
 # The number of the other datagrams. tests/expected.txt states how many frames and searches for families they have.
 DATAGRAMS = 71
 
@@ -135,6 +138,8 @@ def main():
         for at, frame in enumerate(frames_of(read(name)))
     ]
     captured += [(name, "0", frame) for name, frame in distinct_frames(PROGRAMS)]
+    different = dict.fromkeys(frames_of(read(STREAM)))
+    captured += [(f"{STREAM}, different frame {at}", "0", frame) for at, frame in enumerate(different)]
     rows = [(name, [programs[it], NORMALIZES], frame, wanted(name, it, frame)) for name, it, frame in captured]
     own = sum(frame == text for _, _, frame, text in rows)
     frames, dump = len(rows), read("families-0")

@@ -792,7 +792,8 @@ def names_error(program):
 def all_frames():
     """Returns the frames whose bytes are compared with their lines: those of the files in examples/captured and of
     tests/kinds.txt, well-formed and malformed, and those of this script."""
-    frames = [*frames_of("ip/frames.bin"), *frames_of("monitor/stream.bin")]
+    names = ("ip/frames.bin", "monitor/stream.bin", "traffic/stream.bin")
+    frames = [frame for name in names for frame in frames_of(name)]
     frames += [frame for _name, _test, frame, _text in kind_rows()]
     return frames + [data for data, _line in [*LINES, *MALFORMED]]
 

@@ -26,7 +26,10 @@ RTM_F_CLONED = 0x200
 
 # What `ip monitor label` prints before the line of a message, by the type without its last two bits.
 LABELS = {16: "[LINK]", 20: "[ADDR]", 24: "[ROUTE]", 28: "[NEIGH]", 32: "[RULE]", 52: "[PREFIX]", 80: "[NETCONF]"}
-LABELS |= {88: "[NSID]", 104: "[NEXTHOP]", 116: "[NEXTHOPBUCKET]"}
+LABELS |= {88: "[NSID]", 92: "[STATS]", 104: "[NEXTHOP]", 116: "[NEXTHOPBUCKET]"}
+
+# And what `bridge monitor all` prints.
+LABELS |= {84: "[MDB]", 112: "[VLAN]", 120: "[TUNNEL]"}
 
 # And before the line of a route of multicast routing, by its families.
 MULTICAST_FAMILIES, MULTICAST_LABEL = (128, 129), "[MROUTE]"

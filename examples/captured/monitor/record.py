@@ -1,15 +1,22 @@
 #!/usr/bin/env python3
 """Records what `ip monitor all` sees while the commands of commands.txt run, in namespaces that this script makes, and
-what `ip` of iproute2 6.1 prints for it.
+what `ip` of iproute2 6.1 prints for it. In ../traffic: what `tc monitor` sees beside links and neighbours, and what `tc`
+and `ip` print.
 
-    ./record.py          (as root; needs iproute2, unshare and bash)
-    ./record.py lines    (makes lines.txt anew, of stream.bin)
+    ./record.py [traffic]          (as root; needs iproute2, unshare and bash)
+    ./record.py lines [traffic]    (makes lines.txt anew, of stream.bin)
 
-stream.bin: the datagrams, one after another. The kernel sends each message in a datagram of its own.
+stream.bin: the datagrams, one after another. The kernel sends each message in a datagram of its own, except that of a
+queueing discipline that another one replaces.
 lines.txt: the line of `ip -o monitor label file` for each message, with the spaces of ../ip/README.md. For this, `ip`
 runs in namespaces without these links and without lists of names.
 objects.jsonl: the object of `ip -j` for each message (../json).
 differences.tsv, written by hand: the lines in which `netlink_show` differs on purpose, as in ../ip.
+
+Of ../traffic, lines.txt has the first line of `tc monitor file` for messages of traffic control, and else that of `ip`.
+There, `tc` runs beside empty links that come and go as in the stream, since it asks the kernel for a name. refused.txt
+has the commands that the kernel of the recording refused, each with the error: a kernel with more modules records more.
+The commands of `bridge` are there too, although no table has their messages yet.
 
 The namespaces hold made-up links, addresses, routes, next hops, neighbours and rules alone. The script prints the
 commands that fail here, and the number of messages of each type.
@@ -20,17 +27,27 @@ import socket
 import struct
 import subprocess
 import sys
+import tempfile
 import time
 from collections import Counter
 
 HERE = os.path.dirname(os.path.abspath(__file__))
 sys.path.append(os.path.join(HERE, "..", "ip"))
 
-from compare import frames_in, kind_of, spaced  # noqa: E402 (it is in that folder)
+from compare import LINKS, frames_in, kind_of, spaced  # noqa: E402 (it is in that folder)
 
 # The groups that `ip monitor all` joins (RTNLGRP_* of linux/rtnetlink.h): links, neighbours, addresses, routes,
 # multicast routes, rules, prefixes, settings, MPLS, ids of namespaces, next hops and statistics.
 GROUPS = (1, 3, 5, 6, 7, 8, 9, 10, 11, 18, 19, 24, 25, 27, 28, 29, 32, 36)
+
+# Links, neighbours and traffic control.
+TRAFFIC_GROUPS = (1, 3, 4)
+TRAFFIC = os.path.join(HERE, "..", "traffic")
+
+# The types of messages that `tc` prints, without the last two bits.
+OF_TC = (36, 40, 44, 48, 100)
+
+AF_BRIDGE, IFLA_IFNAME = 7, 3
 SOL_NETLINK, NETLINK_ADD_MEMBERSHIP, SO_RCVBUFFORCE = 270, 1, 33
 
 # Programs that commands run. The first enters a multicast route of each protocol, from d0 to br0; both go as it ends.
@@ -63,12 +80,12 @@ router.sendto(message, ("ff02::1", 0, 0, if_nametoindex("there")))
 """
 
 
-def listener():
-    """Returns a socket that receives the notifications of GROUPS."""
+def listener(groups):
+    """Returns a socket that receives the notifications of the groups."""
     kernel = socket.socket(socket.AF_NETLINK, socket.SOCK_RAW, 0)
     kernel.setsockopt(socket.SOL_SOCKET, SO_RCVBUFFORCE, 1 << 23)
     kernel.bind((0, 0))
-    for group in GROUPS:
+    for group in groups:
         kernel.setsockopt(SOL_NETLINK, NETLINK_ADD_MEMBERSHIP, group)
     kernel.setblocking(False)
     return kernel
@@ -84,53 +101,124 @@ def pending(kernel):
             return
 
 
-def record():
-    """Runs the commands, and writes stream.bin."""
+def record(folder, groups):
+    """Runs the commands, and writes stream.bin; and in ../traffic, refused.txt."""
     subprocess.run(["mount", "-t", "tmpfs", "none", "/run"], check=True)
-    with open(os.path.join(HERE, "commands.txt"), encoding="utf-8") as file:
+    with open(os.path.join(folder, "commands.txt"), encoding="utf-8") as file:
         commands = [line for line in file.read().splitlines() if line and line[0] != "#"]
-    datagrams = []
-    with listener() as kernel:
+    datagrams, refused = [], []
+    with listener(groups) as kernel:
         for words in commands:
             environment = {**os.environ, "MULTICAST": MULTICAST, "ADVERTISE": ADVERTISE}
             ended = subprocess.run(["sh", "-c", words], env=environment, stderr=subprocess.PIPE, check=False)
             if ended.returncode:
-                print(f"failed: {words}: {ended.stderr.decode('latin-1').strip()}")
+                refused.append(f"{words}: {' '.join(ended.stderr.decode('latin-1').split())}")
+                print(f"failed: {refused[-1]}")
             datagrams += pending(kernel)
         time.sleep(1)
         datagrams += pending(kernel)
-    if any(len(it) != (struct.unpack_from("<I", it)[0] + 3) & ~3 for it in datagrams):
-        sys.exit("a datagram is not one message with its padding")
-    with open(os.path.join(HERE, "stream.bin"), "wb") as file:
-        file.write(b"".join(datagrams))
-    print(len(datagrams), "datagrams, by type:", dict(sorted(Counter(map(kind_of, datagrams)).items())))
+    frames = [frame for datagram in datagrams for frame in frames_in(datagram)]
+    if any(len(it) != (struct.unpack_from("<I", it)[0] + 3) & ~3 for it in frames):
+        sys.exit("a datagram ends within a message or its padding")
+    with open(os.path.join(folder, "stream.bin"), "wb") as file:
+        file.write(b"".join(frames))
+    if folder == TRAFFIC:
+        with open(os.path.join(folder, "refused.txt"), "w", encoding="latin-1") as file:
+            file.write("".join(f"{it}\n" for it in refused))
+    print(len(frames), "messages, by type:", dict(sorted(Counter(map(kind_of, frames)).items())))
+
+
+def frames_of(folder):
+    with open(os.path.join(folder, "stream.bin"), "rb") as file:
+        return list(frames_in(file.read()))
+
+
+def printed_by(words, data):
+    """Returns the lines that a program prints for a file of messages."""
+    with tempfile.NamedTemporaryFile() as file:
+        file.write(data)
+        file.flush()
+        result = subprocess.run([*words, file.name], stdout=subprocess.PIPE, check=True)
+    return result.stdout.decode("latin-1").removesuffix("\n").split("\n")
+
+
+def lines_of_ip(frames):
+    """Returns the label and the line of `ip` for each message."""
+    script = "mount -t tmpfs none /etc/iproute2; mount -t tmpfs none /run; mount --bind /dev/null /etc/protocols; "
+    words = ["unshare", "-nm", "sh", "-c", f'{script} exec ip -o monitor label file "$0"']
+    printed = printed_by(words, b"".join(frames))
+    if len(printed) != len(frames):
+        sys.exit(f"ip printed {len(printed)} lines for {len(frames)} messages")
+    parts = [line.partition("]") for line in printed]
+    return [f"{label}]{spaced(frame, rest)}" for frame, (label, _, rest) in zip(frames, parts)]
 
 
 def lines():
     """Writes lines.txt, of stream.bin."""
-    script = "mount -t tmpfs none /etc/iproute2; mount -t tmpfs none /run; mount --bind /dev/null /etc/protocols; "
-    path = os.path.join(HERE, "stream.bin")
-    words = ["unshare", "-nm", "sh", "-c", f'{script} exec ip -o monitor label file "$0"', path]
-    with open(path, "rb") as file:
-        frames = list(frames_in(file.read()))
-    printed = subprocess.run(words, stdout=subprocess.PIPE, check=True).stdout.decode("latin-1").split("\n")[:-1]
-    if len(printed) != len(frames):
-        sys.exit(f"ip printed {len(printed)} lines for {len(frames)} messages")
     with open(os.path.join(HERE, "lines.txt"), "w", encoding="latin-1") as file:
-        for frame, line in zip(frames, printed):
-            label, _, rest = line.partition("]")
-            file.write(f"{label}]{spaced(frame, rest)}\n")
+        file.write("".join(f"{it}\n" for it in lines_of_ip(frames_of(HERE))))
+
+
+def follow(frame):
+    """Adds or deletes a link, with its index and name, as a message about links states. Ports of bridges stay."""
+    if kind_of(frame) not in LINKS or frame[16] == AF_BRIDGE:
+        return
+    index, name = struct.unpack_from("<I", frame, 20)[0], name_of(frame)
+    words = ["add", name, "index", str(index), "type", "ifb"] if kind_of(frame) == LINKS[0] else ["del", name]
+    subprocess.run(["ip", "link", *words], stderr=subprocess.DEVNULL, check=False)
+
+
+def name_of(frame):
+    """Returns `IFLA_IFNAME`, which is the first attribute of a message about a link."""
+    length, kind = struct.unpack_from("<HH", frame, 32)
+    if kind != IFLA_IFNAME:
+        sys.exit("a link does not begin with its name")
+    return frame[36 : 32 + length].rstrip(b"\0").decode("latin-1")
+
+
+def is_of_tc(frame):
+    return kind_of(frame) & ~3 in OF_TC
+
+
+def traffic_line(frame):
+    """Returns the first line that `tc` prints for a message."""
+    return " ".join(printed_by(["tc", "monitor", "file"], frame)[0].split())
+
+
+def traffic_lines():
+    """Writes lines.txt of ../traffic. This runs in namespaces of its own."""
+    for words in ("-t tmpfs none /run", "-t tmpfs none /etc/iproute2", "--bind /dev/null /etc/protocols"):
+        subprocess.run(["mount", *words.split()], check=True)
+    frames = frames_of(TRAFFIC)
+    from_ip = iter(lines_of_ip([it for it in frames if not is_of_tc(it)]))
+    with open(os.path.join(TRAFFIC, "lines.txt"), "w", encoding="latin-1") as file:
+        for frame in frames:
+            follow(frame)
+            file.write(f"{traffic_line(frame) if is_of_tc(frame) else next(from_ip)}\n")
+
+
+def in_namespaces(*words):
+    """Runs this script with other words, in namespaces of its own."""
+    subprocess.run(["unshare", "-nm", sys.executable, os.path.abspath(__file__), *words], check=True)
 
 
 def main():
-    if sys.argv[1:] == ["record"]:
-        record()
-    elif sys.argv[1:] in ([], ["lines"]):
-        if not sys.argv[1:]:
-            subprocess.run(["unshare", "-nm", sys.executable, os.path.abspath(__file__), "record"], check=True)
-        lines()
+    words = sys.argv[1:]
+    if words == ["record"]:
+        record(HERE, GROUPS)
+    elif words == ["record", "traffic"]:
+        record(TRAFFIC, TRAFFIC_GROUPS)
+    elif words == ["print", "traffic"]:
+        traffic_lines()
+    elif words in ([], ["traffic"], ["lines"], ["lines", "traffic"]):
+        if words[:1] != ["lines"]:
+            in_namespaces("record", *words)
+        if "traffic" in words:
+            in_namespaces("print", "traffic")
+        else:
+            lines()
     else:
-        sys.exit("arguments: none, or `lines`")
+        sys.exit("arguments: none, `lines`, `traffic`, or `lines traffic`")
 
 
 main()
