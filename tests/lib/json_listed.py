@@ -74,18 +74,10 @@ def with_source(route):
     return found
 
 
-def is_entry_gone(members):
-    return members["message"] == "RTM_DELNEIGH" and members.get("state") == ["PERMANENT"]
-
-
-def without_forgotten(neighbour):
-    """Returns an entry that is gone without its link, if `ip` has forgotten the name of that."""
-    is_forgotten = is_entry_gone(neighbour) and re.fullmatch(r"if\d+", neighbour.get("dev", ""))
-    return without("dev")(neighbour) if is_forgotten else neighbour
-
-
-def without_link(neighbour):
-    return without("dev")(neighbour) if is_entry_gone(neighbour) else neighbour
+def without_port(neighbour):
+    """Returns the link address of a port that is gone, as a neighbour, without its link."""
+    is_gone = neighbour["message"] == "RTM_DELNEIGH" and neighbour.get("state") == ["PERMANENT"] and "lladdr" in neighbour
+    return without("dev")(neighbour) if is_gone else neighbour
 
 
 LISTED_MEMBERS = [
@@ -106,6 +98,6 @@ LISTED_REPLAYED = [
     ("the name of a link that its message lacks", without_own_name, same),
     ("an id of no namespace", same, without_value(lambda it: it < 0, "nsid", "current-nsid")),
     ("an unknown destination or source", with_source, same),
-    ("the name of a port that left its bridge", without_forgotten, without_link),
     ("a link address of no bytes", without_value(lambda it: it == "08", "lladdr"), same),
+    ("the name of a port that left its bridge", *2 * [without_port]),
 ]
