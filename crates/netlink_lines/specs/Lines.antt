@@ -91,7 +91,7 @@ last_line known t payload =
     else None
 
 -- the line of a message that is about one of these, or about traffic control
-abbrev pub more_line : List Known → ℕ → List ℕ → Option (List ℕ)
+unfoldable pub more_line : List Known → ℕ → List ℕ → Option (List ℕ)
 more_line known t payload =
     if has_type last_types t then last_line known t payload
     else controlled_line known t payload

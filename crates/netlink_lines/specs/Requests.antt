@@ -18,12 +18,18 @@ is_request flags t = (has_flag flags NLM_F_REQUEST && not (bit_and t 3 == 2)) &&
 abbrev pub is_dump : ℕ → ℕ → Bool
 is_dump flags t = (has_flag flags NLM_F_REQUEST && has_flag flags NLM_F_DUMP) && bit_and t 3 == 2
 
--- the line of a request for a change, by the line of the same message without the flag
+-- the line of a request for a change, by the line of the same message without the flag, which begins with `deleted` in
+-- the lines of traffic control
+abbrev pub lower_line : List ℕ → List ℕ
+lower_line line =
+    if starts_with nat_eq line (codes "deleted") then codes "request delete" ++ drop 7 line
+    else codes "request " ++ line
+
+-- and with `Deleted` in the others
 abbrev pub request_line : List ℕ → List ℕ
 request_line line =
     if starts_with nat_eq line (codes "Deleted") then codes "request delete" ++ drop 7 line
-    else if starts_with nat_eq line (codes "deleted") then codes "request delete" ++ drop 7 line
-    else codes "request " ++ line
+    else lower_line line
 
 -- the line of a message with these flags and of this type, by its line as no request
 abbrev pub asked_line : ℕ → ℕ → List ℕ → List ℕ

@@ -203,6 +203,7 @@ fn later_line(
 }
 
 /// Returns the line of a message about what the tables after those of neighbour tables describe.
+#[tactic(auto, unfolding(crate::specs::Lines::more_line))]
 fn more_line(
     alloc: Global,
     known: &Names<'_>,

@@ -1,7 +1,7 @@
 //! What a program asks of the kernel: to change something, or to list what there is.
 
 ghost use Rattle.std.specs.Prelude.{◌≡◌, IfOk, string_bytes};
-ghost use Rattle.netlink_lines.specs.Requests.{asked_line, is_dump, is_request, repeats_flags, request_line};
+ghost use Rattle.netlink_lines.specs.Requests.{asked_line, is_dump, is_request, lower_line, repeats_flags, request_line};
 
 use netlink_packet_core::{NLM_F_DUMP, NLM_F_REQUEST};
 use std::alloc::{AllocError, Global};
@@ -61,11 +61,19 @@ pub(crate) fn asked_line(
 fn request_line(alloc: Global, line: &str) -> Result<String, AllocError>
     ensures { IfOk result (λ text. string_bytes text ≡ request_line line.now) }
 {
-    if let Some(rest) = line.strip_prefix("Deleted") {
-        return format!(in alloc; "request delete{rest}");
+    match line.strip_prefix("Deleted") {
+        Some(rest) => format!(in alloc; "request delete{rest}"),
+        None => lower_line(alloc, line),
     }
-    if let Some(rest) = line.strip_prefix("deleted") {
-        return format!(in alloc; "request delete{rest}");
+}
+
+/// Returns the line of a request for a change as `request_line` does, by a line of traffic control, which
+/// may begin with `deleted`, or by one that does not begin with `Deleted`.
+fn lower_line(alloc: Global, line: &str) -> Result<String, AllocError>
+    ensures { IfOk result (λ text. string_bytes text ≡ lower_line line.now) }
+{
+    match line.strip_prefix("deleted") {
+        Some(rest) => format!(in alloc; "request delete{rest}"),
+        None => format!(in alloc; "request {line}"),
     }
-    format!(in alloc; "request {line}")
 }

@@ -4,12 +4,12 @@ use Rattle.std.specs.List.{starts_with}
 use Rattle.std.specs.Prelude.{Bool, true, false, nat_eq, if◌then◌else◌}
 use Rattle.std.specs.Str.{IsCharBoundary}
 use Rattle.std.specs.Str.Pattern.{FindsTextPrefix, StripsPrefix}
-use Rattle.netlink_lines.specs.Requests.{request_line}
+use Rattle.netlink_lines.specs.Requests.{lower_line, request_line}
 use Rattle.netlink_lines.proofs.requests.request_line.Goals as goal
 
 -- a line by whether it begins with `Deleted`
 abbrev line_by : List ℕ → Bool → List ℕ
-line_by line begins = if begins then codes "request delete" ++ drop 7 line else codes "request " ++ line
+line_by line begins = if begins then codes "request delete" ++ drop 7 line else lower_line line
 
 with_delete : (line rest : List ℕ) → StripsPrefix (FindsTextPrefix (codes "Deleted")) line rest
     → request_line line ≡ codes "request delete" ++ rest
@@ -19,7 +19,7 @@ with_delete line rest (n, (size, whole, cut), is, long) =
     let same : drop 7 line ≡ rest = ap (λ (k : ℕ). drop k line) (sym size) ∙ sym is in
     ap (line_by line) (sym begins) ∙ ap (λ (l : List ℕ). codes "request delete" ++ l) same
 
-without_delete : (line : List ℕ) → FindsTextPrefix (codes "Deleted") line None → request_line line ≡ codes "request " ++ line
+without_delete : (line : List ℕ) → FindsTextPrefix (codes "Deleted") line None → request_line line ≡ lower_line line
 without_delete line none = ap (line_by line) (sym (starts_text false (codes "Deleted") line none))
 
 pub returns-in-Some : goal.returns-in-Some
