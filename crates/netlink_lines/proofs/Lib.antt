@@ -6,6 +6,7 @@ pub mod OnceBlocks
 pub mod OncePackets
 pub mod Reaching
 pub mod RejectedBytes
+pub mod Rest
 pub mod Running
 pub mod Shown
 pub mod Starting
