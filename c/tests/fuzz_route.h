@@ -98,10 +98,17 @@ static void get_nest(const struct input *in, struct nlp_view *view, uint16_t kin
         *view = *inner;
 }
 
-/* Returns whether a policy has the kinds of links or the encapsulations, among which others choose. */
+/* Returns whether a view is of traffic control, whose TCA_KIND chooses what TCA_OPTIONS is. */
+static bool is_traffic(const struct nlp_view *view)
+{
+    const uint16_t type = view->message_type;
+    return (type >= NLP_RTM_NEWQDISC && type <= NLP_RTM_GETTFILTER) || (type >= NLP_RTM_NEWCHAIN && type <= NLP_RTM_GETCHAIN);
+}
+
+/* Returns whether a policy has the kinds of links, the disciplines or the encapsulations, among which others choose. */
 static bool is_choice(const struct nlp_view *view, uint16_t policy)
 {
-    return family_of(view->message_type) == ROUTES ? policy == 3 : policy == 4;
+    return policy == (family_of(view->message_type) == ROUTES || is_traffic(view) ? 3 : 4);
 }
 
 /* Returns a view of the payload, or one that was changed, or of one of its nests. */
@@ -207,18 +214,18 @@ static void shape_of_kind(const struct input *in)
     CHECK(same_shape(shape, &expected) && same_view(view, &before));
 }
 
-/* Returns whether a shape that is kept is the one of IFLA_INFO_DATA, which a name chooses from the policy 4, or that of
- * RTA_ENCAP, which a number chooses from the policy 3. */
+/* Returns whether a shape that is kept is the one of IFLA_INFO_DATA or TCA_OPTIONS, which a name chooses from the policy 4
+ * or 3, or that of RTA_ENCAP, which a number chooses from the policy 3. */
 static bool is_chosen(const struct input *in, const struct nlp_view *view, const struct nlp_kept_shape *kept)
 {
-    const bool is_route = family_of(view->message_type) == ROUTES;
+    const bool is_route = family_of(view->message_type) == ROUTES, is_top = is_route || is_traffic(view);
     struct nlp_view info = *view;
     struct nlp_shape shape = { 0, 0, 0 };
-    info.policy = is_route ? 0 : 1;
+    info.policy = is_top ? 0 : 1;
     model_shape(in->bytes, in->len, &info, is_route ? NLP_RTA_ENCAP : NLP_IFLA_INFO_DATA, &shape);
     if (kept->kept != (is_route ? 2 : 1))
         return true;
-    return kept->by == (is_route ? NLP_RTA_ENCAP_TYPE : NLP_IFLA_INFO_KIND) && kept->policy == (is_route ? 3 : 4)
+    return kept->by == (is_route ? NLP_RTA_ENCAP_TYPE : NLP_IFLA_INFO_KIND) && kept->policy == (is_top ? 3 : 4)
         && same_shape(&kept->shape, &shape);
 }
 
