@@ -15,7 +15,8 @@ sys.path.append(FOLDER)
 from compare import label_of  # noqa: E402 (it is in that folder)
 
 LINKS, ADDRESSES = (16, 17), (20, 21)
-IFLA_LINKINFO, IFLA_INFO_KIND = 18, 1
+IFLA_IFNAME, IFLA_LINKINFO, IFLA_INFO_KIND = 3, 18, 1
+AF_BRIDGE = 7
 
 
 def lines_in(name, folder=FOLDER):
@@ -87,6 +88,28 @@ def line_error(place, theirs, ours, difference):
     return None if ours == wanted else f"line {place} of ip: {ours!r}, not {wanted!r}; ip prints {theirs!r}"
 
 
+def kept_names(frames):
+    """Yields for each message the names that the program knows and `ip` has forgotten, by the words of `ip` for them:
+    to `ip`, a port that leaves its bridge is gone, and the program keeps its name."""
+    ours, its = {}, {}
+    for frame in frames:
+        kind, index = number(frame[4:6]), number(frame[20:24])
+        if kind == LINKS[0]:
+            name = first(frame[32:], IFLA_IFNAME).split(b"\0")[0].decode("latin-1")
+            if 0 < len(name) < 16:
+                ours[index] = its[index] = name
+        elif kind == LINKS[1]:
+            its.pop(index, None)
+            if frame[16] != AF_BRIDGE:
+                ours.pop(index, None)
+        yield {f"if{it}": name for it, name in ours.items() if it not in its}
+
+
+def with_kept(line, names):
+    """Returns a line of `ip` with the names that it has forgotten."""
+    return re.sub(r"\bif\d+\b", lambda it: escaped(names.get(it[0], it[0])), line)
+
+
 def label_errors(program, data, frames, lines):
     """Passes all frames to the program with `--label`. Returns what is wrong: each line must have the label of `ip`
     before it, and nothing else may change."""
@@ -106,7 +129,7 @@ def ip_errors(program):
     if (status, error, len(ours), ours[-1], len(frames)) != (0, b"", len(lines) + 1, "", len(lines)):
         what = f"status {status}, error {error}, {len(ours) - 1} lines instead of {len(lines)} for {len(frames)} frames"
         return [f"the frames of ip: {what}"], 2 * len(lines)
-    theirs = [with_kind(frame, line) for frame, line in zip(frames, lines)]
+    theirs = [with_kept(with_kind(*it), names) for *it, names in zip(frames, lines, kept_names(frames))]
     errors = [f"differences.tsv lists line {it}, which does not exist" for it in listed if not 0 < it <= len(theirs)]
     for place, (line, own) in enumerate(zip(theirs, ours), 1):
         errors.append(line_error(place, line, own, listed.get(place)))

@@ -10,7 +10,7 @@ import re
 
 from built import TOP, run
 from byte_lines import frames_of
-from ip_lines import joined, number
+from ip_lines import joined, kept_names, number
 from json_listed import LISTED_MEMBERS, LISTED_REPLAYED
 
 NEWLINK, TIME = 16, 15
@@ -119,6 +119,11 @@ def wanted_object(frame, theirs):
     return {"message": TYPES[kind_of(frame)], **numbers_of(frame), **theirs}
 
 
+def with_names(members, names):
+    """Returns an object of `ip` with the names of links that it has forgotten."""
+    return members and {key: names.get(it, it) if key in ("dev", "link", "master") else it for key, it in members.items()}
+
+
 def objects_in(folder):
     """Returns the rows of objects.jsonl in a folder of examples/captured."""
     with open(os.path.join(TOP, "examples", "captured", folder, "objects.jsonl"), encoding="utf-8") as file:
@@ -151,7 +156,8 @@ def replayed_errors(program):
     Returns what is wrong, and the number of objects."""
     errors, count = [], 0
     for folder, name in (("ip", "frames.bin"), ("monitor", "stream.bin")):
-        frames, theirs = frames_of(f"{folder}/{name}"), objects_in(folder)
+        frames = frames_of(f"{folder}/{name}")
+        theirs = [with_names(*it) for it in zip(objects_in(folder), kept_names(frames), strict=True)]
         errors += differences(folder, own_objects(program, [], frames), frames, theirs, LISTED_REPLAYED)
         count += len(theirs) - theirs.count(None)
     return errors, count

@@ -74,12 +74,6 @@ def with_source(route):
     return found
 
 
-def without_port(neighbour):
-    """Returns the link address of a port that is gone, as a neighbour, without its link."""
-    is_gone = neighbour["message"] == "RTM_DELNEIGH" and neighbour.get("state") == ["PERMANENT"] and "lladdr" in neighbour
-    return without("dev")(neighbour) if is_gone else neighbour
-
-
 LISTED_MEMBERS = [
     ("M-DOWN of a lower link", without_down, same),
     ("the reasons of protodown", without("proto_down_reason"), same),
@@ -99,5 +93,4 @@ LISTED_REPLAYED = [
     ("an id of no namespace", same, without_value(lambda it: it < 0, "nsid", "current-nsid")),
     ("an unknown destination or source", with_source, same),
     ("a link address of no bytes", without_value(lambda it: it == "08", "lladdr"), same),
-    ("the name of a port that left its bridge", *2 * [without_port]),
 ]

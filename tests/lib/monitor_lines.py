@@ -12,7 +12,7 @@ import struct
 
 from built import TOP, row, run
 from ip_lines import ADDRESSES, LINKS, differences, escaped, first, items, label_of, line_error, lines_in, number
-from ip_lines import wanted_line, with_kind
+from ip_lines import kept_names, wanted_line, with_kept, with_kind
 from pcap_rows import header, packet
 
 # The folders of examples/captured, each with what the names of its runs say.
@@ -78,10 +78,10 @@ def rows_of(name):
         frames = list(items(file.read(), 4))
     lines, listed = lines_in("lines.txt", folder), differences(folder)
     assert len(frames) == len(lines) and not listed.keys() - range(1, len(lines) + 1)
-    for place, (frame, line) in enumerate(zip(frames, lines), 1):
+    for place, (frame, line, names) in enumerate(zip(frames, lines, kept_names(frames)), 1):
         label = label_of(frame)
         assert (label or kind_of(frame) & ~3 in TRAFFIC) and line.startswith(label), f"line {place}: {line}"
-        yield frame, label, program_line(frame, line[len(label) :]), listed.get(place)
+        yield frame, label, with_kept(program_line(frame, line[len(label) :]), names), listed.get(place)
 
 
 def monitor_errors(program):

@@ -212,6 +212,7 @@ LONGEST = 1 << 20
 # The types of control messages, of times (iproute2's libnetlink.h) and of netlink_route (linux/netlink.h, rtnetlink.h).
 KNOWN = {*range(1, 5), *range(15, 23), *range(24, 27), *range(28, 31), *range(32, 35), 52, 64, 66, 67}
 KNOWN |= {*range(80, 83), *range(88, 91), *range(104, 107), *range(116, 119)}
+KNOWN |= {*range(36, 39), *range(40, 43), *range(44, 47), *range(48, 51), *range(100, 103)}
 
 # Bytes that no message starts with that can be read, and the error text for each.
 STOPS = [
@@ -266,7 +267,7 @@ LINES = [
 ]
 
 # Messages of unknown types, and routes of no family.
-LINES += [(frame(kind, b"abc"), f"type {kind}, 19 bytes\n".encode()) for kind in (0, 5, 36, 40, 65535)]
+LINES += [(frame(kind, b"abc"), f"type {kind}, 19 bytes\n".encode()) for kind in (0, 5, 56, 60, 65535)]
 LINES += [
     (frame(kind, bytes(size)), f"type {kind}, {16 + size} bytes\n".encode())
     for kind, size in ((24, 12), (25, 12))
@@ -476,7 +477,7 @@ OF_NAMED = object_text("RTM_NEWNEIGH", NEIGHBOUR_MEMBERS.replace("if3", "a"))
 ROUTE_MEMBERS = '"dst":"default","gateway":"10.1.0.2","dev":"if3","flags":[]'
 ZERO_MEMBERS = '"type":"none","dst":"default","protocol":"unspec","flags":[]'
 RULE_MEMBERS = '"priority":0,"src":"all","table":"main"'
-HEADED = struct.pack("<IHHII", 17, 40, 0x8001, 7, 0xFFFFFFFF) + b"a"
+HEADED = struct.pack("<IHHII", 17, 56, 0x8001, 7, 0xFFFFFFFF) + b"a"
 OBJECTS = [
     (link(NAMED), LINK_OBJECT),
     (HEADED, '{"type":56,"bytes":17,"nlmsg_flags":32769,"nlmsg_seq":7,"nlmsg_pid":4294967295}\n'),
