@@ -89,8 +89,9 @@ def line_error(place, theirs, ours, difference):
 
 
 def kept_names(frames):
-    """Yields for each message the names that the program knows and `ip` has forgotten, by the words of `ip` for them:
-    to `ip`, a port that leaves its bridge is gone, and the program keeps its name."""
+    """Yields for each message the names that the program knows and `ip` has forgotten, by the words of `ip` for them, and
+    those whose words are the name of no link. To `ip`, a port that leaves its bridge is gone; the program keeps its
+    name."""
     ours, its = {}, {}
     for frame in frames:
         kind, index = number(frame[4:6]), number(frame[20:24])
@@ -102,12 +103,18 @@ def kept_names(frames):
             its.pop(index, None)
             if frame[16] != AF_BRIDGE:
                 ours.pop(index, None)
-        yield {f"if{it}": name for it, name in ours.items() if it not in its}
+        names = {f"if{it}": name for it, name in ours.items() if it not in its}
+        yield names, {it: name for it, name in names.items() if it not in ours.values()}
 
 
-def with_kept(line, names):
-    """Returns a line of `ip` with the names that it has forgotten."""
-    return re.sub(r"\bif\d+\b", lambda it: escaped(names.get(it[0], it[0])), line)
+def with_kept(line, kept):
+    """Returns a line of `ip` with the names that it has forgotten: of the link itself, of a lower link in the same
+    namespace, and of another link, unless there is a link with such a name as `if9`."""
+    names, others = ({it: escaped(name) for it, name in found.items()} for found in kept)
+    line = re.sub(r"^((?:Deleted )?(\d+): )(if\2)\b", lambda it: it[1] + names.get(it[3], it[3]), line)
+    if " link-netnsid " not in line:
+        line = re.sub(r"@(if\d+):", lambda it: f"@{others.get(it[1], it[1])}:", line)
+    return re.sub(r"\b(dev|master) (if\d+)\b", lambda it: f"{it[1]} {others.get(it[2], it[2])}", line)
 
 
 def label_errors(program, data, frames, lines):

@@ -119,9 +119,15 @@ def wanted_object(frame, theirs):
     return {"message": TYPES[kind_of(frame)], **numbers_of(frame), **theirs}
 
 
-def with_names(members, names):
-    """Returns an object of `ip` with the names of links that it has forgotten."""
-    return members and {key: names.get(it, it) if key in ("dev", "link", "master") else it for key, it in members.items()}
+def with_names(members, kept):
+    """Returns an object of `ip` with the names of links that it has forgotten, as `with_kept` returns a line."""
+    if members is None:
+        return None
+    names, others = kept
+    keys = ("dev", "master") if "link_netnsid" in members else ("dev", "link", "master")
+    found = {key: others.get(it, it) if key in keys else it for key, it in members.items()}
+    is_own = "index" in members and members.get("dev") == f"if{members['index']}"
+    return {**found, "dev": names.get(members["dev"], members["dev"])} if is_own else found
 
 
 def objects_in(folder):
