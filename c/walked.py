@@ -42,7 +42,7 @@ class Family:
         """Returns the row of a kind in a block."""
         if self.links and kind == INFO_DATA:
             first = next((value for it, value in attributes(block) if it & 0x3FFF == INFO_KIND), b"")
-            name = first.partition(b"\0")[0].decode()
+            name = first.partition(b"\0")[0].decode("latin-1")
             if (policy, name) in self.links:
                 return "FORM_NEST", 0, self.links[policy, name]
         if self.encapsulations and (policy, kind) == (0, ENCAP):
