@@ -1,15 +1,19 @@
 //! Messages of route netlink (linux/rtnetlink.h): links, addresses, neighbours, routes, rules,
-//! neighbour tables, ids of network namespaces, next hops, settings of links, announced prefixes, and
-//! traffic control with its actions.
+//! neighbour tables, ids of network namespaces, next hops, settings of links, announced prefixes,
+//! traffic control with its actions, and multicast groups, statistics, VLANs and filters of VNIs of
+//! bridges.
 //! Each family is a table in a module of its own, with the constants of its header file.
 //! `RouteMessage` joins them.
 #![tactic(auto)]
 
 pub mod addresses;
+pub mod bridge_vlans;
 pub mod encapsulations;
 pub mod link_kinds;
 mod link_rows;
+pub mod link_statistics;
 pub mod links;
+pub mod multicast_groups;
 pub mod names;
 pub mod namespaces;
 pub mod neighbour_tables;
@@ -24,9 +28,13 @@ pub mod routes;
 pub mod rules;
 pub mod traffic_actions;
 pub mod traffic_control;
+pub mod vni_filters;
 
 pub use crate::addresses::{AddressMessage, Addresses};
+pub use crate::bridge_vlans::{BridgeVlanMessage, BridgeVlans};
+pub use crate::link_statistics::{LinkStatistics, LinkStatisticsMessage};
 pub use crate::links::{LinkMessage, Links};
+pub use crate::multicast_groups::{MulticastGroupMessage, MulticastGroups};
 pub use crate::names::{NeighbourState, OperState, RouteProtocol, RouteType, Scope};
 pub use crate::namespaces::{NamespaceMessage, Namespaces};
 pub use crate::neighbour_tables::{NeighbourTableMessage, NeighbourTables};
@@ -36,10 +44,11 @@ pub use crate::next_hop_objects::{NextHopObjectMessage, NextHopObjects};
 pub use crate::next_hops::{NextHop, NextHops};
 pub use crate::prefixes::{PrefixMessage, Prefixes};
 pub use crate::route::{
-    AllTables, LastTables, LaterTables, MoreTables, OtherTables, RouteMessage, RouteTables,
-    TrafficTables,
+    AllTables, BridgeTables, LastTables, LaterTables, MoreTables, OtherTables, RouteMessage,
+    RouteTables, RuleTables, TrafficTables,
 };
 pub use crate::routes::{RouteEntryMessage, Routes};
 pub use crate::rules::{RuleMessage, Rules};
 pub use crate::traffic_actions::{TrafficActionMessage, TrafficActions};
 pub use crate::traffic_control::{TrafficControl, TrafficControlMessage};
+pub use crate::vni_filters::{VniFilterMessage, VniFilters};

@@ -3,6 +3,7 @@
 //! netconf.h, nexthop.h, pkt_sched.h, pkt_cls.h and gen_stats.h, are in `examples/captured`, are what a
 //! kernel sent while `tc` ran, or are requests of `ip`.
 
+mod bridge_vlans;
 mod calls;
 mod captured;
 mod encapsulation_samples;
@@ -11,10 +12,12 @@ mod errors;
 mod getters;
 mod growth;
 mod link_kinds;
+mod link_statistics;
 mod mark;
 mod memory_not_asked;
 mod memory_refused;
 mod messages;
+mod multicast_groups;
 mod names;
 mod neighbours;
 mod next_hop_objects;

@@ -1,0 +1,5 @@
+pub mod MulticastGroup
+pub mod Statistics
+pub mod Vlan
+pub mod Vni
+pub mod Words
