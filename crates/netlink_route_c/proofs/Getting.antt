@@ -151,6 +151,14 @@ start_fits (Chosen by p) value fits = omega arith
 start_fits (ChosenByNumber by p) value fits = omega arith
 start_fits Bytes value fits = omega arith
 
+-- and so has the part of a payload that is such a value
+pub start_in : (payload : List ℕ) (shape : Shape) (part : Part) (value : List ℕ) → value ≡ part_of part payload
+    → part.offset + part.size ≤ length payload → has_shape shape value ≡ true → nest_start shape ≤ part.size
+start_in payload shape part value is inside fits =
+    let whole = ap length is ∙ part_size part payload inside in
+    let least = start_fits shape value fits in
+    omega arith
+
 policy_here : (shape : Shape) (policy : ℕ) → nest_of shape ≡ Some policy → policy_by shape ≡ policy
 policy_here shape policy is = grind arith
 
@@ -160,9 +168,7 @@ pub nest_gets : {F : Type 0} (table : Ghosts F) (payload : List ℕ) (view : Vie
     → Some policy ≡ nest_of shape → new ≡ nest_view view.message_type policy shape part
     → GetsNest table payload view kind old new 0
 nest_gets table payload view kind old new shape part value policy same found is inside fits nests made =
-    let whole = ap length is ∙ part_size part payload inside in
-    let least = start_fits shape value fits in
-    let starts : nest_start shape ≤ part.size = omega arith in
+    let starts = start_in payload shape part value is inside fits in
     let gives : nest_by shape (Some value) ≡ Some (nest_block shape value) = nest_here shape policy value (sym nests) in
     let there : found_of payload view kind ≡ Some (part_of part payload) = found ∙ ap Some is in
     let block : nest_block shape value ≡ block_of payload new =

@@ -1,5 +1,10 @@
-use Rattle.netlink_route_c.proofs.Getting.{absent_nest, nest_gets}
+use Rattle.netlink_route_c.proofs.Getting.{absent_nest, nest_gets, start_in}
 use Rattle.netlink_route_c.proofs.get_part.nlp_view_nest.Goals as goal
+
+pub nest_view-requires-clause-start : goal.nest_view-requires-clause-start
+nest_view-requires-clause-start c =
+    start_in _ c.in-Ok.found.shape c.in-Ok.found.part c.in-Ok.found.value.now c.in-Ok.ensures.part c.in-Ok.ensures.inside
+    c.in-Ok.ensures.fits
 
 pub returns-in-Some : goal.returns-in-Some
 returns-in-Some c =
