@@ -19,9 +19,11 @@ NEWLINK, TIME = 16, 15
 TABLES = {16: "LINK", 20: "ADDR", 24: "ROUTE", 28: "NEIGH", 32: "RULE", 52: "PREFIX", 64: "NEIGHTBL", 80: "NETCONF"}
 TABLES |= {88: "NSID", 104: "NEXTHOP", 116: "NEXTHOPBUCKET"}
 TABLES |= {36: "QDISC", 40: "TCLASS", 44: "TFILTER", 48: "ACTION", 100: "CHAIN"}
+TABLES |= {84: "MDB", 92: "STATS", 112: "VLAN", 120: "TUNNEL"}
 TYPES = {base + at: f"RTM_{word}{name}" for base, name in TABLES.items() for at, word in enumerate(("NEW", "DEL", "GET"))}
-TYPES |= {19: "RTM_SETLINK", 67: "RTM_SETNEIGHTBL", 1: "NLMSG_NOOP", 2: "NLMSG_ERROR", 3: "NLMSG_DONE", 4: "NLMSG_OVERRUN"}
-for unused in (53, 54, 65):
+TYPES |= {19: "RTM_SETLINK", 67: "RTM_SETNEIGHTBL", 95: "RTM_SETSTATS"}
+TYPES |= {1: "NLMSG_NOOP", 2: "NLMSG_ERROR", 3: "NLMSG_DONE", 4: "NLMSG_OVERRUN"}
+for unused in (53, 54, 65, 93):
     del TYPES[unused]
 
 NUMBERS = {"nlmsg_flags": (6, 8), "nlmsg_seq": (8, 12), "nlmsg_pid": (12, 16)}

@@ -1,9 +1,9 @@
-"""Computes the lines of `netlink_show` for what `ip monitor all` and `tc monitor` saw, of those that `ip` and `tc`
-printed.
+"""Computes the lines of `netlink_show` for what `ip monitor all`, `tc monitor` and `bridge monitor` saw, of those that
+`ip`, `tc` and `bridge` printed.
 
 record.py of examples/captured/monitor states how the messages and their lines were made, and those of
-examples/captured/traffic. tests/steps/show.py calls `monitor_errors`, and runs the program on `monitor_rows`: all
-messages as a stream, as packets and with times, and each prefix of a few of them.
+examples/captured/traffic and examples/captured/bridge. tests/steps/show.py calls `monitor_errors`, and runs the program
+on `monitor_rows`: all messages as a stream, as packets and with times, and each prefix of a few of them.
 """
 
 import os
@@ -16,7 +16,7 @@ from ip_lines import kept_names, wanted_line, with_kept, with_kind
 from pcap_rows import header, packet
 
 # The folders of examples/captured, each with what the names of its runs say.
-FOLDERS = {"monitor": "a monitor", "traffic": "tc"}
+FOLDERS = {"monitor": "a monitor", "traffic": "tc", "bridge": "bridge"}
 IFLA_TXQLEN, IFLA_LINKMODE, IFLA_IFALIAS = 13, 17, 20
 MODES = {b"\0": "DEFAULT", b"\1": "DORMANT"}
 
@@ -36,6 +36,8 @@ OF_TC = [
 BY_FLAGS = re.compile(r"(added|replaced) ")
 # The types of messages of traffic control, without the last two bits. They have no label.
 TRAFFIC = (36, 40, 44, 48, 100)
+# The types of messages about multicast groups, and the list of sources that `bridge -d` prints of a group.
+GROUPS, SOURCES = (84, 85), re.compile(r" source_list \S+")
 
 
 def kind_of(frame):
@@ -61,17 +63,19 @@ def with_link_words(frame, line):
 
 
 def program_line(frame, line):
-    """Returns a line of `ip`, without its label, as the program prints it."""
+    """Returns a line of `ip`, `tc` or `bridge`, without its label, as the program prints it."""
     if kind_of(frame) in LINKS:
         return with_kind(frame, with_link_words(frame, line))
     if kind_of(frame) & ~3 in TRAFFIC:
         line = BY_FLAGS.sub("", line) if BY_FLAGS.match(line) else line
         line = next((found[0] for form in OF_TC if (found := re.match(form, line))), line)
+    if kind_of(frame) in GROUPS:
+        line = SOURCES.sub("", line)
     return with_kind(frame, line) if kind_of(frame) in ADDRESSES else escaped(line)
 
 
 def rows_of(name):
-    """Yields each message of a folder, its label, the line of `ip` or `tc` for it as the program prints it,
+    """Yields each message of a folder, its label, the line of `ip`, `tc` or `bridge` for it as the program prints it,
     apart from a listed difference, and that difference."""
     folder = os.path.join(TOP, "examples", "captured", name)
     with open(os.path.join(folder, "stream.bin"), "rb") as file:

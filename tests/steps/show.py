@@ -5,8 +5,8 @@ also with `--json`, on pipes that stay open, with wrong arguments, and with inpu
 
 This script computes the expected lines for the captured datagrams itself, with Python's struct and ipaddress and the
 numbers of linux/if.h, if_link.h and if_addr.h. The expected lines for acknowledgements, errors and messages made here
-are written by hand, or are those that `ip` or `tc` prints (hop_lines.py, ip_lines.py, monitor_lines.py and
-traffic_lines.py in tests/lib). The expected error texts are those of docs/FORMAT.md.
+are written by hand, or are those that `ip`, `tc` or `bridge` prints (bridge_lines.py, hop_lines.py, ip_lines.py,
+monitor_lines.py and traffic_lines.py in tests/lib). The expected error texts are those of docs/FORMAT.md.
 """
 
 import ipaddress
@@ -19,7 +19,8 @@ import tempfile
 
 sys.path.insert(0, os.path.join(sys.path[0], "..", "lib"))
 
-from built import TOP, FailingDevices, built, error_of, in_parallel, row, run, silent, tally  # noqa: E402 (it is in that folder)
+from bridge_lines import ABOUT_3, ABOUT_A, BRIDGE_LABELLED, BRIDGE_LINES, INVALID_BRIDGES, SHORT_BRIDGES  # noqa: E402 (it is in that folder)
+from built import TOP, FailingDevices, built, error_of, in_parallel, row, run, silent, tally  # noqa: E402
 from byte_lines import byte_errors, frames_of, request_error  # noqa: E402
 from hop_lines import HOP_LINES, INVALID_HOPS, LABELLED, SHORT_HOPS, hop, integer, prefix, settings  # noqa: E402
 from ip_lines import ip_errors, joined  # noqa: E402
@@ -213,6 +214,7 @@ LONGEST = 1 << 20
 KNOWN = {*range(1, 5), *range(15, 23), *range(24, 27), *range(28, 31), *range(32, 35), 52, 64, 66, 67}
 KNOWN |= {*range(80, 83), *range(88, 91), *range(104, 107), *range(116, 119)}
 KNOWN |= {*range(36, 39), *range(40, 43), *range(44, 47), *range(48, 51), *range(100, 103)}
+KNOWN |= {*range(84, 87), 92, 94, 95, *range(112, 115), *range(120, 123)}
 
 # Bytes that no message starts with that can be read, and the error text for each.
 STOPS = [
@@ -248,8 +250,14 @@ MALFORMED = [
         invalid(20, 8, "attribute 2 has an address of 5 bytes instead of 4 or 16"),
     ),
 ]
-MALFORMED += [(data, short(number(data[4:6]), len(data) - 16, size)) for data, size in SHORT_HOPS + SHORT_TRAFFIC]
-MALFORMED += [(data, invalid(number(data[4:6]), *why)) for data, *why in INVALID_HOPS + INVALID_TRAFFIC]
+MALFORMED += [
+    (data, short(number(data[4:6]), len(data) - 16, size))
+    for data, size in SHORT_HOPS + SHORT_TRAFFIC + SHORT_BRIDGES
+]
+MALFORMED += [
+    (data, invalid(number(data[4:6]), *why))
+    for data, *why in INVALID_HOPS + INVALID_TRAFFIC + INVALID_BRIDGES
+]
 
 # Messages about links and addresses that have a line, and the line of each: requests with a `struct rtgenmsg` instead of
 # the header, padding in the header, strings without a NUL or of bytes that are not printable, a negative index, and a
@@ -344,8 +352,8 @@ LINES += [
     (frame(88, bytes(4) + attribute(5, b"\2\0\0\0")), b"current-nsid 2\n"),
 ]
 
-# Next hops, settings of links and announced prefixes, and traffic control.
-LINES += HOP_LINES + TRAFFIC_LINES
+# Next hops, settings of links and announced prefixes, traffic control, and bridges and statistics.
+LINES += HOP_LINES + TRAFFIC_LINES + BRIDGE_LINES
 
 # A request of 18 bytes and its padding.
 REQUEST = struct.pack("<IHHII", 18, 16, 5, 1, 0) + b"\7\7\0\0"
@@ -410,6 +418,7 @@ STREAMS += [
     (NAME + link(NAMED, BELOW, attribute(37, b"\2\0\0\0")), NAMED_LINE + b"7: a@if3: <> link/netrom link-netnsid 2\n"),
     (link(NAMED, index=-1) + link(attribute(5, b"\xff\xff\xff\xff")), b"-1: a: <> link/netrom\n7: if7@a: <> link/netrom\n"),
     (NAME + settings(2, (1, 3)) + prefix(index=3) + hop(integer(5, 3)), NAMED_LINE + b"inet a\ndev a\nid 0 dev a\n"),
+    (NAME + b"".join(ABOUT_3), NAMED_LINE + ABOUT_A),
 ]
 STREAMS += [
     (
@@ -618,8 +627,9 @@ def rows():
     yield row(data.hex(), [], (1, f"[1.000002] byte 24: {MALFORMED[0][1]}\n".encode(), BAD), data)
     data = in_packets(time(1, 2)) + pcap_packet(link(NAMED) + frame(1, b""))
     yield row(f"{data.hex()} with a label", ["--label"], (0, b"[1.000002] [LINK]" + LINE + b"noop\n", ""), data)
-    lines = b"".join(line for _, line in LABELLED)
-    yield row("next hops with labels", ["--label"], (0, lines, ""), joined(data for data, _ in LABELLED))
+    for name, labelled in (("next hops", LABELLED), ("bridges and statistics", BRIDGE_LABELLED)):
+        lines = b"".join(line for _, line in labelled)
+        yield row(f"{name} with labels", ["--label"], (0, lines, ""), joined(data for data, _ in labelled))
     yield row("a time and its bytes", ["--bytes"], (0, b"[1.000002] " + LINE + BYTES, ""), time(1, 2) + link(NAMED))
     yield row("labels and bytes", ["--label", "--bytes"], (0, b"[LINK]" + LINE + BYTES, ""), link(NAMED))
     options = ["--bytes", "--time", "--label"]
@@ -793,7 +803,7 @@ def names_error(program):
 def all_frames():
     """Returns the frames whose bytes are compared with their lines: those of the files in examples/captured and of
     tests/kinds.txt, well-formed and malformed, and those of this script."""
-    names = ("ip/frames.bin", "monitor/stream.bin", "traffic/stream.bin")
+    names = ("ip/frames.bin", "monitor/stream.bin", "traffic/stream.bin", "bridge/stream.bin")
     frames = [frame for name in names for frame in frames_of(name)]
     frames += [frame for _name, _test, frame, _text in kind_rows()]
     return frames + [data for data, _line in [*LINES, *MALFORMED]]

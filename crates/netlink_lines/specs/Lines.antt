@@ -6,6 +6,10 @@ use Rattle.netlink_lines.specs.SystemErrors.{code_text}
 use Rattle.netlink_address_lines.specs.Address.{address_line}
 use Rattle.netlink_address_lines.specs.NetworkConfiguration.{configuration_line}
 use Rattle.netlink_address_lines.specs.Prefix.{prefix_line}
+use Rattle.netlink_bridge_lines.specs.MulticastGroup.{group_line}
+use Rattle.netlink_bridge_lines.specs.Statistics.{statistics_line}
+use Rattle.netlink_bridge_lines.specs.Vlan.{vlan_line}
+use Rattle.netlink_bridge_lines.specs.Vni.{vni_line}
 use Rattle.netlink_names.specs.Known.{link_known}
 use Rattle.netlink_link_lines.specs.Link.{link_line}
 use Rattle.netlink_next_hop_lines.specs.NextHop.{next_hop_line}
@@ -71,37 +75,104 @@ traffic_types = 36 ∷ 37 ∷ 38 ∷ 40 ∷ 41 ∷ 42 ∷ 44 ∷ 45 ∷ 46 ∷ 1
 abbrev pub action_types : List ℕ
 action_types = 48 ∷ 49 ∷ 50 ∷ []
 
--- the line of a message that is about traffic control or its actions
+-- those of multicast groups of bridges, statistics of links, VLANs of bridges, and VNIs of VXLAN links
+abbrev pub group_types : List ℕ
+group_types = 84 ∷ 85 ∷ 86 ∷ []
+
+abbrev pub statistics_types : List ℕ
+statistics_types = 92 ∷ 94 ∷ 95 ∷ []
+
+abbrev pub vlan_types : List ℕ
+vlan_types = 112 ∷ 113 ∷ 114 ∷ []
+
+abbrev pub vni_types : List ℕ
+vni_types = 120 ∷ 121 ∷ 122 ∷ []
+
+-- the types of tables that are joined, in the order in which `netlink_route` joins them
+abbrev pub rule_or_table_types : List ℕ
+rule_or_table_types = rule_types ++ neighbour_table_types
+
+abbrev pub namespace_or_hop_types : List ℕ
+namespace_or_hop_types = namespace_types ++ next_hop_types
+
+abbrev pub last_types : List ℕ
+last_types = namespace_or_hop_types ++ (configuration_types ++ prefix_types)
+
+abbrev pub more_types : List ℕ
+more_types = rule_or_table_types ++ last_types
+
+abbrev pub controlled_types : List ℕ
+controlled_types = traffic_types ++ action_types
+
+abbrev pub group_or_statistics_types : List ℕ
+group_or_statistics_types = group_types ++ statistics_types
+
+-- the line of a message that is about multicast groups of a bridge or statistics of a link
+abbrev pub group_or_statistics_line : List Known → ℕ → List ℕ → Option (List ℕ)
+group_or_statistics_line known t payload =
+    if has_type group_types t then Some (group_line known t payload)
+    else if has_type statistics_types t then Some (statistics_line known t payload)
+    else None
+
+-- that is about VLANs of a bridge or VNIs of a VXLAN link
+abbrev pub vlan_or_vni_line : List Known → ℕ → List ℕ → Option (List ℕ)
+vlan_or_vni_line known t payload =
+    if has_type vlan_types t then Some (vlan_line known t payload)
+    else if has_type vni_types t then Some (vni_line known t payload)
+    else None
+
+-- that is about one of these four
+unfoldable pub bridge_line : List Known → ℕ → List ℕ → Option (List ℕ)
+bridge_line known t payload =
+    if has_type group_or_statistics_types t then group_or_statistics_line known t payload
+    else vlan_or_vni_line known t payload
+
+-- that is about traffic control or its actions
 abbrev pub controlled_line : List Known → ℕ → List ℕ → Option (List ℕ)
 controlled_line known t payload =
     if has_type traffic_types t then Some (traffic_line known t payload)
     else if has_type action_types t then Some (action_line t payload)
     else None
 
--- the types of the messages that are about an id of a namespace, a next hop, the settings of a link or a prefix
-abbrev pub last_types : List ℕ
-last_types = namespace_types ++ (next_hop_types ++ (configuration_types ++ prefix_types))
-
-abbrev pub last_line : List Known → ℕ → List ℕ → Option (List ℕ)
-last_line known t payload =
+-- that is about an id of a namespace or a next hop
+abbrev pub namespace_or_hop_line : List Known → ℕ → List ℕ → Option (List ℕ)
+namespace_or_hop_line known t payload =
     if has_type namespace_types t then Some (namespace_line t payload)
     else if has_type next_hop_types t then Some (next_hop_line known t payload)
-    else if has_type configuration_types t then Some (configuration_line known t payload)
+    else None
+
+-- that is about the settings of a link or a prefix
+abbrev pub settings_or_prefix_line : List Known → ℕ → List ℕ → Option (List ℕ)
+settings_or_prefix_line known t payload =
+    if has_type configuration_types t then Some (configuration_line known t payload)
     else if has_type prefix_types t then Some (prefix_line known payload)
     else None
 
--- the line of a message that is about one of these, or about traffic control
-unfoldable pub more_line : List Known → ℕ → List ℕ → Option (List ℕ)
-more_line known t payload =
-    if has_type last_types t then last_line known t payload
-    else controlled_line known t payload
+-- that is about one of these four
+unfoldable pub last_line : List Known → ℕ → List ℕ → Option (List ℕ)
+last_line known t payload =
+    if has_type namespace_or_hop_types t then namespace_or_hop_line known t payload
+    else settings_or_prefix_line known t payload
 
--- that is about a rule, a neighbour table or one of these
-abbrev pub later_line : List Known → ℕ → List ℕ → Option (List ℕ)
-later_line known t payload =
+-- that is about a rule or a neighbour table
+abbrev pub rule_or_table_line : List Known → ℕ → List ℕ → Option (List ℕ)
+rule_or_table_line known t payload =
     if has_type rule_types t then Some (rule_line t payload)
     else if has_type neighbour_table_types t then Some (neighbour_table_line known t payload)
-    else more_line known t payload
+    else None
+
+-- that is about one of these two or of those four
+unfoldable pub more_line : List Known → ℕ → List ℕ → Option (List ℕ)
+more_line known t payload =
+    if has_type rule_or_table_types t then rule_or_table_line known t payload
+    else last_line known t payload
+
+-- that is about one of these, about traffic control, or about a bridge
+abbrev pub later_line : List Known → ℕ → List ℕ → Option (List ℕ)
+later_line known t payload =
+    if has_type more_types t then more_line known t payload
+    else if has_type controlled_types t then controlled_line known t payload
+    else bridge_line known t payload
 
 -- the line of a message that is about neither a link nor an address
 abbrev pub other_line : List Known → ℕ → List ℕ → Option (List ℕ)

@@ -12,7 +12,7 @@ Lines = List ℕ × Bool
 abbrev pub plain : Options
 plain = record { labels = false; times = false; bytes = false; json = false }
 
--- the label of a message type, as `ip monitor label` prints it, by its group of four types
+-- the label of a message type, as `ip monitor label` or `bridge monitor all` prints it, by its group of four types
 abbrev pub label_in : ℕ → List ℕ
 label_in group =
     if group == 4 then codes "[LINK]"
@@ -22,9 +22,13 @@ label_in group =
     else if group == 8 then codes "[RULE]"
     else if group == 13 then codes "[PREFIX]"
     else if group == 20 then codes "[NETCONF]"
+    else if group == 21 then codes "[MDB]"
     else if group == 22 then codes "[NSID]"
+    else if group == 23 then codes "[STATS]"
     else if group == 26 then codes "[NEXTHOP]"
+    else if group == 28 then codes "[VLAN]"
     else if group == 29 then codes "[NEXTHOPBUCKET]"
+    else if group == 30 then codes "[TUNNEL]"
     else []
 
 -- routes of multicast routing have a label of their own

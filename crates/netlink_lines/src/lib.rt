@@ -3,8 +3,8 @@
 //! functions such as `link_text` those of one family. With `Options::json`, an object of JSON takes their place.
 //!
 //! The words of the lines are in `netlink_link_lines`, `netlink_address_lines`, `netlink_route_lines`,
-//! `netlink_next_hop_lines` and `netlink_traffic_lines`. This crate adds what these tables show. A definition
-//! `File::name` is in `specs/File.antt`.
+//! `netlink_next_hop_lines`, `netlink_traffic_lines` and `netlink_bridge_lines`. This crate adds what these
+//! tables show. A definition `File::name` is in `specs/File.antt`.
 //!
 //! Of a message:
 //!
@@ -15,7 +15,7 @@
 //! | `[MROUTE]` | `options::label_of` | `Options::label_of` |
 //! | `interrupted`, a line before | `messages::marked` | `Ack::marked_if` |
 //! | `request `, or `request delete` for `Deleted` | `requests::request_line` | `Requests::request_line` |
-//! | the line of one of the five crates | `line::line_of` | `Lines::route_line` |
+//! | the line of one of the six crates | `line::line_of` | `Lines::route_line` |
 //! | `done` | `line::done_line` | `Lines::done_line` |
 //! | ` -4`, the code after `done` | `line::code_words` | `Lines::code_words` |
 //! | `ack`, `error -22` | `line::error_line` | `Lines::error_line` |
@@ -86,6 +86,10 @@ pub use netlink_address_lines::neighbour::neighbour_text;
 pub use netlink_address_lines::neighbour_table::neighbour_table_text;
 pub use netlink_address_lines::network_configuration::configuration_text;
 pub use netlink_address_lines::prefix::prefix_text;
+pub use netlink_bridge_lines::group::group_text;
+pub use netlink_bridge_lines::statistics::statistics_text;
+pub use netlink_bridge_lines::vlan::vlan_text;
+pub use netlink_bridge_lines::vni::vni_text;
 pub use netlink_input::fault::Fault;
 pub use netlink_input::pcap::PcapFault;
 pub use netlink_input::stream::{Cause, Stop};

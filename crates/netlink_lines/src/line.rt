@@ -2,7 +2,7 @@
 
 ghost use Rattle.std.specs.Prelude.{◌≡◌, IfOk, OnOk, string_bytes};
 ghost use Rattle.std.specs.Option.{option_map};
-ghost use Rattle.netlink_lines.specs.Lines.{code_words, controlled_line, done_line, error_line, known_by, last_line, later_line, more_line, other_line, route_line};
+ghost use Rattle.netlink_lines.specs.Lines.{bridge_line, code_words, controlled_line, done_line, error_line, group_or_statistics_line, known_by, last_line, later_line, more_line, namespace_or_hop_line, other_line, route_line, rule_or_table_line, settings_or_prefix_line, vlan_or_vni_line};
 ghost use Rattle.netlink_json.specs.Fields.{AddsParts};
 ghost use Rattle.netlink_lines.specs.Members.{route_parts};
 ghost use Rattle.netlink_lines.specs.SystemErrors.{code_text};
@@ -14,7 +14,11 @@ use netlink_address_lines::neighbour::neighbour_line;
 use netlink_address_lines::neighbour_table::neighbour_table_line;
 use netlink_address_lines::network_configuration::configuration_line;
 use netlink_address_lines::prefix::prefix_line;
-use netlink_family::{Family, Joined, MessageView};
+use netlink_bridge_lines::group::group_line;
+use netlink_bridge_lines::statistics::statistics_line;
+use netlink_bridge_lines::vlan::vlan_line;
+use netlink_bridge_lines::vni::vni_line;
+use netlink_family::{Both, Family, Joined, MessageView};
 use netlink_json::Object;
 use netlink_link_lines::link::link_line;
 use netlink_names::device::Known;
@@ -22,7 +26,9 @@ use netlink_names::known::learn_link;
 use netlink_names::name_table::{NameTable, Names};
 use netlink_next_hop_lines::next_hop::next_hop_line;
 use netlink_route::{
-    AllTables, LastTables, LaterTables, MoreTables, OtherTables, RouteTables, TrafficTables,
+    AllTables, BridgeTables, BridgeVlans, LastTables, LaterTables, LinkStatistics, MoreTables,
+    MulticastGroups, Namespaces, NetworkConfigurations, NextHopObjects, OtherTables, Prefixes,
+    RouteTables, RuleTables, TrafficTables, VniFilters,
 };
 use netlink_route_lines::namespace::namespace_text;
 use netlink_route_lines::route::route_entry_line;
@@ -183,8 +189,7 @@ fn other_line(
     }
 }
 
-/// Returns the line of a message about a rule, a neighbour table, or what the tables after these
-/// describe.
+/// Returns the line of a message about what the tables after those of routes describe.
 fn later_line(
     alloc: Global,
     known: &Names<'_>,
@@ -194,15 +199,16 @@ fn later_line(
         ≡ later_line known.now message.now.message_type message.now.payload.now) }
 {
     match message.split() {
-        Ok(rule) => Ok(Some(rule_text(alloc, &rule)?)),
+        Ok(more) => more_line(alloc, known, &more),
         Err(other) => match other.split() {
-            Ok(table) => Ok(Some(neighbour_table_line(alloc, known, &table)?)),
-            Err(other) => more_line(alloc, known, &other),
+            Ok(traffic) => controlled_line(alloc, known, &traffic),
+            Err(bridge) => bridge_line(alloc, known, &bridge),
         },
     }
 }
 
-/// Returns the line of a message about what the tables after those of neighbour tables describe.
+/// Returns the line of a message about a rule, a neighbour table, an id of a namespace, a next hop, the
+/// settings of a link, or an announced prefix.
 #[tactic(auto, unfolding(crate::specs::Lines::more_line))]
 fn more_line(
     alloc: Global,
@@ -213,13 +219,29 @@ fn more_line(
         ≡ more_line known.now message.now.message_type message.now.payload.now) }
 {
     match message.split() {
-        Ok(last) => last_line(alloc, known, &last),
-        Err(traffic) => controlled_line(alloc, known, &traffic),
+        Ok(first) => rule_or_table_line(alloc, known, &first),
+        Err(last) => last_line(alloc, known, &last),
+    }
+}
+
+/// Returns the line of a message about a rule or a neighbour table.
+fn rule_or_table_line(
+    alloc: Global,
+    known: &Names<'_>,
+    message: &MessageView<'_, RuleTables>,
+) -> Result<Option<String>, AllocError>
+    ensures { IfOk result (λ text. option_map string_bytes text
+        ≡ rule_or_table_line known.now message.now.message_type message.now.payload.now) }
+{
+    match message.split() {
+        Ok(rule) => Ok(Some(rule_text(alloc, &rule)?)),
+        Err(table) => Ok(Some(neighbour_table_line(alloc, known, &table)?)),
     }
 }
 
 /// Returns the line of a message about an id of a namespace, a next hop, the settings of a link, or an
 /// announced prefix.
+#[tactic(auto, unfolding(crate::specs::Lines::last_line))]
 fn last_line(
     alloc: Global,
     known: &Names<'_>,
@@ -229,14 +251,38 @@ fn last_line(
         ≡ last_line known.now message.now.message_type message.now.payload.now) }
 {
     match message.split() {
+        Ok(first) => namespace_or_hop_line(alloc, known, &first),
+        Err(second) => settings_or_prefix_line(alloc, known, &second),
+    }
+}
+
+/// Returns the line of a message about an id of a namespace or a next hop.
+fn namespace_or_hop_line(
+    alloc: Global,
+    known: &Names<'_>,
+    message: &MessageView<'_, Both<Namespaces, NextHopObjects>>,
+) -> Result<Option<String>, AllocError>
+    ensures { IfOk result (λ text. option_map string_bytes text
+        ≡ namespace_or_hop_line known.now message.now.message_type message.now.payload.now) }
+{
+    match message.split() {
         Ok(namespace) => Ok(Some(namespace_text(alloc, &namespace)?)),
-        Err(other) => match other.split() {
-            Ok(next_hop) => Ok(Some(next_hop_line(alloc, known, &next_hop)?)),
-            Err(other) => match other.split() {
-                Ok(settings) => Ok(Some(configuration_line(alloc, known, &settings)?)),
-                Err(prefix) => Ok(Some(prefix_line(alloc, known, &prefix)?)),
-            },
-        },
+        Err(next_hop) => Ok(Some(next_hop_line(alloc, known, &next_hop)?)),
+    }
+}
+
+/// Returns the line of a message about the settings of a link or an announced prefix.
+fn settings_or_prefix_line(
+    alloc: Global,
+    known: &Names<'_>,
+    message: &MessageView<'_, Both<NetworkConfigurations, Prefixes>>,
+) -> Result<Option<String>, AllocError>
+    ensures { IfOk result (λ text. option_map string_bytes text
+        ≡ settings_or_prefix_line known.now message.now.message_type message.now.payload.now) }
+{
+    match message.split() {
+        Ok(settings) => Ok(Some(configuration_line(alloc, known, &settings)?)),
+        Err(prefix) => Ok(Some(prefix_line(alloc, known, &prefix)?)),
     }
 }
 
@@ -252,6 +298,53 @@ fn controlled_line(
     match message.split() {
         Ok(packet) => Ok(Some(traffic_line(alloc, known, &packet)?)),
         Err(actions) => Ok(Some(action_line(alloc, &actions)?)),
+    }
+}
+
+/// Returns the line of a message about multicast groups of a bridge, statistics of a link, VLANs of a
+/// bridge, or VNIs of a VXLAN link.
+#[tactic(auto, unfolding(crate::specs::Lines::bridge_line))]
+fn bridge_line(
+    alloc: Global,
+    known: &Names<'_>,
+    message: &MessageView<'_, BridgeTables>,
+) -> Result<Option<String>, AllocError>
+    ensures { IfOk result (λ text. option_map string_bytes text
+        ≡ bridge_line known.now message.now.message_type message.now.payload.now) }
+{
+    match message.split() {
+        Ok(first) => group_or_statistics_line(alloc, known, &first),
+        Err(second) => vlan_or_vni_line(alloc, known, &second),
+    }
+}
+
+/// Returns the line of a message about multicast groups of a bridge or statistics of a link.
+fn group_or_statistics_line(
+    alloc: Global,
+    known: &Names<'_>,
+    message: &MessageView<'_, Both<MulticastGroups, LinkStatistics>>,
+) -> Result<Option<String>, AllocError>
+    ensures { IfOk result (λ text. option_map string_bytes text
+        ≡ group_or_statistics_line known.now message.now.message_type message.now.payload.now) }
+{
+    match message.split() {
+        Ok(groups) => Ok(Some(group_line(alloc, known, &groups)?)),
+        Err(statistics) => Ok(Some(statistics_line(alloc, known, &statistics)?)),
+    }
+}
+
+/// Returns the line of a message about VLANs of a bridge or VNIs of a VXLAN link.
+fn vlan_or_vni_line(
+    alloc: Global,
+    known: &Names<'_>,
+    message: &MessageView<'_, Both<BridgeVlans, VniFilters>>,
+) -> Result<Option<String>, AllocError>
+    ensures { IfOk result (λ text. option_map string_bytes text
+        ≡ vlan_or_vni_line known.now message.now.message_type message.now.payload.now) }
+{
+    match message.split() {
+        Ok(vlans) => Ok(Some(vlan_line(alloc, known, &vlans)?)),
+        Err(vnis) => Ok(Some(vni_line(alloc, known, &vnis)?)),
     }
 }
 

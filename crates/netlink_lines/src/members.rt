@@ -2,9 +2,9 @@
 
 ghost use Rattle.std.specs.Prelude.{◌≡◌, OnOk};
 ghost use Rattle.netlink_json.specs.Fields.{AddsParts};
-ghost use Rattle.netlink_lines.specs.Members.{last_parts, later_parts, message_name, more_parts, other_parts, route_parts};
+ghost use Rattle.netlink_lines.specs.Members.{last_parts, later_parts, message_name, more_parts, namespace_or_hop_parts, other_parts, route_parts, rule_or_table_parts, settings_or_prefix_parts};
 
-use netlink_family::MessageView;
+use netlink_family::{Both, MessageView};
 use netlink_json::Object;
 use netlink_names::name_table::Names;
 use netlink_objects::address::put_address;
@@ -17,7 +17,10 @@ use netlink_objects::next_hop_object::put_next_hop_object;
 use netlink_objects::prefix::put_prefix;
 use netlink_objects::route::put_route;
 use netlink_objects::rule::put_rule;
-use netlink_route::{AllTables, LastTables, LaterTables, MoreTables, OtherTables};
+use netlink_route::{
+    AllTables, LastTables, LaterTables, MoreTables, Namespaces, NetworkConfigurations,
+    NextHopObjects, OtherTables, Prefixes, RuleTables,
+};
 use std::alloc::{AllocError, Global};
 
 /// Appends the members of a message of route netlink.
@@ -59,8 +62,8 @@ fn put_other(
     }
 }
 
-/// Appends the members of a message about a rule, a neighbour table, or what the tables after these
-/// describe.
+/// Appends the members of a message about what the tables after those of routes describe. Those about
+/// traffic control, and those that `bridge monitor` shows beside links and neighbours, have none.
 fn put_later(
     alloc: Global,
     object: &mut Object,
@@ -71,16 +74,14 @@ fn put_later(
         (later_parts known.now message.now.message_type message.now.payload.now)) }
 {
     match message.split() {
-        Ok(rule) => put_rule(alloc, object, &rule),
-        Err(other) => match other.split() {
-            Ok(table) => put_neighbour_table(alloc, object, known, &table),
-            Err(other) => put_more(alloc, object, known, &other),
-        },
+        Ok(more) => put_more(alloc, object, known, &more),
+        Err(_) => Ok(()),
     }
 }
 
-/// Appends the members of a message about what the tables after those of neighbour tables describe. Those
-/// about traffic control have none.
+/// Appends the members of a message about a rule, a neighbour table, an id of a namespace, a next hop, the
+/// settings of a link, or an announced prefix.
+#[tactic(auto, unfolding(crate::specs::Members::more_parts))]
 fn put_more(
     alloc: Global,
     object: &mut Object,
@@ -91,13 +92,30 @@ fn put_more(
         (more_parts known.now message.now.message_type message.now.payload.now)) }
 {
     match message.split() {
-        Ok(last) => put_last(alloc, object, known, &last),
-        Err(_) => Ok(()),
+        Ok(first) => put_rule_or_table(alloc, object, known, &first),
+        Err(last) => put_last(alloc, object, known, &last),
+    }
+}
+
+/// Appends the members of a message about a rule or a neighbour table.
+fn put_rule_or_table(
+    alloc: Global,
+    object: &mut Object,
+    known: &Names<'_>,
+    message: &MessageView<'_, RuleTables>,
+) -> Result<(), AllocError>
+    ensures { OnOk result (AddsParts object.old object.new
+        (rule_or_table_parts known.now message.now.message_type message.now.payload.now)) }
+{
+    match message.split() {
+        Ok(rule) => put_rule(alloc, object, &rule),
+        Err(table) => put_neighbour_table(alloc, object, known, &table),
     }
 }
 
 /// Appends the members of a message about an id of a namespace, a next hop, the settings of a link, or an
 /// announced prefix.
+#[tactic(auto, unfolding(crate::specs::Members::last_parts))]
 fn put_last(
     alloc: Global,
     object: &mut Object,
@@ -108,14 +126,40 @@ fn put_last(
         (last_parts known.now message.now.message_type message.now.payload.now)) }
 {
     match message.split() {
+        Ok(first) => put_namespace_or_hop(alloc, object, known, &first),
+        Err(second) => put_settings_or_prefix(alloc, object, known, &second),
+    }
+}
+
+/// Appends the members of a message about an id of a namespace or a next hop.
+fn put_namespace_or_hop(
+    alloc: Global,
+    object: &mut Object,
+    known: &Names<'_>,
+    message: &MessageView<'_, Both<Namespaces, NextHopObjects>>,
+) -> Result<(), AllocError>
+    ensures { OnOk result (AddsParts object.old object.new
+        (namespace_or_hop_parts known.now message.now.message_type message.now.payload.now)) }
+{
+    match message.split() {
         Ok(namespace) => put_namespace(alloc, object, &namespace),
-        Err(other) => match other.split() {
-            Ok(next_hop) => put_next_hop_object(alloc, object, known, &next_hop),
-            Err(other) => match other.split() {
-                Ok(settings) => put_network_configuration(alloc, object, known, &settings),
-                Err(prefix) => put_prefix(alloc, object, known, &prefix),
-            },
-        },
+        Err(next_hop) => put_next_hop_object(alloc, object, known, &next_hop),
+    }
+}
+
+/// Appends the members of a message about the settings of a link or an announced prefix.
+fn put_settings_or_prefix(
+    alloc: Global,
+    object: &mut Object,
+    known: &Names<'_>,
+    message: &MessageView<'_, Both<NetworkConfigurations, Prefixes>>,
+) -> Result<(), AllocError>
+    ensures { OnOk result (AddsParts object.old object.new
+        (settings_or_prefix_parts known.now message.now.message_type message.now.payload.now)) }
+{
+    match message.split() {
+        Ok(settings) => put_network_configuration(alloc, object, known, &settings),
+        Err(prefix) => put_prefix(alloc, object, known, &prefix),
     }
 }
 
@@ -160,18 +204,30 @@ pub(crate) fn message_name(message_type: u16) -> &'static str
         80 => "RTM_NEWNETCONF",
         81 => "RTM_DELNETCONF",
         82 => "RTM_GETNETCONF",
+        84 => "RTM_NEWMDB",
+        85 => "RTM_DELMDB",
+        86 => "RTM_GETMDB",
         88 => "RTM_NEWNSID",
         89 => "RTM_DELNSID",
         90 => "RTM_GETNSID",
+        92 => "RTM_NEWSTATS",
+        94 => "RTM_GETSTATS",
+        95 => "RTM_SETSTATS",
         100 => "RTM_NEWCHAIN",
         101 => "RTM_DELCHAIN",
         102 => "RTM_GETCHAIN",
         104 => "RTM_NEWNEXTHOP",
         105 => "RTM_DELNEXTHOP",
         106 => "RTM_GETNEXTHOP",
+        112 => "RTM_NEWVLAN",
+        113 => "RTM_DELVLAN",
+        114 => "RTM_GETVLAN",
         116 => "RTM_NEWNEXTHOPBUCKET",
         117 => "RTM_DELNEXTHOPBUCKET",
         118 => "RTM_GETNEXTHOPBUCKET",
+        120 => "RTM_NEWTUNNEL",
+        121 => "RTM_DELTUNNEL",
+        122 => "RTM_GETTUNNEL",
         _ => "",
     }
 }

@@ -10,7 +10,8 @@ use std::alloc::{AllocError, Global};
 /// What a run prints besides the lines of the messages.
 #[derive(Clone, Copy, Debug, PartialEq, Eq)]
 pub struct Options {
-    /// Whether a label, such as `[LINK]`, precedes the line of a message, as with `ip monitor label`.
+    /// Whether a label, such as `[LINK]`, precedes the line of a message, as with `ip monitor label`
+    /// and `bridge monitor all`.
     pub labels: bool,
     /// Whether the time of a packet precedes each of its messages.
     pub times: bool,
@@ -49,8 +50,8 @@ fn label_of(message_type: u16, payload: &[u8]) -> &'static str
     label_in(group)
 }
 
-/// Returns the label of a group of four types (`RTM_BASE` of linux/rtnetlink.h). `ip` has none for
-/// neighbour tables.
+/// Returns the label of a group of four types (`RTM_BASE` of linux/rtnetlink.h): that of `ip`, or of
+/// `bridge`. Neighbour tables and traffic control have none.
 fn label_in(group: u16) -> &'static str
     ensures { result.now ≡ label_in group }
 {
@@ -62,9 +63,13 @@ fn label_in(group: u16) -> &'static str
         8 => "[RULE]",
         13 => "[PREFIX]",
         20 => "[NETCONF]",
+        21 => "[MDB]",
         22 => "[NSID]",
+        23 => "[STATS]",
         26 => "[NEXTHOP]",
+        28 => "[VLAN]",
         29 => "[NEXTHOPBUCKET]",
+        30 => "[TUNNEL]",
         _ => "",
     }
 }

@@ -1,5 +1,6 @@
 //! Lines of messages that are made by hand, runs, and texts of numbers and bytes.
 
+mod bridge_lines;
 mod byte_lines;
 mod encap_lines;
 mod lines;

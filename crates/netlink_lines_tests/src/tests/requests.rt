@@ -69,7 +69,7 @@ const TIME: [u8; 8] = [1, 0, 0, 0, 2, 0, 0, 0];
 /// Messages as type, flags and payload, and the label and the line of each. The flag 1 is
 /// NLM_F_REQUEST. The time also has what precedes the label of the next message, which is of an
 /// interrupted dump.
-const MESSAGES: [(u8, u8, &[u8], &str, &str); 40] = [
+const MESSAGES: [(u8, u8, &[u8], &str, &str); 44] = [
     (
         16,
         5,
@@ -153,6 +153,10 @@ const MESSAGES: [(u8, u8, &[u8], &str, &str); 40] = [
         "request nsid 1 fd 4 target-nsid unassigned current-nsid 7\n",
     ),
     (89, 4, &[0; 4], "[NSID]", "Deleted nsid\n"),
+    (85, 5, &[0; 8], "[MDB]", "request delete dev *\n"),
+    (94, 1, &[0; 12], "[STATS]", "Get stats dev *\n"),
+    (112, 5, &[0; 8], "[VLAN]", "request *\n"),
+    (121, 4, &[0; 8], "[TUNNEL]", "Deleted *\n"),
     (56, 1, &NOBODY, "", "type 56, 28 bytes\n"),
     (15, 1, &TIME, "", "[1.000002] interrupted\n"),
     (16, 0x11, &WAN, "[LINK]", "request 3: wan0: <> link/ether\n"),
