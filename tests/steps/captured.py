@@ -30,8 +30,8 @@ CAPTURED = os.path.join(TOP, "examples", "captured")
 # Files of datagrams that programs and the kernel sent, in examples/captured.
 PROGRAMS = ("programs.tsv", "kinds.tsv")
 
-# What `tc monitor` saw, beside links and neighbours.
-STREAM = "traffic/stream"
+# What `tc monitor` and `bridge monitor all` saw, beside links and neighbours.
+STREAMS = ("traffic/stream", "bridge/stream")
 
 # The number of the other datagrams. tests/expected.txt states how many frames and searches for families they have.
 DATAGRAMS = 71
@@ -46,13 +46,15 @@ PADDED, PADDING = "kinds.tsv, line 117, frame 0", slice(66, 68)
 # The crate of each protocol, and its message types: NETLINK_ROUTE, with RTM_NEWLINK to RTM_GETADDR, RTM_NEWROUTE to
 # RTM_GETROUTE, RTM_NEWNEIGH to RTM_GETNEIGH, RTM_NEWRULE to RTM_GETRULE, those of traffic control and its actions,
 # RTM_NEWPREFIX, RTM_NEWNEIGHTBL, RTM_GETNEIGHTBL and RTM_SETNEIGHTBL, RTM_NEWNETCONF to RTM_GETNETCONF, RTM_NEWNSID to
-# RTM_GETNSID, RTM_NEWCHAIN to RTM_GETCHAIN, RTM_NEWNEXTHOP to RTM_GETNEXTHOP, and RTM_NEWNEXTHOPBUCKET to
-# RTM_GETNEXTHOPBUCKET; and NETLINK_GENERIC, with GENL_ID_CTRL.
+# RTM_GETNSID, RTM_NEWCHAIN to RTM_GETCHAIN, RTM_NEWNEXTHOP to RTM_GETNEXTHOP, RTM_NEWNEXTHOPBUCKET to
+# RTM_GETNEXTHOPBUCKET, and those that `bridge` has; and NETLINK_GENERIC, with GENL_ID_CTRL.
 CRATES = {"0": "netlink_route_tests", "16": "netlink_generic_tests"}
 ROUTE = [*range(16, 23), *range(24, 27), *range(28, 31), *range(32, 35), 52, 64, 66, 67, *range(80, 83), *range(88, 91)]
 ROUTE += [*range(104, 107), *range(116, 119)]
 # Disciplines, classes, filters, actions, and chains of filters.
 ROUTE += [*range(36, 39), *range(40, 43), *range(44, 47), *range(48, 51), *range(100, 103)]
+# Multicast groups, statistics, VLANs and VNIs.
+ROUTE += [*range(84, 87), 92, 94, 95, *range(112, 115), *range(120, 123)]
 FAMILIES = {"0": ROUTE, "16": [16]}
 
 HEADER_SIZE = 16
@@ -138,8 +140,9 @@ def main():
         for at, frame in enumerate(frames_of(read(name)))
     ]
     captured += [(name, "0", frame) for name, frame in distinct_frames(PROGRAMS)]
-    different = dict.fromkeys(frames_of(read(STREAM)))
-    captured += [(f"{STREAM}, different frame {at}", "0", frame) for at, frame in enumerate(different)]
+    for stream in STREAMS:
+        different = dict.fromkeys(frames_of(read(stream)))
+        captured += [(f"{stream}, different frame {at}", "0", frame) for at, frame in enumerate(different)]
     rows = [(name, [programs[it], NORMALIZES], frame, wanted(name, it, frame)) for name, it, frame in captured]
     own = sum(frame == text for _, _, frame, text in rows)
     frames, dump = len(rows), read("families-0")
