@@ -1,6 +1,6 @@
 #!/usr/bin/env python3
-"""Sends what `bridge` of iproute2 6.1 cannot: requests for multicast groups with a mode, sources or a protocol, and those
-of VXLAN links; and packets of members and routers, which arrive at a port of a bridge. commands.txt calls it.
+"""Sends what `bridge` of iproute2 6.1 cannot: requests for multicast groups with a mode, sources or a protocol, and
+those of VXLAN links; and packets of members and routers, which arrive at a port of a bridge. commands.txt calls it.
 
     ./send.py add|replace|delete BRIDGE PORT GROUP [permanent] [KEY=VALUE..]   (the keys of ATTRIBUTES)
     ./send.py report LINK TYPE GROUP [SOURCE..]    (IGMPv3 or MLDv2; the type of the record is that of RFC 3376)

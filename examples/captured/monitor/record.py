@@ -8,20 +8,20 @@ and `ip` print. In ../bridge: what `bridge monitor all` sees, notifications of s
     ./record.py lines [traffic|bridge]    (makes lines.txt anew, of stream.bin)
 
 stream.bin: the datagrams, one after another. The kernel sends each message in a datagram of its own, except that of a
-queueing discipline that another one replaces.
+queueing discipline that another one replaces, and the answers to a dump.
 lines.txt: the line of `ip -o monitor label file` for each message, with the spaces of ../ip/README.md. For this, `ip`
 runs in namespaces without these links and without lists of names.
 objects.jsonl: the object of `ip -j` for each message (../json).
 differences.tsv, written by hand: the lines in which `netlink_show` differs on purpose, as in ../ip.
 
 Of ../traffic, lines.txt has the first line of `tc monitor file` for messages of traffic control, and else that of `ip`;
-of ../bridge, the first line of `bridge -d monitor all file` for multicast groups, VLANs and VNIs, all that `ip` prints
-for statistics in one line, and else its line. There, the programs run beside empty links that come and go as in the
+of ../bridge, the first line of `bridge -d monitor all file` for multicast groups, VLANs and VNIs, and else that of `ip`,
+which has all that it prints of statistics. There, the programs run beside empty links that come and go as in the
 stream, since they ask the kernel for a name. refused.txt has the commands that the kernel of the recording refused, each
 with the error: a kernel with more modules records more.
 
-`bridge monitor` prints no answer to RTM_GETMDB, which has the type of the request: `bridge` gets it with that of a
-notification. It joins no group of RTM_NEWSTATS either.
+`bridge monitor` sees neither statistics nor the answers to dumps. The kernel's answer to RTM_GETMDB has that type, which
+`bridge` does not print, so this script gives it that of a notification before it asks `bridge` for the line.
 
 The namespaces hold made-up links, addresses, routes, next hops, neighbours and rules alone. The script prints the
 commands that fail here, and the number of messages of each type.
