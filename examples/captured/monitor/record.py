@@ -1,22 +1,27 @@
 #!/usr/bin/env python3
 """Records what `ip monitor all` sees while the commands of commands.txt run, in namespaces that this script makes, and
 what `ip` of iproute2 6.1 prints for it. In ../traffic: what `tc monitor` sees beside links and neighbours, and what `tc`
-and `ip` print.
+and `ip` print. In ../bridge: what `bridge monitor all` sees, notifications of statistics and answers to dumps, and what
+`bridge` and `ip` print.
 
-    ./record.py [traffic]          (as root; needs iproute2, unshare and bash)
-    ./record.py lines [traffic]    (makes lines.txt anew, of stream.bin)
+    ./record.py [traffic|bridge]          (as root; needs iproute2, unshare and bash)
+    ./record.py lines [traffic|bridge]    (makes lines.txt anew, of stream.bin)
 
 stream.bin: the datagrams, one after another. The kernel sends each message in a datagram of its own, except that of a
-queueing discipline that another one replaces.
+queueing discipline that another one replaces, and the answers to a dump.
 lines.txt: the line of `ip -o monitor label file` for each message, with the spaces of ../ip/README.md. For this, `ip`
 runs in namespaces without these links and without lists of names.
 objects.jsonl: the object of `ip -j` for each message (../json).
 differences.tsv, written by hand: the lines in which `netlink_show` differs on purpose, as in ../ip.
 
-Of ../traffic, lines.txt has the first line of `tc monitor file` for messages of traffic control, and else that of `ip`.
-There, `tc` runs beside empty links that come and go as in the stream, since it asks the kernel for a name. refused.txt
-has the commands that the kernel of the recording refused, each with the error: a kernel with more modules records more.
-The commands of `bridge` are there too, although no table has their messages yet.
+Of ../traffic, lines.txt has the first line of `tc monitor file` for messages of traffic control, and else that of `ip`;
+of ../bridge, the first line of `bridge -d monitor all file` for multicast groups, VLANs and VNIs, and else that of `ip`,
+which has all that it prints of statistics. There, the programs run beside empty links that come and go as in the
+stream, since they ask the kernel for a name. refused.txt has the commands that the kernel of the recording refused, each
+with the error: a kernel with more modules records more.
+
+`bridge monitor` sees neither statistics nor the answers to dumps. The kernel's answer to RTM_GETMDB has that type, which
+`bridge` does not print, so this script gives it that of a notification before it asks `bridge` for the line.
 
 The namespaces hold made-up links, addresses, routes, next hops, neighbours and rules alone. The script prints the
 commands that fail here, and the number of messages of each type.
@@ -40,12 +45,13 @@ from compare import LINKS, frames_in, kind_of, spaced  # noqa: E402 (it is in th
 # multicast routes, rules, prefixes, settings, MPLS, ids of namespaces, next hops and statistics.
 GROUPS = (1, 3, 5, 6, 7, 8, 9, 10, 11, 18, 19, 24, 25, 27, 28, 29, 32, 36)
 
-# Links, neighbours and traffic control.
-TRAFFIC_GROUPS = (1, 3, 4)
-TRAFFIC = os.path.join(HERE, "..", "traffic")
+# Links and neighbours; with traffic control, and with multicast groups, VLANs, VNIs and statistics.
+OTHER_GROUPS = {"traffic": (1, 3, 4), "bridge": (1, 3, 26, 33, 35, 36)}
 
-# The types of messages that `tc` prints, without the last two bits.
-OF_TC = (36, 40, 44, 48, 100)
+# The program that prints a message, by its type without the last two bits; `ip` prints the others.
+TC, BRIDGE = ("tc", "monitor", "file"), ("bridge", "-d", "monitor", "all", "file")
+PROGRAMS = {36: TC, 40: TC, 44: TC, 48: TC, 100: TC, 84: BRIDGE, 112: BRIDGE, 120: BRIDGE}
+RTM_NEWMDB, RTM_GETMDB, STATISTICS = 84, 86, 92
 
 AF_BRIDGE, IFLA_IFNAME = 7, 3
 SOL_NETLINK, NETLINK_ADD_MEMBERSHIP, SO_RCVBUFFORCE = 270, 1, 33
@@ -101,20 +107,41 @@ def pending(kernel):
             return
 
 
+def answers(kind, header):
+    """Returns the answers to a request for a dump, in one datagram, and the error or nothing."""
+    body, found = bytes.fromhex(header), b""
+    with socket.socket(socket.AF_NETLINK, socket.SOCK_RAW, 0) as kernel:
+        kernel.send(struct.pack("<IHHII", len(body) + 16, int(kind), 0x301, 1, 0) + body)
+        while True:
+            for frame in frames_in(kernel.recv(1 << 18)):
+                if kind_of(frame) in (2, 3):  # NLMSG_ERROR and NLMSG_DONE, with a negative errno
+                    error = struct.unpack_from("<i", frame, 16)[0]
+                    return found, os.strerror(-error) if error else ""
+                found += frame
+
+
+def run(words, folder):
+    """Runs a command in a folder. Returns what it received, and the error or nothing."""
+    if words.startswith("ask "):
+        return answers(*words.split()[1:])
+    environment = {**os.environ, "MULTICAST": MULTICAST, "ADVERTISE": ADVERTISE}
+    ended = subprocess.run(["sh", "-c", words], cwd=folder, env=environment, stderr=subprocess.PIPE, check=False)
+    return b"", " ".join(ended.stderr.decode("latin-1").split()) or "failed" if ended.returncode else ""
+
+
 def record(folder, groups):
-    """Runs the commands, and writes stream.bin; and in ../traffic, refused.txt."""
+    """Runs the commands, and writes stream.bin; and in the other folders, refused.txt."""
     subprocess.run(["mount", "-t", "tmpfs", "none", "/run"], check=True)
     with open(os.path.join(folder, "commands.txt"), encoding="utf-8") as file:
         commands = [line for line in file.read().splitlines() if line and line[0] != "#"]
     datagrams, refused = [], []
     with listener(groups) as kernel:
         for words in commands:
-            environment = {**os.environ, "MULTICAST": MULTICAST, "ADVERTISE": ADVERTISE}
-            ended = subprocess.run(["sh", "-c", words], env=environment, stderr=subprocess.PIPE, check=False)
-            if ended.returncode:
-                refused.append(f"{words}: {' '.join(ended.stderr.decode('latin-1').split())}")
+            answer, error = run(words, folder)
+            if error:
+                refused.append(f"{words}: {error}")
                 print(f"failed: {refused[-1]}")
-            datagrams += pending(kernel)
+            datagrams += [*pending(kernel), answer]
         time.sleep(1)
         datagrams += pending(kernel)
     frames = [frame for datagram in datagrams for frame in frames_in(datagram)]
@@ -122,7 +149,7 @@ def record(folder, groups):
         sys.exit("a datagram ends within a message or its padding")
     with open(os.path.join(folder, "stream.bin"), "wb") as file:
         file.write(b"".join(frames))
-    if folder == TRAFFIC:
+    if folder != HERE:
         with open(os.path.join(folder, "refused.txt"), "w", encoding="latin-1") as file:
             file.write("".join(f"{it}\n" for it in refused))
     print(len(frames), "messages, by type:", dict(sorted(Counter(map(kind_of, frames)).items())))
@@ -176,25 +203,31 @@ def name_of(frame):
     return frame[36 : 32 + length].rstrip(b"\0").decode("latin-1")
 
 
-def is_of_tc(frame):
-    return kind_of(frame) & ~3 in OF_TC
+def is_of_others(frame):
+    """Returns whether the line of a message is made beside empty links."""
+    return kind_of(frame) & ~3 in (*PROGRAMS, STATISTICS)
 
 
-def traffic_line(frame):
-    """Returns the first line that `tc` prints for a message."""
-    return " ".join(printed_by(["tc", "monitor", "file"], frame)[0].split())
+def line_beside_links(frame):
+    """Returns the first line that a program prints for a message; of statistics, all."""
+    if kind_of(frame) & ~3 == STATISTICS:
+        printed = printed_by(["ip", "-o", "monitor", "label", "file"], frame)
+        return "]".join(spaced(frame, it) for it in " ".join(printed).split("]"))
+    if kind_of(frame) == RTM_GETMDB:
+        frame = frame[:4] + struct.pack("<H", RTM_NEWMDB) + frame[6:]
+    return " ".join(printed_by(PROGRAMS[kind_of(frame) & ~3], frame)[0].split())
 
 
-def traffic_lines():
-    """Writes lines.txt of ../traffic. This runs in namespaces of its own."""
+def lines_beside_links(folder):
+    """Writes lines.txt of another folder. This runs in namespaces of its own."""
     for words in ("-t tmpfs none /run", "-t tmpfs none /etc/iproute2", "--bind /dev/null /etc/protocols"):
         subprocess.run(["mount", *words.split()], check=True)
-    frames = frames_of(TRAFFIC)
-    from_ip = iter(lines_of_ip([it for it in frames if not is_of_tc(it)]))
-    with open(os.path.join(TRAFFIC, "lines.txt"), "w", encoding="latin-1") as file:
+    frames = frames_of(folder)
+    from_ip = iter(lines_of_ip([it for it in frames if not is_of_others(it)]))
+    with open(os.path.join(folder, "lines.txt"), "w", encoding="latin-1") as file:
         for frame in frames:
             follow(frame)
-            file.write(f"{traffic_line(frame) if is_of_tc(frame) else next(from_ip)}\n")
+            file.write(f"{line_beside_links(frame) if is_of_others(frame) else next(from_ip)}\n")
 
 
 def in_namespaces(*words):
@@ -204,21 +237,21 @@ def in_namespaces(*words):
 
 def main():
     words = sys.argv[1:]
-    if words == ["record"]:
-        record(HERE, GROUPS)
-    elif words == ["record", "traffic"]:
-        record(TRAFFIC, TRAFFIC_GROUPS)
-    elif words == ["print", "traffic"]:
-        traffic_lines()
-    elif words in ([], ["traffic"], ["lines"], ["lines", "traffic"]):
-        if words[:1] != ["lines"]:
+    verb = words.pop(0) if words[:1] in (["record"], ["lines"], ["print"]) else ""
+    if words not in ([], ["traffic"], ["bridge"]):
+        sys.exit("arguments: `lines` or nothing, and then `traffic`, `bridge` or nothing")
+    folder = os.path.join(HERE, "..", *words) if words else HERE
+    if verb == "record":
+        record(folder, OTHER_GROUPS[words[0]] if words else GROUPS)
+    elif verb == "print":
+        lines_beside_links(folder)
+    else:
+        if verb != "lines":
             in_namespaces("record", *words)
-        if "traffic" in words:
-            in_namespaces("print", "traffic")
+        if words:
+            in_namespaces("print", *words)
         else:
             lines()
-    else:
-        sys.exit("arguments: none, `lines`, `traffic`, or `lines traffic`")
 
 
 main()
