@@ -204,7 +204,8 @@ def rows():
 
 
 def main():
-    program, all_rows = built("netlink_route_tests_tests", "netlink_route_tests"), list(rows())
+    # a kind of bytes is listed once for each policy that they may have
+    program, all_rows = built("netlink_route_tests_tests", "netlink_route_tests"), list(dict.fromkeys(rows()))
 
     def difference(row):
         name, test, frame, text = row

@@ -11,6 +11,7 @@ mod encapsulation_samples;
 mod encapsulations;
 mod errors;
 mod getters;
+mod group_sizes;
 mod growth;
 mod link_kinds;
 mod link_statistics;
