@@ -49,7 +49,7 @@ LIST_ITEM = re.compile(r" *(?:[-*+]|\d+[.)]) +(?=\S)")
 HEADING = re.compile(r" {0,3}#{1,6} +(.+?)(?: +#+)? *")
 CODE_SPAN = re.compile(r"(?<!`)(`+)(?!`).+?(?<!`)\1(?!`)")
 LINK = re.compile(r"\]\((?!//|[a-z]+:)([^)\s]*)")
-NUMBERS = "no one two three four five six seven eight nine ten eleven twelve".split()
+NUMBERS = "no one two three four five six seven eight nine ten eleven twelve thirteen fourteen fifteen sixteen".split()
 PROGRAM = re.compile(r"(?<![\w./])\./(netlink_\w+)(?: --(?:quick|verbose)\b)?(?![\w./-])")
 
 
