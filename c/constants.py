@@ -14,11 +14,13 @@ from tally import note
 
 INCLUDES = ["linux/rtnetlink.h", "linux/if_link.h", "linux/if_tunnel.h", "linux/veth.h", "linux/if_addr.h", "linux/neighbour.h",
             "linux/fib_rules.h", "linux/net_namespace.h", "linux/netconf.h", "linux/nexthop.h", "linux/pkt_sched.h",
-            "linux/pkt_cls.h", "linux/gen_stats.h", "linux/genetlink.h", "linux/netlink.h", "linux/lwtunnel.h",
-            "linux/mpls_iptunnel.h", "linux/ila.h", "linux/seg6_iptunnel.h", "linux/seg6_local.h", "linux/rpl_iptunnel.h",
-            "linux/ioam6_iptunnel.h"]
-# Fewer than this are a failure. The headers of Linux 6.1 have 653 of the 677 constants, and later ones more.
-KNOWN_AT_LEAST = 643
+            "linux/pkt_cls.h", "linux/gen_stats.h", "linux/if_bridge.h", "linux/if_bonding.h", "linux/mpls.h",
+            "linux/genetlink.h", "linux/netlink.h", "linux/lwtunnel.h", "linux/mpls_iptunnel.h", "linux/ila.h",
+            "linux/seg6_iptunnel.h", "linux/seg6_local.h", "linux/rpl_iptunnel.h", "linux/ioam6_iptunnel.h"]
+# The structs of the headers of nests, by how the names of their fields begin. That of a router port has none.
+STRUCTS = {"RTNH_": "rtnexthop", "MDB_ENTRY_": "br_mdb_entry", "ROUTER_PORT_": None}
+# Fewer than this are a failure. The headers of Linux 6.1 have 787 of the 831 constants, and later ones more.
+KNOWN_AT_LEAST = 777
 
 
 def tables():
@@ -35,7 +37,9 @@ def rows():
         for name, _value in types + kinds:
             yield name, f"(unsigned)NLP_{name} == (unsigned){name}"
         for name, field, _at, shape in fields:
-            of = "rtnexthop" if name.startswith("RTNH_") else struct
+            of = next((STRUCTS[it] for it in STRUCTS if name.startswith(it)), struct)
+            if of is None:
+                continue
             # The header of a next hop as a nest begins after its length and the bytes that are its kind.
             start = 4 if of == "rtnexthop" else 0
             at, size = f"offsetof(struct {of}, {field})", f"sizeof(((struct {of} *)0)->{field})"

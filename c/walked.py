@@ -13,6 +13,7 @@ from tally import note
 CAPTURED = os.path.join(TOP, "examples", "captured")
 # The name of the shape of a form, if it has another one.
 NAMES = {"S32": "i32", "S64": "i64", "STRING": "str", "ADDRESS": "ip", "LEAST": "min", "HEADER": "header nest"}
+INFO_KIND, INFO_DATA = 1, 2  # IFLA_INFO_KIND or TCA_KIND, IFLA_INFO_DATA or TCA_OPTIONS
 ENCAP_TYPE, ENCAP = 21, 22  # RTA_ENCAP_TYPE, RTA_ENCAP, of policy 0
 ANY_KIND = 0xFFFF
 LINES_AT_LEAST = 20000
@@ -33,18 +34,17 @@ class Family:
     def __init__(self, size, kinds):
         self.size = size
         found = [*tables().rows_of(kinds, 0)]
-        self.rows = {it[:2]: it[2:] for it in found if it[0] not in ("=", "&")}
-        self.links = {(it[3], it[5], it[1]): it[2] for it in found if it[0] == "="}
-        self.choosing = {(it[3], it[5]): it[4] for it in found if it[0] == "="}
+        self.rows = {it[:2]: it[2:] for it in found if len(it) == 5}
+        self.links = {(it[3], it[1]): it[2] for it in found if it[0] == "="}
         self.encapsulations = {it[1]: it[2] for it in found if it[0] == "&"}
 
     def row(self, policy, kind, block):
         """Returns the row of a kind in a block."""
-        if by := self.choosing.get((policy, kind)):
-            first = next((value for it, value in attributes(block) if it & 0x3FFF == by), b"")
+        if self.links and kind == INFO_DATA:
+            first = next((value for it, value in attributes(block) if it & 0x3FFF == INFO_KIND), b"")
             name = first.partition(b"\0")[0].decode("latin-1")
-            if (policy, kind, name) in self.links:
-                return "FORM_NEST", 0, self.links[policy, kind, name]
+            if (policy, name) in self.links:
+                return "FORM_NEST", 0, self.links[policy, name]
         if self.encapsulations and (policy, kind) == (0, ENCAP):
             first = next((value for it, value in attributes(block) if it & 0x3FFF == ENCAP_TYPE), b"")
             if len(first) == 2 and (chosen := self.encapsulations.get(int.from_bytes(first, "little"))):
@@ -62,13 +62,14 @@ class Family:
 
 
 def message_lines(datagram, known):
-    """Yields the lines of the messages of a datagram. Each family has four message types in a row, or the
-    last of four."""
+    """Yields the lines of the messages of a datagram. Each family has the message types from its first one to the next
+    multiple of four, except those of a later family."""
     at = 0
     while at < len(datagram):
         size, message_type = struct.unpack_from("<IH", datagram, at)
         yield f"type {message_type}"
-        if family := known.get(message_type) or known.get(message_type // 4 * 4):
+        first = max((it for it in known if message_type // 4 * 4 <= it <= message_type), default=None)
+        if family := known.get(first):
             yield from (f"  {it}" for it in family.lines(0, datagram[at + 16 + family.size : at + size]))
         at += (size + 3) // 4 * 4
 

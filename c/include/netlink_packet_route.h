@@ -4,9 +4,10 @@
  *
  * A table states, for each message type, the fixed header and the shape of each kind of attribute, as the kernel's
  * headers and policies do: links, addresses, neighbours, routes, rules, neighbour tables, ids of network
- * namespaces, next hops, settings of links, announced prefixes, traffic control and its actions; and families of
- * generic netlink. A kind without a row may have any value. This header has the functions, netlink_packet_tables.h
- * the constants (NLP_IFLA_MTU is the kind IFLA_MTU), and netlink_packet_route_write.h, which this header includes, the
+ * namespaces, next hops, settings of links, announced prefixes, traffic control and its actions, multicast groups of
+ * bridges, statistics of links, VLANs of bridges, and VNIs that VXLAN links filter by; and families of generic
+ * netlink. A kind without a row may have any value. This header has the functions, netlink_packet_tables.h the
+ * constants (NLP_IFLA_MTU is the kind IFLA_MTU), and netlink_packet_route_write.h, which this header includes, the
  * functions that write requests.
  *
  *     struct nlp_view view, info;

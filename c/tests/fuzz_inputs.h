@@ -284,6 +284,17 @@ static void add_rows(struct draft_input *draft, uint32_t family, uint16_t policy
         add_padding(draft, start);
 }
 
+/* Returns the policy of the attributes of a payload. Those of groups are bytes, which a caller reads by a policy of 1 to 10:
+ * the arguments 7 and 8 then choose a view with it. */
+static uint16_t policy_of_payload(struct draft_input *draft, uint32_t family)
+{
+    if (model_families[family].type != NLP_RTM_NEWMDB || below(2) == 0)
+        return 0;
+    draft->bytes[1 + 7] = 2;
+    draft->bytes[1 + 8] = (uint8_t)(1 + below(10));
+    return draft->bytes[1 + 8];
+}
+
 /* Adds the payload of a message. The first two arguments are its type. */
 static void add_payload(struct draft_input *draft)
 {
@@ -291,7 +302,7 @@ static void add_payload(struct draft_input *draft)
     draft->bytes[1] = (uint8_t)(model_families[family].type + below(4));
     draft->bytes[2] %= 128;
     add_any(draft, below(16) == 0 ? below(6) : model_families[family].size);
-    add_rows(draft, family, 0, 0);
+    add_rows(draft, family, policy_of_payload(draft, family), 0);
 }
 
 /* Makes a mistake: in a length, in any byte, or at the end. */

@@ -108,7 +108,8 @@ static bool is_traffic(const struct nlp_view *view)
 /* Returns whether a policy has the kinds of links, the disciplines or the encapsulations, among which others choose. */
 static bool is_choice(const struct nlp_view *view, uint16_t policy)
 {
-    return policy == (family_of(view->message_type) == ROUTES || is_traffic(view) ? 3 : 4);
+    const int family = family_of(view->message_type);
+    return family == ROUTES || is_traffic(view) ? policy == 3 : family == 0 && policy == 4;
 }
 
 /* Returns a view of the payload, or one that was changed, or of one of its nests. */

@@ -19,14 +19,21 @@ enum { FAMILIES = sizeof model_families / sizeof model_families[0], ROWS = sizeo
 
 static const size_t form_sizes[] = { 1, 2, 4, 8, 4, 8, 2, 4, 8, 0 };
 
-/* Returns the family of a message type, or -1. Each type before the fourth of a family is one of its, except the second
- * of the neighbour tables; links have a fourth, and announced prefixes have the first alone. */
+/* Returns how many message types a family has: links have four, announced prefixes have one, and statistics and VLANs have
+ * two families each, since their requests have other kinds. */
+static inline int types_of(uint16_t first)
+{
+    return first == 16 ? 4 : first == 52 || first == 92 || first == 114 ? 1 : first == 94 || first == 112 ? 2 : 3;
+}
+
+/* Returns the family of a message type, or -1. The types of a family follow one another, except that the neighbour tables
+ * have no second one, but a fourth. */
 static inline int family_of(uint16_t type)
 {
     for (int i = 0; i < FAMILIES; i++) {
         const uint16_t first = model_families[i].type;
         const int at = type - first;
-        if (first == 64 ? at == 0 || at == 2 || at == 3 : at >= 0 && at < (first == 16 ? 4 : first == 52 ? 1 : 3))
+        if (first == 64 ? at == 0 || at == 2 || at == 3 : at >= 0 && at < types_of(first))
             return i;
     }
     return -1;
@@ -168,7 +175,7 @@ static inline uint32_t model_view(uint16_t type, const uint8_t *payload, size_t 
         return NLP_UNKNOWN_TYPE;
     }
     const size_t size = model_families[family].size, head = len < size ? len : size;
-    const bool is_short = len < size && len > 0 && len <= 4 && type == model_families[family].type + 2;
+    const bool is_short = len < size && len > 0 && len <= 4 && type % 4 == 2;
     if (len < size && !is_short) {
         *error = (struct nlp_route_error){ NLP_HEADER_SHORT, 0, 0, 0, size, len };
         return NLP_HEADER_SHORT;

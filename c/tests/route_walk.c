@@ -129,6 +129,17 @@ static void shapes(void)
         { NLP_RTM_NEWCHAIN, 0, NLP_TCA_CHAIN, { 3, 0, 0 }, "TCA_CHAIN" },
         { NLP_RTM_NEWACTION, 2, 32, { 16, 0, 3 }, "an action" },
         { NLP_RTM_NEWACTION, 3, NLP_TCA_ACT_STATS, { 16, 0, 1 }, "TCA_ACT_STATS" },
+        { NLP_RTM_NEWMDB, 0, NLP_MDBA_MDB, { 0, 0, 0 }, "MDBA_MDB" },
+        { NLP_RTM_NEWMDB, 2, NLP_MDBA_MDB_ENTRY_INFO, { 17, 28, 3 }, "MDBA_MDB_ENTRY_INFO" },
+        { NLP_RTM_NEWMDB, 8, NLP_MDBE_ATTR_IFINDEX, { 4, 0, 0 }, "MDBE_ATTR_IFINDEX" },
+        { NLP_RTM_NEWSTATS, 0, NLP_IFLA_STATS_LINK_XSTATS, { 16, 0, 1 }, "IFLA_STATS_LINK_XSTATS" },
+        { NLP_RTM_NEWSTATS, 4, NLP_BOND_3AD_STAT_LACPDU_RX, { 5, 0, 0 }, "BOND_3AD_STAT_LACPDU_RX" },
+        { NLP_RTM_GETSTATS, 10, NLP_IFLA_STATS_LINK_XSTATS, { 3, 0, 0 }, "IFLA_STATS_LINK_XSTATS of a request" },
+        { NLP_RTM_SETSTATS, 0, NLP_IFLA_STATS_SET_OFFLOAD_XSTATS_L3_STATS, { 1, 0, 0 }, "L3_STATS of a request" },
+        { NLP_RTM_NEWVLAN, 1, NLP_BRIDGE_VLANDB_ENTRY_INFO, { 15, 4, 0 }, "BRIDGE_VLANDB_ENTRY_INFO" },
+        { NLP_RTM_DELVLAN, 0, NLP_BRIDGE_VLANDB_ENTRY, { 16, 0, 1 }, "BRIDGE_VLANDB_ENTRY" },
+        { NLP_RTM_GETVLAN, 0, NLP_BRIDGE_VLANDB_DUMP_FLAGS, { 3, 0, 0 }, "BRIDGE_VLANDB_DUMP_FLAGS" },
+        { NLP_RTM_NEWTUNNEL, 1, NLP_VXLAN_VNIFILTER_ENTRY_GROUP6, { 14, 16, 0 }, "VXLAN_VNIFILTER_ENTRY_GROUP6" },
     };
     for (size_t at = 0; at < sizeof rows / sizeof rows[0]; at++) {
         const struct nlp_view view = block_at(rows[at].type, rows[at].policy, 0, 0);

@@ -31,14 +31,13 @@ CAPPED, TLVS = 0x100, 0x200  # NLM_F_CAPPED, NLM_F_ACK_TLVS
 
 # The families by their message types, of which the one with the lowest bits 2 asks, and may have a short payload.
 FAMILIES = {it[0]: it[1:] for it in families()}
-TYPES = {base + step: base for base in sorted(FAMILIES) for step in range(4 - base % 4)}
+TYPES = {base + step: base for base in FAMILIES for step in range(4 - base % 4)}
 for unused in (23, 27, 31, 35, 39, 43, 47, 51, 53, 54, 55, 65, 83, 87, 91, 93, 103, 107, 115, 119, 123):
     del TYPES[unused]
 # The families of messages about addresses, routes and neighbours that a table describes.
 DESCRIBED = (0, 2, 7, 10, 28, 128, 129)
 REQUEST, DUMP, KIND_BITS = 1, 0x300, 3
-# IFLA_INFO_KIND and IFLA_INFO_DATA, and those of a port
-CHOICES = {"2": ("link", "1"), "5": ("port", "4")}
+INFO_KIND, INFO_DATA = "1", "2"
 ENCAP_TYPE, ENCAP = "21", "22"
 
 
@@ -63,8 +62,8 @@ def value_of(block, kind):
 
 def row_of(kinds, block, kind, top):
     """Returns the name, the form, its number and the kinds inside of a kind among others in a block. The kind of a link
-    decides what IFLA_INFO_DATA has, that of a port what IFLA_INFO_SLAVE_DATA has, TCA_KIND what TCA_OPTIONS has, which
-    have the same numbers as of a link, and the type of an encapsulation what RTA_ENCAP has: the first one."""
+    decides what IFLA_INFO_DATA has, TCA_KIND what TCA_OPTIONS has, which have the same numbers, and the type of an
+    encapsulation what RTA_ENCAP has: the first one."""
     if kinds is None:  # a next hop, whose kind is its flags and its hops
         return None, "header", 4, top
     kind &= 0x3FFF
@@ -72,10 +71,9 @@ def row_of(kinds, block, kind, top):
     if found is None:
         return None, "bytes", 0, None
     _number, name, form, size, inside = found
-    choice, by = CHOICES.get(found[0], ("", ""))
-    links = [it for it in kinds if it[2] == choice]
-    if links:
-        value = value_of(block, by)
+    links = [it for it in kinds if it[2] == "link"]
+    if links and found[0] == INFO_DATA:
+        value = value_of(block, INFO_KIND)
         chosen = [it for it in links if value is not None and it[1].encode() == value.split(b"\0")[0]]
         if chosen:  # kinds of links that share a policy share its kinds, each of which is listed with one of them
             form, inside = "nest", [kind for it in links if it[3] == chosen[0][3] for kind in it[4]]

@@ -7,8 +7,6 @@ from built import TOP
 TABLE = os.path.join(TOP, "tests", "kinds.txt")
 
 INTEGERS = {"u8": 1, "u16": 2, "u32": 4, "u64": 8, "s32": 4, "s64": 8, "be16": 2, "be32": 4, "be64": 8}
-# The forms of lines that are no kinds, by their first word.
-OTHER_FORMS = {"=": "link", ">": "port", "~": "as"}
 
 
 def families():
@@ -29,8 +27,8 @@ def families():
                 kinds = found[-1][3]
                 for _level in range((len(line) - len(line.lstrip(" "))) // 2):
                     kinds = kinds[-1][4]
-                if words[0] in OTHER_FORMS:
-                    words = [*words[:2], OTHER_FORMS[words[0]], words[2]]
+                if words[0] == "=":
+                    words = [*words[:2], "link", words[2]]
                 if words[0] == "&":
                     words = [f"&{words[2]}", words[1], "encapsulation", words[3]]
                 number = (words + ["0"])[3]

@@ -7,8 +7,8 @@ byte short or long, or has another form, must be rejected, with the error text t
 offset of the attribute, the policy and the sizes. So must a frame whose nest is cut within an attribute.
 
 The attributes of a kind of link are in IFLA_INFO_DATA, before or after IFLA_INFO_KIND. The first kind counts. So it is
-with TCA_OPTIONS and TCA_KIND, which have the same numbers, and with IFLA_INFO_SLAVE_DATA and IFLA_INFO_SLAVE_KIND. The
-attributes of an encapsulation are in RTA_ENCAP, before or after RTA_ENCAP_TYPE, and the first type counts.
+with TCA_OPTIONS and TCA_KIND, which have the same numbers. The attributes of an encapsulation are in RTA_ENCAP, before or
+after RTA_ENCAP_TYPE, and the first type counts.
 """
 
 import os
@@ -25,9 +25,7 @@ NORMALIZES = "tests::captured::standard_input_is_normalized"
 SHOWS = "tests::captured::standard_input_is_shown"
 RESULT = b"\ntest result: ok\n"
 NESTED, QUERY = 0x8000, 0x4000  # NLA_F_NESTED and the other flag bit, NLA_F_NET_BYTEORDER
-# IFLA_INFO_KIND or TCA_KIND, and IFLA_INFO_DATA or TCA_OPTIONS; IFLA_INFO_SLAVE_KIND, and IFLA_INFO_SLAVE_DATA
-CHOICES = {"link": (1, 2), "port": (4, 5)}
-GATEWAY = 5  # RTA_GATEWAY
+INFO_KIND, INFO_DATA, GATEWAY = 1, 2, 5  # IFLA_INFO_KIND or TCA_KIND, IFLA_INFO_DATA or TCA_OPTIONS, RTA_GATEWAY
 NUMBERS = 0, 0x3FFF  # of attributes that may have any number
 ENCAP_TYPE, ENCAP = 21, 22  # RTA_ENCAP_TYPE, RTA_ENCAP
 
@@ -78,20 +76,19 @@ def nests(kind, name, policy, inside, offset, header=b""):
     yield attribute(kind, header + cut), None, error
 
 
-def links(choice, name, policy, inside, offset, names):
-    """Yields the cases of a kind of link or port, within IFLA_LINKINFO, or of a discipline. `choice` has the kinds of the
-    name and of the data, and `names` those of the kinds beside it."""
-    by, chosen = choice
-    with_nul, without, other = (attribute(by, it) for it in (name.encode() + b"\0", name.encode(), b"other"))
-    data_name, kind_name = names[str(chosen)], names[str(by)]
+def links(name, policy, inside, offset, names):
+    """Yields the cases of a kind of link, within IFLA_LINKINFO, or of a discipline. `names` has those of the kinds beside
+    it."""
+    with_nul, without, other = (attribute(INFO_KIND, it) for it in (name.encode() + b"\0", name.encode(), b"other"))
+    data_name, kind_name = names[str(INFO_DATA)], names[str(INFO_KIND)]
     text = f"{kind_name}: {name}"
     for block, lines, error in blocks(inside, offset + len(with_nul) + 4, policy):
         lines = [text, f"{data_name}:", *indented(lines)] if lines else None
-        yield with_nul + attribute(chosen, block), lines, error
+        yield with_nul + attribute(INFO_DATA, block), lines, error
     for block, lines, error in blocks(inside, offset + 4, policy):
         lines = [f"{data_name}:", *indented(lines), text] if lines else None
-        yield attribute(chosen | NESTED, block) + without, lines, error
-    data = attribute(chosen, b"\1")
+        yield attribute(INFO_DATA | NESTED, block) + without, lines, error
+    data = attribute(INFO_DATA, b"\1")
     error = f"at byte {offset + len(without + other) + 4}, in policy {policy}: 1 bytes are too few for an attribute"
     yield without + other + data, None, error
     yield other + without + data, [f"{kind_name}: other", text, f"{data_name}: 01"], None
@@ -158,10 +155,8 @@ def blocks(kinds, offset, policy):
     `offset` is that of the block."""
     names = {it[0]: it[1] for it in kinds}
     for kind, name, form, size, inside in kinds:
-        if form in CHOICES:
-            yield from links(CHOICES[form], name, size, inside, offset, names)
-            continue
-        if form == "as":
+        if form == "link":
+            yield from links(name, size, inside, offset, names)
             continue
         if form == "encapsulation":
             yield from encapsulations(int(kind[1:]), size, inside, offset)
@@ -209,7 +204,8 @@ def rows():
 
 
 def main():
-    program, all_rows = built("netlink_route_tests_tests", "netlink_route_tests"), list(rows())
+    # a kind of bytes is listed once for each policy that they may have
+    program, all_rows = built("netlink_route_tests_tests", "netlink_route_tests"), list(dict.fromkeys(rows()))
 
     def difference(row):
         name, test, frame, text = row

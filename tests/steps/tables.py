@@ -106,15 +106,16 @@ def wrong_values(text):
 
 
 def wrong_order(path, text):
-    """Yields for each row, after the first, its policy and kind, and how it stands out of order or None."""
+    """Yields for each row, after the first of its table, its policy and kind, and how it stands out of order or None."""
     values = {"TOP": 0, "ANY": 0xFFFF}
     for name in [*USED.findall(text), os.path.basename(path)[:-3]]:
         if os.path.isfile(used := os.path.join(os.path.dirname(path), f"{name}.rt")):
             values.update(values_in(read(used)))
-    rows = [(policy, kind) for policy, kind in ROW.findall(text) if {policy, kind} <= values.keys()]
-    for before, after in zip(rows, rows[1:]):
-        is_sorted = [values[it] for it in before] < [values[it] for it in after]
-        yield ":".join(after), None if is_sorted else f"its row follows that of {':'.join(before)}"
+    for table in text.split("[Row] = "):
+        rows = [(policy, kind) for policy, kind in ROW.findall(table) if {policy, kind} <= values.keys()]
+        for before, after in zip(rows, rows[1:]):
+            is_sorted = [values[it] for it in before] < [values[it] for it in after]
+            yield ":".join(after), None if is_sorted else f"its row follows that of {':'.join(before)}"
 
 
 def main(paths):

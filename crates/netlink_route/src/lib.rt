@@ -1,7 +1,7 @@
 //! Messages of route netlink (linux/rtnetlink.h): links, addresses, neighbours, routes, rules,
 //! neighbour tables, ids of network namespaces, next hops, settings of links, announced prefixes,
-//! traffic control with its actions, and multicast groups, statistics, VLANs and filters of VNIs of
-//! bridges.
+//! traffic control with its actions, multicast groups and VLANs of bridges, statistics of links, and
+//! the VNIs that VXLAN links filter by.
 //! Each family is a table in a module of its own, with the constants of its header file.
 //! `RouteMessage` joins them.
 #![tactic(auto)]

@@ -22,7 +22,8 @@ use netlink_family::{Both, Join, Joined, OwnedMessage};
 
 /// The tables of links, addresses, neighbours, routes, rules, neighbour tables, ids of network
 /// namespaces, next hops, settings of links, announced prefixes, traffic control and its actions,
-/// multicast groups of bridges, statistics of links, VLANs of bridges, and filters of VNIs.
+/// multicast groups of bridges, statistics of links, VLANs of bridges, and the VNIs that VXLAN links
+/// filter by.
 #[derive(Clone, Copy, Debug, PartialEq, Eq)]
 pub struct RouteTables;
 
@@ -50,7 +51,7 @@ pub type LastTables = Both<Both<Namespaces, NextHopObjects>, Both<NetworkConfigu
 pub type TrafficTables = Both<TrafficControl, TrafficActions>;
 
 /// The tables of what `bridge monitor` shows beside links and neighbours: multicast groups of bridges,
-/// statistics of links, VLANs of bridges, and filters of VNIs.
+/// statistics of links, VLANs of bridges, and the VNIs that VXLAN links filter by.
 pub type BridgeTables = Both<Both<MulticastGroups, LinkStatistics>, Both<BridgeVlans, VniFilters>>;
 
 impl Join for RouteTables {

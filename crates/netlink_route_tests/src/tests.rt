@@ -1,8 +1,9 @@
 //! Messages as the kernel sends them, and invalid ones. The bytes are written by hand from
 //! linux/netlink.h, rtnetlink.h, if_link.h, if_addr.h, neighbour.h, fib_rules.h, net_namespace.h,
-//! netconf.h, nexthop.h, pkt_sched.h, pkt_cls.h and gen_stats.h, are in `examples/captured`, are what a
-//! kernel sent while `tc` ran, or are requests of `ip`.
+//! netconf.h, nexthop.h, pkt_sched.h, pkt_cls.h, gen_stats.h and if_bridge.h, are in
+//! `examples/captured`, are what a kernel sent while `tc` ran, or are requests of `ip`.
 
+mod bridge_frames;
 mod bridge_vlans;
 mod calls;
 mod captured;
@@ -10,6 +11,7 @@ mod encapsulation_samples;
 mod encapsulations;
 mod errors;
 mod getters;
+mod group_sizes;
 mod growth;
 mod link_kinds;
 mod link_statistics;
@@ -30,3 +32,4 @@ mod strings;
 mod traffic;
 mod traffic_actions;
 mod traffic_samples;
+mod vni_filters;

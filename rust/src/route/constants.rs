@@ -1302,6 +1302,324 @@ pub const TCA_ACT_USED_HW_STATS: Kind = Kind(9);
 /// The kind `TCA_ACT_IN_HW_COUNT`.
 pub const TCA_ACT_IN_HW_COUNT: Kind = Kind(10);
 
+// Multicast groups of bridges, and `struct br_port_msg`.
+/// The message type `RTM_NEWMDB`.
+pub const RTM_NEWMDB: u16 = 84;
+/// The message type `RTM_DELMDB`.
+pub const RTM_DELMDB: u16 = 85;
+/// The message type `RTM_GETMDB`.
+pub const RTM_GETMDB: u16 = 86;
+/// The field `family`.
+pub const BR_PORT_FAMILY: Field = Field(0x001);
+/// The field `ifindex`.
+pub const BR_PORT_IFINDEX: Field = Field(0x403);
+/// The field `ifindex`.
+pub const MDB_ENTRY_IFINDEX: Field = Field(0x003);
+/// The field `state`.
+pub const MDB_ENTRY_STATE: Field = Field(0x401);
+/// The field `flags`.
+pub const MDB_ENTRY_FLAGS: Field = Field(0x501);
+/// The field `vid`.
+pub const MDB_ENTRY_VID: Field = Field(0x602);
+/// The field `port`.
+pub const ROUTER_PORT_IFINDEX: Field = Field(0x003);
+/// The kind `MDBA_MDB`.
+pub const MDBA_MDB: Kind = Kind(1);
+/// The kind `MDBA_ROUTER`.
+pub const MDBA_ROUTER: Kind = Kind(2);
+/// The kind `MDBA_SET_ENTRY`.
+pub const MDBA_SET_ENTRY: Kind = Kind(1);
+/// The kind `MDBA_SET_ENTRY_ATTRS`.
+pub const MDBA_SET_ENTRY_ATTRS: Kind = Kind(2);
+/// The kind `MDBA_MDB_ENTRY`.
+pub const MDBA_MDB_ENTRY: Kind = Kind(1);
+/// The kind `MDBA_MDB_ENTRY_INFO`.
+pub const MDBA_MDB_ENTRY_INFO: Kind = Kind(1);
+/// The number `MDB_TEMPORARY`.
+pub const MDB_TEMPORARY: u8 = 0;
+/// The number `MDB_PERMANENT`.
+pub const MDB_PERMANENT: u8 = 1;
+/// The number `MDB_FLAGS_OFFLOAD`.
+pub const MDB_FLAGS_OFFLOAD: u8 = 1;
+/// The number `MDB_FLAGS_FAST_LEAVE`.
+pub const MDB_FLAGS_FAST_LEAVE: u8 = 2;
+/// The number `MDB_FLAGS_STAR_EXCL`.
+pub const MDB_FLAGS_STAR_EXCL: u8 = 4;
+/// The number `MDB_FLAGS_BLOCKED`.
+pub const MDB_FLAGS_BLOCKED: u8 = 8;
+/// The number `MDB_FLAGS_OFFLOAD_FAILED`.
+pub const MDB_FLAGS_OFFLOAD_FAILED: u8 = 16;
+/// The kind `MDBA_MDB_EATTR_TIMER`.
+pub const MDBA_MDB_EATTR_TIMER: Kind = Kind(1);
+/// The kind `MDBA_MDB_EATTR_SRC_LIST`.
+pub const MDBA_MDB_EATTR_SRC_LIST: Kind = Kind(2);
+/// The kind `MDBA_MDB_EATTR_GROUP_MODE`.
+pub const MDBA_MDB_EATTR_GROUP_MODE: Kind = Kind(3);
+/// The kind `MDBA_MDB_EATTR_SOURCE`.
+pub const MDBA_MDB_EATTR_SOURCE: Kind = Kind(4);
+/// The kind `MDBA_MDB_EATTR_RTPROT`.
+pub const MDBA_MDB_EATTR_RTPROT: Kind = Kind(5);
+/// The kind `MDBA_MDB_EATTR_DST`.
+pub const MDBA_MDB_EATTR_DST: Kind = Kind(6);
+/// The kind `MDBA_MDB_EATTR_DST_PORT`.
+pub const MDBA_MDB_EATTR_DST_PORT: Kind = Kind(7);
+/// The kind `MDBA_MDB_EATTR_VNI`.
+pub const MDBA_MDB_EATTR_VNI: Kind = Kind(8);
+/// The kind `MDBA_MDB_EATTR_IFINDEX`.
+pub const MDBA_MDB_EATTR_IFINDEX: Kind = Kind(9);
+/// The kind `MDBA_MDB_EATTR_SRC_VNI`.
+pub const MDBA_MDB_EATTR_SRC_VNI: Kind = Kind(10);
+/// The kind `MDBA_MDB_SRCLIST_ENTRY`.
+pub const MDBA_MDB_SRCLIST_ENTRY: Kind = Kind(1);
+/// The kind `MDBA_MDB_SRCATTR_ADDRESS`.
+pub const MDBA_MDB_SRCATTR_ADDRESS: Kind = Kind(1);
+/// The kind `MDBA_MDB_SRCATTR_TIMER`.
+pub const MDBA_MDB_SRCATTR_TIMER: Kind = Kind(2);
+/// The kind `MDBA_ROUTER_PORT`.
+pub const MDBA_ROUTER_PORT: Kind = Kind(1);
+/// The kind `MDBA_ROUTER_PATTR_TIMER`.
+pub const MDBA_ROUTER_PATTR_TIMER: Kind = Kind(1);
+/// The kind `MDBA_ROUTER_PATTR_TYPE`.
+pub const MDBA_ROUTER_PATTR_TYPE: Kind = Kind(2);
+/// The kind `MDBA_ROUTER_PATTR_INET_TIMER`.
+pub const MDBA_ROUTER_PATTR_INET_TIMER: Kind = Kind(3);
+/// The kind `MDBA_ROUTER_PATTR_INET6_TIMER`.
+pub const MDBA_ROUTER_PATTR_INET6_TIMER: Kind = Kind(4);
+/// The kind `MDBA_ROUTER_PATTR_VID`.
+pub const MDBA_ROUTER_PATTR_VID: Kind = Kind(5);
+/// The kind `MDBE_ATTR_SOURCE`.
+pub const MDBE_ATTR_SOURCE: Kind = Kind(1);
+/// The kind `MDBE_ATTR_SRC_LIST`.
+pub const MDBE_ATTR_SRC_LIST: Kind = Kind(2);
+/// The kind `MDBE_ATTR_GROUP_MODE`.
+pub const MDBE_ATTR_GROUP_MODE: Kind = Kind(3);
+/// The kind `MDBE_ATTR_RTPROT`.
+pub const MDBE_ATTR_RTPROT: Kind = Kind(4);
+/// The kind `MDBE_ATTR_DST`.
+pub const MDBE_ATTR_DST: Kind = Kind(5);
+/// The kind `MDBE_ATTR_DST_PORT`.
+pub const MDBE_ATTR_DST_PORT: Kind = Kind(6);
+/// The kind `MDBE_ATTR_VNI`.
+pub const MDBE_ATTR_VNI: Kind = Kind(7);
+/// The kind `MDBE_ATTR_IFINDEX`.
+pub const MDBE_ATTR_IFINDEX: Kind = Kind(8);
+/// The kind `MDBE_ATTR_SRC_VNI`.
+pub const MDBE_ATTR_SRC_VNI: Kind = Kind(9);
+/// The kind `MDBE_ATTR_STATE_MASK`.
+pub const MDBE_ATTR_STATE_MASK: Kind = Kind(10);
+/// The kind `MDBE_SRC_LIST_ENTRY`.
+pub const MDBE_SRC_LIST_ENTRY: Kind = Kind(1);
+/// The kind `MDBE_SRCATTR_ADDRESS`.
+pub const MDBE_SRCATTR_ADDRESS: Kind = Kind(1);
+
+// Statistics of links, and `struct if_stats_msg`.
+/// The message type `RTM_NEWSTATS`.
+pub const RTM_NEWSTATS: u16 = 92;
+/// The message type `RTM_GETSTATS`.
+pub const RTM_GETSTATS: u16 = 94;
+/// The message type `RTM_SETSTATS`.
+pub const RTM_SETSTATS: u16 = 95;
+/// The field `family`.
+pub const IFSM_FAMILY: Field = Field(0x001);
+/// The field `ifindex`.
+pub const IFSM_IFINDEX: Field = Field(0x403);
+/// The field `filter_mask`.
+pub const IFSM_FILTER_MASK: Field = Field(0x803);
+/// The kind `IFLA_STATS_LINK_64`.
+pub const IFLA_STATS_LINK_64: Kind = Kind(1);
+/// The kind `IFLA_STATS_LINK_XSTATS`.
+pub const IFLA_STATS_LINK_XSTATS: Kind = Kind(2);
+/// The kind `IFLA_STATS_LINK_XSTATS_SLAVE`.
+pub const IFLA_STATS_LINK_XSTATS_SLAVE: Kind = Kind(3);
+/// The kind `IFLA_STATS_LINK_OFFLOAD_XSTATS`.
+pub const IFLA_STATS_LINK_OFFLOAD_XSTATS: Kind = Kind(4);
+/// The kind `IFLA_STATS_AF_SPEC`.
+pub const IFLA_STATS_AF_SPEC: Kind = Kind(5);
+/// The kind `IFLA_STATS_GET_FILTERS`.
+pub const IFLA_STATS_GET_FILTERS: Kind = Kind(1);
+/// The kind `IFLA_STATS_SET_OFFLOAD_XSTATS_L3_STATS`.
+pub const IFLA_STATS_SET_OFFLOAD_XSTATS_L3_STATS: Kind = Kind(2);
+/// The kind `LINK_XSTATS_TYPE_BRIDGE`.
+pub const LINK_XSTATS_TYPE_BRIDGE: Kind = Kind(1);
+/// The kind `LINK_XSTATS_TYPE_BOND`.
+pub const LINK_XSTATS_TYPE_BOND: Kind = Kind(2);
+/// The kind `BRIDGE_XSTATS_VLAN`.
+pub const BRIDGE_XSTATS_VLAN: Kind = Kind(1);
+/// The kind `BRIDGE_XSTATS_MCAST`.
+pub const BRIDGE_XSTATS_MCAST: Kind = Kind(2);
+/// The kind `BRIDGE_XSTATS_STP`.
+pub const BRIDGE_XSTATS_STP: Kind = Kind(4);
+/// The kind `BOND_XSTATS_3AD`.
+pub const BOND_XSTATS_3AD: Kind = Kind(1);
+/// The kind `BOND_3AD_STAT_LACPDU_RX`.
+pub const BOND_3AD_STAT_LACPDU_RX: Kind = Kind(0);
+/// The kind `BOND_3AD_STAT_LACPDU_TX`.
+pub const BOND_3AD_STAT_LACPDU_TX: Kind = Kind(1);
+/// The kind `BOND_3AD_STAT_LACPDU_UNKNOWN_RX`.
+pub const BOND_3AD_STAT_LACPDU_UNKNOWN_RX: Kind = Kind(2);
+/// The kind `BOND_3AD_STAT_LACPDU_ILLEGAL_RX`.
+pub const BOND_3AD_STAT_LACPDU_ILLEGAL_RX: Kind = Kind(3);
+/// The kind `BOND_3AD_STAT_MARKER_RX`.
+pub const BOND_3AD_STAT_MARKER_RX: Kind = Kind(4);
+/// The kind `BOND_3AD_STAT_MARKER_TX`.
+pub const BOND_3AD_STAT_MARKER_TX: Kind = Kind(5);
+/// The kind `BOND_3AD_STAT_MARKER_RESP_RX`.
+pub const BOND_3AD_STAT_MARKER_RESP_RX: Kind = Kind(6);
+/// The kind `BOND_3AD_STAT_MARKER_RESP_TX`.
+pub const BOND_3AD_STAT_MARKER_RESP_TX: Kind = Kind(7);
+/// The kind `BOND_3AD_STAT_MARKER_UNKNOWN_RX`.
+pub const BOND_3AD_STAT_MARKER_UNKNOWN_RX: Kind = Kind(8);
+/// The kind `IFLA_OFFLOAD_XSTATS_CPU_HIT`.
+pub const IFLA_OFFLOAD_XSTATS_CPU_HIT: Kind = Kind(1);
+/// The kind `IFLA_OFFLOAD_XSTATS_HW_S_INFO`.
+pub const IFLA_OFFLOAD_XSTATS_HW_S_INFO: Kind = Kind(2);
+/// The kind `IFLA_OFFLOAD_XSTATS_L3_STATS`.
+pub const IFLA_OFFLOAD_XSTATS_L3_STATS: Kind = Kind(3);
+/// The kind `IFLA_OFFLOAD_XSTATS_HW_S_INFO_REQUEST`.
+pub const IFLA_OFFLOAD_XSTATS_HW_S_INFO_REQUEST: Kind = Kind(1);
+/// The kind `IFLA_OFFLOAD_XSTATS_HW_S_INFO_USED`.
+pub const IFLA_OFFLOAD_XSTATS_HW_S_INFO_USED: Kind = Kind(2);
+/// The kind `MPLS_STATS_LINK`.
+pub const MPLS_STATS_LINK: Kind = Kind(1);
+
+// VLANs of bridges, and `struct br_vlan_msg`.
+/// The message type `RTM_NEWVLAN`.
+pub const RTM_NEWVLAN: u16 = 112;
+/// The message type `RTM_DELVLAN`.
+pub const RTM_DELVLAN: u16 = 113;
+/// The message type `RTM_GETVLAN`.
+pub const RTM_GETVLAN: u16 = 114;
+/// The field `family`.
+pub const BR_VLAN_FAMILY: Field = Field(0x001);
+/// The field `ifindex`.
+pub const BR_VLAN_IFINDEX: Field = Field(0x403);
+/// The kind `BRIDGE_VLANDB_DUMP_FLAGS`.
+pub const BRIDGE_VLANDB_DUMP_FLAGS: Kind = Kind(1);
+/// The kind `BRIDGE_VLANDB_ENTRY`.
+pub const BRIDGE_VLANDB_ENTRY: Kind = Kind(1);
+/// The kind `BRIDGE_VLANDB_GLOBAL_OPTIONS`.
+pub const BRIDGE_VLANDB_GLOBAL_OPTIONS: Kind = Kind(2);
+/// The kind `BRIDGE_VLANDB_ENTRY_INFO`.
+pub const BRIDGE_VLANDB_ENTRY_INFO: Kind = Kind(1);
+/// The kind `BRIDGE_VLANDB_ENTRY_RANGE`.
+pub const BRIDGE_VLANDB_ENTRY_RANGE: Kind = Kind(2);
+/// The kind `BRIDGE_VLANDB_ENTRY_STATE`.
+pub const BRIDGE_VLANDB_ENTRY_STATE: Kind = Kind(3);
+/// The kind `BRIDGE_VLANDB_ENTRY_TUNNEL_INFO`.
+pub const BRIDGE_VLANDB_ENTRY_TUNNEL_INFO: Kind = Kind(4);
+/// The kind `BRIDGE_VLANDB_ENTRY_STATS`.
+pub const BRIDGE_VLANDB_ENTRY_STATS: Kind = Kind(5);
+/// The kind `BRIDGE_VLANDB_ENTRY_MCAST_ROUTER`.
+pub const BRIDGE_VLANDB_ENTRY_MCAST_ROUTER: Kind = Kind(6);
+/// The kind `BRIDGE_VLANDB_ENTRY_MCAST_N_GROUPS`.
+pub const BRIDGE_VLANDB_ENTRY_MCAST_N_GROUPS: Kind = Kind(7);
+/// The kind `BRIDGE_VLANDB_ENTRY_MCAST_MAX_GROUPS`.
+pub const BRIDGE_VLANDB_ENTRY_MCAST_MAX_GROUPS: Kind = Kind(8);
+/// The kind `BRIDGE_VLANDB_ENTRY_NEIGH_SUPPRESS`.
+pub const BRIDGE_VLANDB_ENTRY_NEIGH_SUPPRESS: Kind = Kind(9);
+/// The kind `BRIDGE_VLANDB_TINFO_ID`.
+pub const BRIDGE_VLANDB_TINFO_ID: Kind = Kind(1);
+/// The kind `BRIDGE_VLANDB_TINFO_CMD`.
+pub const BRIDGE_VLANDB_TINFO_CMD: Kind = Kind(2);
+/// The kind `BRIDGE_VLANDB_STATS_RX_BYTES`.
+pub const BRIDGE_VLANDB_STATS_RX_BYTES: Kind = Kind(1);
+/// The kind `BRIDGE_VLANDB_STATS_RX_PACKETS`.
+pub const BRIDGE_VLANDB_STATS_RX_PACKETS: Kind = Kind(2);
+/// The kind `BRIDGE_VLANDB_STATS_TX_BYTES`.
+pub const BRIDGE_VLANDB_STATS_TX_BYTES: Kind = Kind(3);
+/// The kind `BRIDGE_VLANDB_STATS_TX_PACKETS`.
+pub const BRIDGE_VLANDB_STATS_TX_PACKETS: Kind = Kind(4);
+/// The kind `BRIDGE_VLANDB_GOPTS_ID`.
+pub const BRIDGE_VLANDB_GOPTS_ID: Kind = Kind(1);
+/// The kind `BRIDGE_VLANDB_GOPTS_RANGE`.
+pub const BRIDGE_VLANDB_GOPTS_RANGE: Kind = Kind(2);
+/// The kind `BRIDGE_VLANDB_GOPTS_MCAST_SNOOPING`.
+pub const BRIDGE_VLANDB_GOPTS_MCAST_SNOOPING: Kind = Kind(3);
+/// The kind `BRIDGE_VLANDB_GOPTS_MCAST_IGMP_VERSION`.
+pub const BRIDGE_VLANDB_GOPTS_MCAST_IGMP_VERSION: Kind = Kind(4);
+/// The kind `BRIDGE_VLANDB_GOPTS_MCAST_MLD_VERSION`.
+pub const BRIDGE_VLANDB_GOPTS_MCAST_MLD_VERSION: Kind = Kind(5);
+/// The kind `BRIDGE_VLANDB_GOPTS_MCAST_LAST_MEMBER_CNT`.
+pub const BRIDGE_VLANDB_GOPTS_MCAST_LAST_MEMBER_CNT: Kind = Kind(6);
+/// The kind `BRIDGE_VLANDB_GOPTS_MCAST_STARTUP_QUERY_CNT`.
+pub const BRIDGE_VLANDB_GOPTS_MCAST_STARTUP_QUERY_CNT: Kind = Kind(7);
+/// The kind `BRIDGE_VLANDB_GOPTS_MCAST_LAST_MEMBER_INTVL`.
+pub const BRIDGE_VLANDB_GOPTS_MCAST_LAST_MEMBER_INTVL: Kind = Kind(8);
+/// The kind `BRIDGE_VLANDB_GOPTS_MCAST_MEMBERSHIP_INTVL`.
+pub const BRIDGE_VLANDB_GOPTS_MCAST_MEMBERSHIP_INTVL: Kind = Kind(10);
+/// The kind `BRIDGE_VLANDB_GOPTS_MCAST_QUERIER_INTVL`.
+pub const BRIDGE_VLANDB_GOPTS_MCAST_QUERIER_INTVL: Kind = Kind(11);
+/// The kind `BRIDGE_VLANDB_GOPTS_MCAST_QUERY_INTVL`.
+pub const BRIDGE_VLANDB_GOPTS_MCAST_QUERY_INTVL: Kind = Kind(12);
+/// The kind `BRIDGE_VLANDB_GOPTS_MCAST_QUERY_RESPONSE_INTVL`.
+pub const BRIDGE_VLANDB_GOPTS_MCAST_QUERY_RESPONSE_INTVL: Kind = Kind(13);
+/// The kind `BRIDGE_VLANDB_GOPTS_MCAST_STARTUP_QUERY_INTVL`.
+pub const BRIDGE_VLANDB_GOPTS_MCAST_STARTUP_QUERY_INTVL: Kind = Kind(14);
+/// The kind `BRIDGE_VLANDB_GOPTS_MCAST_QUERIER`.
+pub const BRIDGE_VLANDB_GOPTS_MCAST_QUERIER: Kind = Kind(15);
+/// The kind `BRIDGE_VLANDB_GOPTS_MCAST_ROUTER_PORTS`.
+pub const BRIDGE_VLANDB_GOPTS_MCAST_ROUTER_PORTS: Kind = Kind(16);
+/// The kind `BRIDGE_VLANDB_GOPTS_MCAST_QUERIER_STATE`.
+pub const BRIDGE_VLANDB_GOPTS_MCAST_QUERIER_STATE: Kind = Kind(17);
+/// The kind `BRIDGE_VLANDB_GOPTS_MSTI`.
+pub const BRIDGE_VLANDB_GOPTS_MSTI: Kind = Kind(18);
+/// The kind `BRIDGE_QUERIER_IP_ADDRESS`.
+pub const BRIDGE_QUERIER_IP_ADDRESS: Kind = Kind(1);
+/// The kind `BRIDGE_QUERIER_IP_PORT`.
+pub const BRIDGE_QUERIER_IP_PORT: Kind = Kind(2);
+/// The kind `BRIDGE_QUERIER_IP_OTHER_TIMER`.
+pub const BRIDGE_QUERIER_IP_OTHER_TIMER: Kind = Kind(3);
+/// The kind `BRIDGE_QUERIER_IPV6_ADDRESS`.
+pub const BRIDGE_QUERIER_IPV6_ADDRESS: Kind = Kind(5);
+/// The kind `BRIDGE_QUERIER_IPV6_PORT`.
+pub const BRIDGE_QUERIER_IPV6_PORT: Kind = Kind(6);
+/// The kind `BRIDGE_QUERIER_IPV6_OTHER_TIMER`.
+pub const BRIDGE_QUERIER_IPV6_OTHER_TIMER: Kind = Kind(7);
+
+// Filters of VNIs, and `struct tunnel_msg`.
+/// The message type `RTM_NEWTUNNEL`.
+pub const RTM_NEWTUNNEL: u16 = 120;
+/// The message type `RTM_DELTUNNEL`.
+pub const RTM_DELTUNNEL: u16 = 121;
+/// The message type `RTM_GETTUNNEL`.
+pub const RTM_GETTUNNEL: u16 = 122;
+/// The field `family`.
+pub const TUNNEL_FAMILY: Field = Field(0x001);
+/// The field `flags`.
+pub const TUNNEL_FLAGS: Field = Field(0x101);
+/// The field `ifindex`.
+pub const TUNNEL_IFINDEX: Field = Field(0x403);
+/// The number `TUNNEL_MSG_FLAG_STATS`.
+pub const TUNNEL_MSG_FLAG_STATS: u8 = 1;
+/// The kind `VXLAN_VNIFILTER_ENTRY`.
+pub const VXLAN_VNIFILTER_ENTRY: Kind = Kind(1);
+/// The kind `VXLAN_VNIFILTER_ENTRY_START`.
+pub const VXLAN_VNIFILTER_ENTRY_START: Kind = Kind(1);
+/// The kind `VXLAN_VNIFILTER_ENTRY_END`.
+pub const VXLAN_VNIFILTER_ENTRY_END: Kind = Kind(2);
+/// The kind `VXLAN_VNIFILTER_ENTRY_GROUP`.
+pub const VXLAN_VNIFILTER_ENTRY_GROUP: Kind = Kind(3);
+/// The kind `VXLAN_VNIFILTER_ENTRY_GROUP6`.
+pub const VXLAN_VNIFILTER_ENTRY_GROUP6: Kind = Kind(4);
+/// The kind `VXLAN_VNIFILTER_ENTRY_STATS`.
+pub const VXLAN_VNIFILTER_ENTRY_STATS: Kind = Kind(5);
+/// The kind `VNIFILTER_ENTRY_STATS_RX_BYTES`.
+pub const VNIFILTER_ENTRY_STATS_RX_BYTES: Kind = Kind(1);
+/// The kind `VNIFILTER_ENTRY_STATS_RX_PKTS`.
+pub const VNIFILTER_ENTRY_STATS_RX_PKTS: Kind = Kind(2);
+/// The kind `VNIFILTER_ENTRY_STATS_RX_DROPS`.
+pub const VNIFILTER_ENTRY_STATS_RX_DROPS: Kind = Kind(3);
+/// The kind `VNIFILTER_ENTRY_STATS_RX_ERRORS`.
+pub const VNIFILTER_ENTRY_STATS_RX_ERRORS: Kind = Kind(4);
+/// The kind `VNIFILTER_ENTRY_STATS_TX_BYTES`.
+pub const VNIFILTER_ENTRY_STATS_TX_BYTES: Kind = Kind(5);
+/// The kind `VNIFILTER_ENTRY_STATS_TX_PKTS`.
+pub const VNIFILTER_ENTRY_STATS_TX_PKTS: Kind = Kind(6);
+/// The kind `VNIFILTER_ENTRY_STATS_TX_DROPS`.
+pub const VNIFILTER_ENTRY_STATS_TX_DROPS: Kind = Kind(7);
+/// The kind `VNIFILTER_ENTRY_STATS_TX_ERRORS`.
+pub const VNIFILTER_ENTRY_STATS_TX_ERRORS: Kind = Kind(8);
+
 // Generic netlink's controller, and `struct genlmsghdr`.
 /// The message type `GENL_ID_CTRL`.
 pub const GENL_ID_CTRL: u16 = 16;

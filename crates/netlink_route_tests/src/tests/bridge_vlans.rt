@@ -1,6 +1,6 @@
 //! The VLANs of bridges and of their ports. Each sample is a payload.
 
-use crate::tests::calls::{are_next, has_attributes};
+use crate::tests::calls::{are_next, has_attributes, has_nest};
 use crate::tests::samples::error_text;
 use netlink_family::{BlockView, HeaderView, MessageView, OwnedMessage, Value};
 use netlink_route::bridge_vlans::*;
@@ -76,14 +76,6 @@ const OPTIONS: [u8; 284] = [
 fn nest_of(payload: &[u8], kind: u16) -> Option<BlockView<'_>> {
     let message = MessageView::<BridgeVlans>::new(RTM_NEWVLAN, payload).ok()?;
     message.view().nest(kind)
-}
-
-/// Returns whether the attributes of a nest are these.
-fn has_nest(block: &BlockView<'_>, kind: u16, expected: &[(u16, Value<'_>)]) -> bool {
-    match block.nest(kind) {
-        Some(nest) => has_attributes(&nest, expected),
-        None => false,
-    }
 }
 
 #[test]

@@ -48,3 +48,11 @@ pub(crate) fn are_last(all: &mut Attributes<'_>, expected: &[(u16, Value<'_>)]) 
 pub(crate) fn has_attributes(view: &BlockView<'_>, expected: &[(u16, Value<'_>)]) -> bool {
     are_last(&mut view.attributes(), expected)
 }
+
+/// Returns whether the attributes of a nest in a message or in another nest are these.
+pub(crate) fn has_nest(view: &BlockView<'_>, kind: u16, expected: &[(u16, Value<'_>)]) -> bool {
+    match view.nest(kind) {
+        Some(nest) => has_attributes(&nest, expected),
+        None => false,
+    }
+}

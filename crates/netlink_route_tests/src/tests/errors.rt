@@ -63,7 +63,7 @@ fn other_payloads_have_their_error(rt: HostRuntime) -> Result<(), Fail> {
     let alloc = rt.alloc();
     let unknown = FamilyError::UnknownType { message_type: 31 };
     assert!(rt; error_of(&rt, 31, &[])? == Some(unknown));
-    let rows: [(u16, usize, usize); 16] = [
+    let rows: [(u16, usize, usize); 22] = [
         (19, 16, 15),
         (22, 8, 7),
         (30, 12, 11),
@@ -80,6 +80,12 @@ fn other_payloads_have_their_error(rt: HostRuntime) -> Result<(), Fail> {
         (46, 20, 19),
         (101, 20, 16),
         (49, 4, 3),
+        (85, 8, 7),
+        (92, 12, 11),
+        (94, 12, 11),
+        (95, 12, 4),
+        (113, 8, 7),
+        (121, 8, 7),
     ];
     for (message_type, expected, received) in rows.iter() {
         let error = FamilyError::HeaderShort {

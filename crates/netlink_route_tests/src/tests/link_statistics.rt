@@ -1,18 +1,11 @@
-//! The statistics of links, and the VNIs that VXLAN links filter by. Each sample is a payload.
+//! The statistics of links. Each sample is a payload.
 
-use crate::tests::calls::has_attributes;
+use crate::tests::calls::has_nest;
 use crate::tests::samples::error_text;
-use netlink_family::{BlockView, MessageView, Value};
+use netlink_family::{BlockView, MessageView, OwnedMessage, Value};
 use netlink_route::link_statistics::*;
-use netlink_route::vni_filters::{
-    RTM_DELTUNNEL, RTM_NEWTUNNEL, TUNNEL_FAMILY, TUNNEL_FLAGS, TUNNEL_IFINDEX,
-    TUNNEL_MSG_FLAG_STATS, VNIFILTER_ENTRY_STATS_RX_BYTES, VNIFILTER_ENTRY_STATS_RX_DROPS,
-    VNIFILTER_ENTRY_STATS_RX_ERRORS, VNIFILTER_ENTRY_STATS_RX_PKTS, VNIFILTER_ENTRY_STATS_TX_BYTES,
-    VNIFILTER_ENTRY_STATS_TX_DROPS, VNIFILTER_ENTRY_STATS_TX_ERRORS, VNIFILTER_ENTRY_STATS_TX_PKTS,
-    VXLAN_VNIFILTER_ENTRY, VXLAN_VNIFILTER_ENTRY_END, VXLAN_VNIFILTER_ENTRY_GROUP,
-    VXLAN_VNIFILTER_ENTRY_GROUP6, VXLAN_VNIFILTER_ENTRY_START, VXLAN_VNIFILTER_ENTRY_STATS,
-};
-use netlink_route::{LinkStatistics, VniFilters};
+use netlink_route::{LinkStatistics, LinkStatisticsMessage};
+use std::alloc::Global;
 use std::test::Fail;
 
 /// Statistics of "lo" after one message over it, as Linux 6.18 sends them
@@ -61,35 +54,6 @@ const SETTINGS: [u8; 64] = [
     8, 0, 5, 0, 5, 0, 1, 0, // IFLA_STATS_AF_SPEC
     5, 0, 2, 0, 1, 0, 0, 0, // IFLA_STATS_SET_OFFLOAD_XSTATS_L3_STATS
 ];
-
-/// A range of VNIs with each attribute, and another VNI; by hand
-const FILTERS: [u8; 168] = [
-    7, 1, 0, 0, 8, 0, 0, 0, // struct tunnel_msg: AF_BRIDGE, TUNNEL_MSG_FLAG_STATS, link 8
-    0x94, 0, 1, 0x80, // VXLAN_VNIFILTER_ENTRY
-    8, 0, 1, 0, 3, 2, 1, 0, // VXLAN_VNIFILTER_ENTRY_START
-    8, 0, 2, 0, 9, 2, 1, 0, // VXLAN_VNIFILTER_ENTRY_END
-    8, 0, 3, 0, 0xef, 1, 2, 3, // VXLAN_VNIFILTER_ENTRY_GROUP
-    20, 0, 4, 0, 0xff, 2, 0, 0, 0, 0, 0, 0, 0, 0, 0, 0, 0, 0, 0, 3, // VXLAN_VNIFILTER_ENTRY_GROUP6
-    100, 0, 5, 0x80, // VXLAN_VNIFILTER_ENTRY_STATS
-    12, 0, 1, 0, 1, 0, 0, 0, 1, 0, 0, 0, // VNIFILTER_ENTRY_STATS_RX_BYTES
-    12, 0, 2, 0, 2, 0, 0, 0, 1, 0, 0, 0, // VNIFILTER_ENTRY_STATS_RX_PKTS
-    12, 0, 3, 0, 3, 0, 0, 0, 1, 0, 0, 0, // VNIFILTER_ENTRY_STATS_RX_DROPS
-    12, 0, 4, 0, 4, 0, 0, 0, 1, 0, 0, 0, // VNIFILTER_ENTRY_STATS_RX_ERRORS
-    12, 0, 5, 0, 5, 0, 0, 0, 1, 0, 0, 0, // VNIFILTER_ENTRY_STATS_TX_BYTES
-    12, 0, 6, 0, 6, 0, 0, 0, 1, 0, 0, 0, // VNIFILTER_ENTRY_STATS_TX_PKTS
-    12, 0, 7, 0, 7, 0, 0, 0, 1, 0, 0, 0, // VNIFILTER_ENTRY_STATS_TX_DROPS
-    12, 0, 8, 0, 8, 0, 0, 0, 1, 0, 0, 0, // VNIFILTER_ENTRY_STATS_TX_ERRORS
-    12, 0, 1, 0x80, // VXLAN_VNIFILTER_ENTRY
-    8, 0, 1, 0, 7, 0, 0, 0, // VXLAN_VNIFILTER_ENTRY_START
-];
-
-/// Returns whether the attributes of a nest are these.
-fn has_nest(block: &BlockView<'_>, kind: u16, expected: &[(u16, Value<'_>)]) -> bool {
-    match block.nest(kind) {
-        Some(nest) => has_attributes(&nest, expected),
-        None => false,
-    }
-}
 
 /// Returns the counters of hardware of a message of `RTM_NEWSTATS`.
 fn hardware_of<'a>(message: &MessageView<'a, LinkStatistics>) -> Option<BlockView<'a>> {
@@ -165,125 +129,126 @@ fn requests_for_statistics_are_read(rt: HostRuntime) -> Result<(), Fail> {
     Ok(())
 }
 
-/// Returns the first filter of a message.
-fn filter_of<'a>(message: &MessageView<'a, VniFilters>) -> Option<BlockView<'a>> {
-    message.view().nest(VXLAN_VNIFILTER_ENTRY)
+#[test]
+fn a_request_for_statistics_is_made(rt: HostRuntime) -> Result<(), Fail> {
+    let alloc = rt.alloc();
+    let mut request: LinkStatisticsMessage = OwnedMessage::new(alloc, RTM_GETSTATS)?;
+    request.set_u32(IFSM_IFINDEX, 3);
+    request.set_u32(IFSM_FILTER_MASK, 8);
+    request.try_push(alloc, IFLA_STATS_GET_FILTERS | 0x8000, &SETTINGS[16..56])?;
+    request.try_push(alloc, IFLA_STATS_SET_OFFLOAD_XSTATS_L3_STATS, &[1])?;
+    assert_eq!(rt; request.payload(), SETTINGS.as_slice());
+    Ok(())
 }
 
-/// Returns the last filter of `FILTERS`.
-fn last_filter() -> Option<BlockView<'static>> {
-    let message = MessageView::<VniFilters>::new(RTM_DELTUNNEL, &FILTERS).ok()?;
-    let mut all = message.view().attributes();
-    all.next()?;
-    let (_, value) = all.next()?;
-    match value {
-        Value::Nested(filter) => Some(filter),
-        _ => None,
-    }
+// Bytes of attributes, the number of zeros after them, and their error; no text if they are valid.
+const STRUCTS: [(&[u8], usize, &'static str); 14] = [
+    (&[196, 0, 1, 0], 192, ""), // IFLA_STATS_LINK_64
+    (
+        &[195, 0, 1, 0],
+        192,
+        "at byte 12, in policy 0: attribute 1 has a value of 191 bytes instead of 192 or more",
+    ),
+    (&[52, 0, 2, 0, 48, 0, 1, 0, 44, 0, 1, 0], 40, ""), // BRIDGE_XSTATS_VLAN
+    (
+        &[52, 0, 2, 0, 48, 0, 1, 0, 43, 0, 1, 0],
+        40,
+        "at byte 20, in policy 2: attribute 1 has a value of 39 bytes instead of 40 or more",
+    ),
+    (&[252, 0, 2, 0, 248, 0, 1, 0, 244, 0, 2, 0], 240, ""), // BRIDGE_XSTATS_MCAST
+    (
+        &[252, 0, 2, 0, 248, 0, 1, 0, 243, 0, 2, 0],
+        240,
+        "at byte 20, in policy 2: attribute 2 has a value of 239 bytes instead of 240 or more",
+    ),
+    (&[60, 0, 2, 0, 56, 0, 1, 0, 52, 0, 4, 0], 48, ""), // BRIDGE_XSTATS_STP
+    (
+        &[60, 0, 2, 0, 56, 0, 1, 0, 51, 0, 4, 0],
+        48,
+        "at byte 20, in policy 2: attribute 4 has a value of 47 bytes instead of 48 or more",
+    ),
+    (&[200, 0, 4, 0, 196, 0, 1, 0], 192, ""), // IFLA_OFFLOAD_XSTATS_CPU_HIT
+    (
+        &[200, 0, 4, 0, 195, 0, 1, 0],
+        192,
+        "at byte 16, in policy 5: attribute 1 has a value of 191 bytes instead of 192 or more",
+    ),
+    (&[80, 0, 4, 0, 76, 0, 3, 0], 72, ""), // IFLA_OFFLOAD_XSTATS_L3_STATS
+    (
+        &[80, 0, 4, 0, 75, 0, 3, 0],
+        72,
+        "at byte 16, in policy 5: attribute 3 has a value of 71 bytes instead of 72 or more",
+    ),
+    (&[84, 0, 5, 0, 80, 0, 28, 0, 76, 0, 1, 0], 72, ""), // MPLS_STATS_LINK
+    (
+        &[84, 0, 5, 0, 80, 0, 28, 0, 75, 0, 1, 0],
+        72,
+        "at byte 20, in policy 9: attribute 1 has a value of 71 bytes instead of 72 or more",
+    ),
+];
+
+/// Returns the error text of attributes that end with zeros, or no text if they are valid.
+fn text_of(alloc: Global, start: &[u8], zeros: usize) -> Result<String, Fail> {
+    let mut attributes = vec![in alloc; 0u8; 0]?;
+    let rest = vec![in alloc; 0u8; zeros]?;
+    attributes.extend_from_slice(start)?;
+    attributes.extend_from_slice(&rest)?;
+    error_text(alloc, RTM_NEWSTATS, 12, &attributes)
 }
 
 #[test]
-fn filters_are_read(rt: HostRuntime) -> Result<(), Fail> {
-    let address = [0xff, 2, 0, 0, 0, 0, 0, 0, 0, 0, 0, 0, 0, 0, 0, 3];
-    let message = MessageView::<VniFilters>::new(RTM_NEWTUNNEL, &FILTERS)?;
-    assert!(rt; message.header().u8(TUNNEL_FAMILY) == 7);
-    assert!(rt; message.header().u8(TUNNEL_FLAGS) == TUNNEL_MSG_FLAG_STATS);
-    assert!(rt; message.header().u32(TUNNEL_IFINDEX) == 8);
-    let Some(filter) = filter_of(&message) else {
-        return Err(Fail::from("there is no filter"));
-    };
-    assert!(rt; filter.u32(VXLAN_VNIFILTER_ENTRY_START) == Some(0x10203));
-    assert!(rt; filter.u32(VXLAN_VNIFILTER_ENTRY_END) == Some(0x10209));
-    assert!(rt; filter.exact(VXLAN_VNIFILTER_ENTRY_GROUP) == Some([239, 1, 2, 3].as_slice()));
-    assert!(rt; filter.exact(VXLAN_VNIFILTER_ENTRY_GROUP6) == Some(address.as_slice()));
-    match last_filter() {
-        Some(last) => {
-            assert!(rt; has_attributes(&last, &[(VXLAN_VNIFILTER_ENTRY_START, Value::U32(7))]))
-        }
-        None => assert!(rt; false),
+fn structs_have_their_sizes(rt: HostRuntime) -> Result<(), Fail> {
+    for (start, zeros, text) in STRUCTS.iter() {
+        let found = text_of(rt.alloc(), start, *zeros)?;
+        assert_eq!(rt; found.as_str(), *text);
     }
     Ok(())
 }
 
-#[test]
-fn statistics_of_a_filter_are_read(rt: HostRuntime) -> Result<(), Fail> {
-    let counters = [
-        (VNIFILTER_ENTRY_STATS_RX_BYTES, Value::U64(0x1_0000_0001)),
-        (VNIFILTER_ENTRY_STATS_RX_PKTS, Value::U64(0x1_0000_0002)),
-        (VNIFILTER_ENTRY_STATS_RX_DROPS, Value::U64(0x1_0000_0003)),
-        (VNIFILTER_ENTRY_STATS_RX_ERRORS, Value::U64(0x1_0000_0004)),
-        (VNIFILTER_ENTRY_STATS_TX_BYTES, Value::U64(0x1_0000_0005)),
-        (VNIFILTER_ENTRY_STATS_TX_PKTS, Value::U64(0x1_0000_0006)),
-        (VNIFILTER_ENTRY_STATS_TX_DROPS, Value::U64(0x1_0000_0007)),
-        (VNIFILTER_ENTRY_STATS_TX_ERRORS, Value::U64(0x1_0000_0008)),
-    ];
-    let message = MessageView::<VniFilters>::new(RTM_NEWTUNNEL, &FILTERS)?;
-    match filter_of(&message) {
-        Some(filter) => assert!(rt; has_nest(&filter, VXLAN_VNIFILTER_ENTRY_STATS, &counters)),
-        None => assert!(rt; false),
-    }
-    Ok(())
-}
-
-// A message type, the size of its header, attributes after a header of zeros, and their error; no text
-// if they are valid.
-const ERRORS: [(u16, usize, &[u8], &'static str); 10] = [
+// A message type, attributes after a header of zeros, and their error; no text if they are valid.
+const ERRORS: [(u16, &[u8], &'static str); 8] = [
     (
         92,
-        12,
         &[195, 0, 1, 0],
         "at byte 12, in policy 0: an attribute of 195 bytes is truncated to 4",
     ),
     (
         92,
-        12,
-        &[8, 0, 1, 0, 1, 2, 3, 4],
-        "at byte 12, in policy 0: attribute 1 has a value of 4 bytes instead of 192 or more",
-    ),
-    (
-        92,
-        12,
         &[16, 0, 3, 0, 12, 0, 1, 0, 8, 0, 1, 0, 1, 2, 3, 4],
         "at byte 20, in policy 2: attribute 1 has a value of 4 bytes instead of 40 or more",
     ),
     (
         92,
-        12,
-        &[16, 0, 5, 0, 12, 0, 28, 0, 8, 0, 1, 0, 1, 2, 3, 4],
-        "at byte 20, in policy 9: attribute 1 has a value of 4 bytes instead of 72 or more",
+        &[
+            20, 0, 2, 0, 16, 0, 2, 0, 12, 0, 1, 0, 8, 0, 0, 0, 1, 2, 3, 4,
+        ],
+        "at byte 24, in policy 4: attribute 0 has a value of 4 bytes instead of 8",
     ),
-    (92, 12, &[12, 0, 5, 0, 8, 0, 29, 0, 1, 2, 3, 4], ""),
+    (
+        92,
+        &[
+            20, 0, 4, 0, 16, 0, 2, 0, 12, 0, 3, 0, 6, 0, 1, 0, 1, 2, 0, 0,
+        ],
+        "at byte 24, in policy 7: attribute 1 has a value of 2 bytes instead of 1",
+    ),
+    (92, &[12, 0, 5, 0, 8, 0, 29, 0, 1, 2, 3, 4], ""),
     (
         94,
-        12,
         &[12, 0, 1, 0, 7, 0, 4, 0, 1, 2, 3, 0],
         "at byte 16, in policy 10: attribute 4 has a value of 3 bytes instead of 4",
     ),
     (
         95,
-        12,
         &[6, 0, 2, 0, 1, 2, 0, 0],
         "at byte 12, in policy 0: attribute 2 has a value of 2 bytes instead of 1",
     ),
-    (93, 12, &[], "message type 93 is not known"),
-    (
-        120,
-        8,
-        &[12, 0, 1, 0, 7, 0, 3, 0, 1, 2, 3, 0],
-        "at byte 12, in policy 1: attribute 3 has a value of 3 bytes instead of 4",
-    ),
-    (
-        121,
-        8,
-        &[16, 0, 1, 0, 12, 0, 5, 0, 8, 0, 1, 0, 1, 2, 3, 4],
-        "at byte 16, in policy 2: attribute 1 has a value of 4 bytes instead of 8",
-    ),
+    (93, &[], "message type 93 is not known"),
 ];
 
 #[test]
-fn invalid_statistics_and_filters_have_their_errors(rt: HostRuntime) -> Result<(), Fail> {
-    for (message_type, header_len, attributes, text) in ERRORS.iter() {
-        let found = error_text(rt.alloc(), *message_type, *header_len, attributes)?;
+fn invalid_statistics_have_their_errors(rt: HostRuntime) -> Result<(), Fail> {
+    for (message_type, attributes, text) in ERRORS.iter() {
+        let found = error_text(rt.alloc(), *message_type, 12, attributes)?;
         assert_eq!(rt; found.as_str(), *text);
     }
     Ok(())
