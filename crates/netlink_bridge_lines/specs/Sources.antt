@@ -22,9 +22,9 @@ unfoldable pub source_text : List ℕ → Option ℕ → List ℕ
 source_text address None = []
 source_text address (Some time) = timed_text (ip_words address) time
 
--- that of an entry of the list
-abbrev pub entry_text : List ℕ → List ℕ
-entry_text entry =
+-- the source in an entry of the list
+abbrev pub source_of : List ℕ → List ℕ
+source_of entry =
     source_text (value_in entry MDBA_MDB_SRCATTR_ADDRESS) (number_in entry MDBA_MDB_SRCATTR_TIMER)
 
 -- a text, followed by a source; an empty source changes nothing
@@ -32,9 +32,9 @@ unfoldable pub with_source : List ℕ → List ℕ → List ℕ
 with_source text [] = text
 with_source text (b ∷ source) = separated (codes ",") text (b ∷ source)
 
--- a text, followed by that of an entry
+-- a text, followed by the source in an entry
 abbrev pub with_entry : List ℕ → Attribute → List ℕ
-with_entry text entry = with_source text (entry_text entry.value)
+with_entry text entry = with_source text (source_of entry.value)
 
 -- the sources in a list, up to an error of the walk
 unfoldable pub sources_text : List ℕ → List ℕ

@@ -2,7 +2,7 @@
 
 ghost use Rattle.std.specs.Prelude.{◌≡◌, IfOk, OnOk, string_bytes};
 ghost use Rattle.std.specs.List.{fold};
-ghost use Rattle.netlink_bridge_lines.specs.Sources.{entry_text, source_text, sources_part, sources_text, time_text, timed_text, with_entry, with_source};
+ghost use Rattle.netlink_bridge_lines.specs.Sources.{source_of, source_text, sources_part, sources_text, time_text, timed_text, with_entry, with_source};
 ghost use Rattle.netlink_shapes.specs.Listing.{listed};
 ghost use Rattle.netlink_words.specs.Parts.{AddsPart};
 
@@ -37,7 +37,9 @@ fn push_list(alloc: Global, text: &mut String, list: &[u8]) -> Result<(), AllocE
 {
     for item in NlasIterator::new(list) {
         match item {
-            Ok(nla) => push_entry(alloc, text, nla.value())?,
+            Ok(nla) => {
+                push_entry(alloc, text, nla.value())?;
+            }
             Err(_) => return Ok(()),
         }
     }
@@ -47,9 +49,9 @@ fn push_list(alloc: Global, text: &mut String, list: &[u8]) -> Result<(), AllocE
 /// Appends the source in an entry, if both its address and its time are there.
 fn push_entry(alloc: Global, text: &mut String, entry: &[u8]) -> Result<(), AllocError>
     ensures { OnOk result (string_bytes text.new
-        ≡ with_source (string_bytes text.old) (entry_text entry.now)) }
+        ≡ with_source (string_bytes text.old) (source_of entry.now)) }
 {
-    push_source(text, entry_text(alloc, entry)?.as_str())
+    push_source(text, source_of(alloc, entry)?.as_str())
 }
 
 /// Appends a source, after a comma if the text is not empty. An empty source changes nothing.
@@ -64,8 +66,8 @@ fn push_source(text: &mut String, source: &str) -> Result<(), AllocError>
 }
 
 /// Returns the source in an entry; empty unless both its address and its time are there.
-fn entry_text(alloc: Global, entry: &[u8]) -> Result<String, AllocError>
-    ensures { IfOk result (λ text. string_bytes text ≡ entry_text entry.now) }
+fn source_of(alloc: Global, entry: &[u8]) -> Result<String, AllocError>
+    ensures { IfOk result (λ text. string_bytes text ≡ source_of entry.now) }
 {
     source_text(
         alloc,
