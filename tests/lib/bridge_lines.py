@@ -32,6 +32,15 @@ def groups(*infos, kind=84, index=5, flags=0):
     return of_link(kind, attribute(1, b"".join(attribute(1, it) for it in infos)), index=index, flags=flags)
 
 
+def source(address, *times):
+    """Returns an entry of a list of sources. A time is in hundredths of a second."""
+    return attribute(1 | NESTED, attribute(1, address) + b"".join(integer(2, it) for it in times))
+
+
+def sources(*entries):
+    return attribute(2 | NESTED, b"".join(entries))
+
+
 def router(*ports, kind=84, index=5, flags=0):
     """Returns a message about the router ports of a bridge."""
     return of_link(kind, attribute(2, b"".join(ports)), index=index, flags=flags)
@@ -62,6 +71,11 @@ def counts(*numbers):
     return attribute(1, struct.pack("<25Q", *numbers, *bytes(25 - len(numbers))))
 
 
+def hardware(*attributes):
+    """Returns what is requested and used of statistics of routing that hardware collects."""
+    return attribute(4, attribute(2 | NESTED, attribute(3 | NESTED, b"".join(attributes))))
+
+
 def range_to(vid):
     return integer(2, vid, 2)
 
@@ -73,8 +87,8 @@ def state(number):
 STATIC, INCLUDE, EXCLUDE = integer(5, 4, 1), integer(3, 1, 1), integer(3, 0, 1)
 PORT = integer(1, 6)
 
-# Entries by IPv4, IPv6 and Ethernet addresses; states, flags, VLANs, sources, modes, protocols, and attributes in another
-# order or without words.
+# Entries by IPv4, IPv6 and Ethernet addresses; states, flags, VLANs, sources, lists of sources, modes, protocols, and
+# attributes in another order or without words.
 OF_BRIDGE = [
     (groups(info()), "[MDB]dev if5 port if6 grp 239.1.1.1 temp"),
     (
@@ -97,6 +111,28 @@ OF_BRIDGE = [
         "[MDB]dev if5 port if6 grp ff02::123 src ff02::123 temp filter_mode exclude proto bgp offload vid 1",
     ),
     (groups(info(integer(3, 7, 1))), "[MDB]dev if5 port if6 grp 239.1.1.1 temp filter_mode exclude"),
+    (
+        groups(info(STATIC, sources(source(SOURCE, 26000), source(FOUR, 105)), INCLUDE)),
+        "[MDB]dev if5 port if6 grp 239.1.1.1 temp filter_mode include source_list 192.0.2.1/260.00,239.1.1.1/1.05"
+        " proto static",
+    ),
+    (
+        groups(info(sources(source(SIX, 0), source(SIX, -1)), EXCLUDE, group=SIX, protocol=ETH_P_IPV6, vid=1)),
+        "[MDB]dev if5 port if6 grp ff02::123 temp filter_mode exclude source_list ff02::123/0.00,ff02::123/42949672.95"
+        " vid 1",
+    ),
+    (
+        groups(info(attribute(2, attribute(1, integer(2, 100) + attribute(1, SOURCE))))),
+        "[MDB]dev if5 port if6 grp 239.1.1.1 temp source_list 192.0.2.1/1.00",
+    ),
+    (
+        groups(info(sources(source(SOURCE, 1), source(SOURCE), attribute(7, source(b"")), source(FOUR, 99)))),
+        "[MDB]dev if5 port if6 grp 239.1.1.1 temp source_list 192.0.2.1/0.01,239.1.1.1/0.99",
+    ),
+    (
+        groups(info(sources(source(SOURCE, 12345), b"\3\0\1\0"))),
+        "[MDB]dev if5 port if6 grp 239.1.1.1 temp source_list 192.0.2.1/123.45",
+    ),
     (groups(info(port=0), index=0), "[MDB]dev * port * grp 239.1.1.1 temp"),
     (groups(info(), kind=85), "[MDB]Deleted dev if5 port if6 grp 239.1.1.1 temp"),
 ]
@@ -150,9 +186,10 @@ OF_BRIDGE += [
     (vnis(integer(1, 100), kind=121), "[TUNNEL]Deleted if5 100"),
 ]
 
-# What `bridge` prints otherwise: several entries, sources of another family and lists of them, router ports, databases
-# without entries or that cannot be read, answers to RTM_GETMDB, VLANs without an id, a number of
-# queries for the last member without a version of MLD and the other way round, and statistics of VNIs.
+# What `bridge` prints otherwise: several entries, sources of another family, lists that have no source or do not begin
+# with one, sources and times of another size, router ports, databases without entries or that cannot be read, answers
+# to RTM_GETMDB, VLANs without an id, a number of queries for the last member without a version of MLD and the other way
+# round, and statistics of VNIs.
 BY_HAND = [
     (groups(info(), info(port=7)), "[MDB]dev if5 port if6 grp 239.1.1.1 temp"),
     (groups(info() + info(port=7)), "[MDB]dev if5 port if6 grp 239.1.1.1 temp"),
@@ -161,9 +198,19 @@ BY_HAND = [
         groups(info(attribute(4, SOURCE), group=MAC, protocol=0)),
         "[MDB]dev if5 port if6 grp 01:00:5e:01:01:01 src 192.0.2.1 temp",
     ),
+    (groups(info(sources())), "[MDB]dev if5 port if6 grp 239.1.1.1 temp"),
+    (groups(info(sources(source(SOURCE)), INCLUDE)), "[MDB]dev if5 port if6 grp 239.1.1.1 temp filter_mode include"),
     (
-        groups(info(attribute(2, attribute(1, attribute(1, SOURCE) + integer(2, 100))))),
-        "[MDB]dev if5 port if6 grp 239.1.1.1 temp",
+        groups(info(sources(attribute(1, integer(2, 1)), source(SOURCE, 100)))),
+        "[MDB]dev if5 port if6 grp 239.1.1.1 temp source_list 192.0.2.1/1.00",
+    ),
+    (
+        groups(info(sources(source(SIX, 12345), source(MAC, 1), attribute(1, attribute(1, FOUR) + integer(2, 1, 2))))),
+        "[MDB]dev if5 port if6 grp 239.1.1.1 temp source_list ff02::123/123.45",
+    ),
+    (
+        groups(info(sources(source(SOURCE, 7)), group=MAC, protocol=0)),
+        "[MDB]dev if5 port if6 grp 01:00:5e:01:01:01 temp source_list 192.0.2.1/0.07",
     ),
     (groups(info(integer(5, 77, 1))), "[MDB]dev if5 port if6 grp 239.1.1.1 temp proto 77"),
     (groups(info(integer(5, 0, 1))), "[MDB]dev if5 port if6 grp 239.1.1.1 temp proto unspec"),
@@ -201,7 +248,7 @@ BY_HAND = [
     (vnis(integer(1, 100), attribute(5 | NESTED, integer(1, 1, 8))), "[TUNNEL]if5 100"),
 ]
 
-# Statistics, of which `ip` prints the link alone.
+# Statistics, of which `ip` prints the link, and what hardware collects.
 BY_HAND += [
     (statistics(counts(1, 2, 3, 4, 5)), "[STATS]stats dev if5 rx_packets 1 rx_bytes 3 tx_packets 2 tx_bytes 4"),
     (
@@ -210,6 +257,15 @@ BY_HAND += [
     ),
     (statistics(), "[STATS]stats dev if5"),
     (statistics(attribute(4 | NESTED, b"")), "[STATS]stats dev if5"),
+    (statistics(hardware()), "[STATS]stats dev if5"),
+    (statistics(hardware(integer(1, 1, 1), integer(2, 0, 1))), "[STATS]stats dev if5 l3_stats on used off"),
+    (statistics(hardware(integer(2, 1, 1), integer(1, 0, 1))), "[STATS]stats dev if5 l3_stats off used on"),
+    (statistics(hardware(integer(1, 255, 1))), "[STATS]stats dev if5 l3_stats on"),
+    (statistics(hardware(integer(2, 1, 1))), "[STATS]stats dev if5 used on"),
+    (
+        statistics(hardware(integer(1, 0, 1), integer(2, 0, 1)), counts(1, 2, 3, 4)),
+        "[STATS]stats dev if5 rx_packets 1 rx_bytes 3 tx_packets 2 tx_bytes 4 l3_stats off used off",
+    ),
 ]
 
 # Requests, of which `bridge` prints those for a change as facts, and the others not at all.
@@ -234,6 +290,7 @@ BY_HAND += [
     (vnis(integer(1, 100), flags=ASKED), "[TUNNEL]request if5 100"),
     (vnis(integer(1, 100), kind=121, flags=ASKED), "[TUNNEL]request delete if5 100"),
     (statistics(kind=94, flags=1), "[STATS]Get stats dev if5"),
+    (statistics(hardware(integer(1, 1, 1)), kind=94, flags=1), "[STATS]Get stats dev if5"),
     (statistics(attribute(1, integer(4, 1)), kind=94, index=0, flags=DUMP), "[STATS]Get stats dev *"),
     (statistics(integer(2, 1, 1), kind=95, flags=ASKED), "[STATS]request Set stats dev if5"),
 ]

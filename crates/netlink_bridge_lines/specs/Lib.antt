@@ -1,4 +1,5 @@
 pub mod MulticastGroup
+pub mod Sources
 pub mod Statistics
 pub mod Vlan
 pub mod Vni

@@ -1,12 +1,13 @@
 -- The line of an entry of a bridge's multicast database, in the order of `bridge -d monitor mdb`, by its message type and payload.
 use Rattle.std.specs.Prelude.{ℕ, ◌==◌, ◌+◌, ◌*◌, not, List, [], ◌∷◌, ◌++◌, drop, length, nat_lt, slice_index, slice_range, take, Option, Some, None, codes, if◌then◌else◌}
 use Rattle.std.specs.Int.Bits.{bit_and}
+use Rattle.netlink_bridge_lines.specs.Sources.{sources_part}
 use Rattle.netlink_bridge_lines.specs.Words.{byte_in, value_in}
 use Rattle.netlink_family.specs.Finding.{first_at}
 use Rattle.netlink_packet_core.specs.Fields.{number_at}
 use Rattle.netlink_names.specs.Device.{device_part}
 use Rattle.netlink_names.specs.declared.device.Known.{Known}
-use Rattle.netlink_route.specs.declared.multicast_groups.TheConstants.{MDBA_MDB, MDBA_MDB_EATTR_GROUP_MODE, MDBA_MDB_EATTR_RTPROT, MDBA_MDB_EATTR_SOURCE, MDBA_MDB_ENTRY, MDBA_MDB_ENTRY_INFO, MDBA_ROUTER, MDBA_ROUTER_PORT}
+use Rattle.netlink_route.specs.declared.multicast_groups.TheConstants.{MDBA_MDB, MDBA_MDB_EATTR_GROUP_MODE, MDBA_MDB_EATTR_RTPROT, MDBA_MDB_EATTR_SOURCE, MDBA_MDB_EATTR_SRC_LIST, MDBA_MDB_ENTRY, MDBA_MDB_ENTRY_INFO, MDBA_ROUTER, MDBA_ROUTER_PORT}
 use Rattle.netlink_words.specs.NumberNames.{protocol_text}
 use Rattle.netlink_words.specs.Parts.{keyed, number_part, or_empty, when, with_part, with_parts}
 use Rattle.netlink_words.specs.Text.{bytes_text, ip_words}
@@ -51,13 +52,18 @@ unfoldable pub protocol_part : Option ℕ → List ℕ
 protocol_part None = []
 protocol_part (Some protocol) = keyed (codes "proto") (protocol_text protocol)
 
--- the source, the state, whether packets from sources are wanted, and who installed the entry
+-- whether packets from sources are wanted, those sources, and who installed the entry
+unfoldable pub mode_parts : List ℕ → List (List ℕ)
+mode_parts block =
+    mode_part (byte_in block MDBA_MDB_EATTR_GROUP_MODE)
+    ∷ sources_part (value_in block MDBA_MDB_EATTR_SRC_LIST)
+    ∷ protocol_part (byte_in block MDBA_MDB_EATTR_RTPROT) ∷ []
+
+-- the source and the state
 unfoldable pub source_parts : ℕ → List ℕ → List (List ℕ)
 source_parts state block =
     keyed (codes "src") (ip_words (value_in block MDBA_MDB_EATTR_SOURCE))
-    ∷ state_text state
-    ∷ mode_part (byte_in block MDBA_MDB_EATTR_GROUP_MODE)
-    ∷ protocol_part (byte_in block MDBA_MDB_EATTR_RTPROT) ∷ []
+    ∷ state_text state ∷ []
 
 -- the flags (MDB_FLAGS_*) and the VLAN
 unfoldable pub end_parts : ℕ → ℕ → List (List ℕ)
@@ -72,7 +78,9 @@ end_parts flags vid =
 unfoldable pub entry_text : List Known → ℕ → List ℕ → List ℕ → List ℕ
 entry_text known bridge info text =
     with_parts
+    (with_parts
     (with_parts (with_parts text (place_parts known bridge info)) (source_parts (slice_index info 4) (drop 28 info)))
+    (mode_parts (drop 28 info)))
     (end_parts (slice_index info 5) (number_at 6 2 info))
 
 -- ---- the line

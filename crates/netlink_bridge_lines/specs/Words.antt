@@ -2,6 +2,7 @@
 use Rattle.std.specs.Prelude.{ℕ, ◌==◌, ◌%◌, List, [], ◌∷◌, ◌++◌, length, nat_lt, slice_index, Option, Some, None, codes, decimal, if◌then◌else◌}
 use Rattle.netlink_names.specs.Device.{device_text}
 use Rattle.netlink_names.specs.declared.device.Known.{Known}
+use Rattle.netlink_packet_core.specs.Fields.{number_at}
 use Rattle.netlink_shapes.specs.Listing.{first_of, listed}
 use Rattle.netlink_words.specs.Parts.{or_empty}
 
@@ -33,3 +34,11 @@ byte_of (Some value) = if nat_lt (length value) 1 then None else Some (slice_ind
 
 abbrev pub byte_in : List ℕ → ℕ → Option ℕ
 byte_in block kind = byte_of (first_of kind (listed block))
+
+-- the number in the first 4 bytes of a value; none if it has fewer
+unfoldable pub number_of : Option (List ℕ) → Option ℕ
+number_of None = None
+number_of (Some value) = if nat_lt (length value) 4 then None else Some (number_at 0 4 value)
+
+abbrev pub number_in : List ℕ → ℕ → Option ℕ
+number_in block kind = number_of (first_of kind (listed block))

@@ -1,10 +1,11 @@
 //! What an entry of a bridge's multicast database has.
 
 ghost use Rattle.std.specs.Prelude.{◌≡◌, ◌≤◌, OnOk, drop, length, slice_index, string_bytes};
-ghost use Rattle.netlink_bridge_lines.specs.MulticastGroup.{address_part, end_parts, entry_text, group_address, group_protocol, mode_part, place_parts, protocol_part, source_parts, state_text, vlan_part};
+ghost use Rattle.netlink_bridge_lines.specs.MulticastGroup.{address_part, end_parts, entry_text, group_address, group_protocol, mode_part, mode_parts, place_parts, protocol_part, source_parts, state_text, vlan_part};
 ghost use Rattle.netlink_packet_core.specs.Fields.{number_at};
 ghost use Rattle.netlink_words.specs.Parts.{AddsPart, AddsParts};
 
+use crate::sources::push_sources;
 use crate::words::{byte_in, value_in};
 use netlink_names::device::push_device;
 use netlink_names::name_table::Names;
@@ -12,6 +13,7 @@ use netlink_packet_core::{u16_at, u32_at};
 use netlink_route::multicast_groups::{
     MDB_FLAGS_BLOCKED, MDB_FLAGS_FAST_LEAVE, MDB_FLAGS_OFFLOAD, MDB_FLAGS_STAR_EXCL, MDB_PERMANENT,
     MDBA_MDB_EATTR_GROUP_MODE, MDBA_MDB_EATTR_RTPROT, MDBA_MDB_EATTR_SOURCE,
+    MDBA_MDB_EATTR_SRC_LIST,
 };
 use netlink_words::number_names::push_protocol;
 use netlink_words::parts::{
@@ -43,6 +45,7 @@ pub(crate) fn push_entry(
 {
     push_place(alloc, text, known, bridge, info)?;
     push_source(alloc, text, state_of(info), attributes_of(info))?;
+    push_modes(alloc, text, attributes_of(info))?;
     push_end(text, flags_of(info), vlan_of(info))
 }
 
@@ -126,8 +129,7 @@ fn group_address(info: &[u8]) -> &[u8]
     &info[8..24]
 }
 
-/// Appends the source, the state, whether packets from sources are wanted, and who installed the
-/// entry.
+/// Appends the source and the state.
 #[tactic(auto, unfolding(crate::specs::MulticastGroup::source_parts))]
 fn push_source(
     alloc: Global,
@@ -139,9 +141,7 @@ fn push_source(
 {
     let source = value_in(attributes, MDBA_MDB_EATTR_SOURCE);
     push_address(alloc, text, "src", source)?;
-    push_part(text, state_text(state))?;
-    push_mode(text, byte_in(attributes, MDBA_MDB_EATTR_GROUP_MODE))?;
-    push_protocol_part(text, byte_in(attributes, MDBA_MDB_EATTR_RTPROT))
+    push_part(text, state_text(state))
 }
 
 /// Returns the name of a state.
@@ -152,6 +152,17 @@ fn state_text(state: u8) -> &'static str
         return "temp";
     }
     "permanent"
+}
+
+/// Appends whether packets from sources are wanted, those sources, and who installed the entry.
+#[tactic(auto, unfolding(crate::specs::MulticastGroup::mode_parts))]
+fn push_modes(alloc: Global, text: &mut String, attributes: &[u8]) -> Result<(), AllocError>
+    ensures { OnOk result (AddsParts text.old text.new (mode_parts attributes.now)) }
+{
+    push_mode(text, byte_in(attributes, MDBA_MDB_EATTR_GROUP_MODE))?;
+    let list = value_in(attributes, MDBA_MDB_EATTR_SRC_LIST);
+    push_sources(alloc, text, list)?;
+    push_protocol_part(text, byte_in(attributes, MDBA_MDB_EATTR_RTPROT))
 }
 
 /// Appends whether packets from the sources of the group are wanted, or all others.

@@ -18,6 +18,7 @@
 //! | `src 192.0.2.1` | `group_entry::push_source` | `MulticastGroup::source_parts` |
 //! | `temp`, `permanent` | `group_entry::state_text` | `MulticastGroup::state_text` |
 //! | `filter_mode include` | `group_entry::push_mode` | `MulticastGroup::mode_part` |
+//! | `source_list 192.0.2.1/260.00` | `sources::push_sources` | `Sources::sources_part` |
 //! | `proto static` | `group_entry::push_protocol_part` | `MulticastGroup::protocol_part` |
 //! | `offload` and the other flags | `group_entry::push_end` | `MulticastGroup::end_parts` |
 //! | `vid 10` | `group_entry::push_vid` | `MulticastGroup::vlan_part` |
@@ -34,10 +35,12 @@
 //! | `239.1.1.1`, of VNIs | `vni::push_vnis` | `Vni::vni_parts` |
 //! | `stats dev d0` | `statistics::push_front` | `Statistics::statistics_front` |
 //! | `rx_packets 1` and the other counts | `statistics::push_counts` | `Statistics::count_parts` |
+//! | `l3_stats on`, `used off` | `statistics::push_hardware` | `Statistics::hardware_parts` |
 #![tactic(auto)]
 
 pub mod group;
 mod group_entry;
+mod sources;
 pub mod statistics;
 pub mod vlan;
 mod vlan_options;

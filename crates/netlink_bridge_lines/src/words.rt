@@ -2,13 +2,13 @@
 
 ghost use Rattle.std.specs.Prelude.{◌≡◌, ◌≤◌, ◌+◌, IfOk, OnOk, length, string_bytes};
 ghost use Rattle.std.specs.Option.{option_copied};
-ghost use Rattle.netlink_bridge_lines.specs.Words.{byte_in, byte_of, front, range_text, value_in, verb};
+ghost use Rattle.netlink_bridge_lines.specs.Words.{byte_in, byte_of, front, number_in, number_of, range_text, value_in, verb};
 ghost use Rattle.netlink_packet_core.specs.Fields.{number_at};
 ghost use Rattle.netlink_words.specs.Parts.{AddsPart, AddsParts, number_part};
 
 use netlink_names::device::device_name;
 use netlink_names::name_table::Names;
-use netlink_packet_core::parse_u64;
+use netlink_packet_core::{parse_u64, u32_at};
 use netlink_shapes::find::first_value;
 use netlink_words::parts::{or_empty, push_number, push_part};
 use std::alloc::{AllocError, Global};
@@ -113,6 +113,30 @@ fn byte_of(value: Option<&[u8]>) -> Option<u8>
                 return None;
             }
             Some(value[0])
+        }
+    }
+}
+
+/// Returns the number in the first 4 bytes of the first attribute of a kind, up to an error; none if it
+/// has fewer.
+pub(crate) fn number_in(block: &[u8], kind: u16) -> Option<u32>
+    ensures { result ≡ number_in block.now kind }
+{
+    number_of(first_value(block, kind))
+}
+
+/// Returns the number in the first 4 bytes of a value; none if it has fewer.
+#[tactic(auto, unfolding(crate::specs::Words::number_of))]
+fn number_of(value: Option<&[u8]>) -> Option<u32>
+    ensures { result ≡ number_of (option_copied value.entry) }
+{
+    match value {
+        None => None,
+        Some(value) => {
+            if value.len() < 4 {
+                return None;
+            }
+            Some(u32_at(value, 0))
         }
     }
 }

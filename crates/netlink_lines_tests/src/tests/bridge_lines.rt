@@ -6,11 +6,12 @@ use crate::tests::shown::{joined, shown};
 use std::alloc::{AllocError, Global};
 use std::test::Fail;
 
-/// Messages as type and payload, and the line of each: groups by IPv4, IPv6 and Ethernet addresses, VLANs
-/// and their settings, and VNIs with an address and without. Then what `bridge` prints otherwise or not
-/// at all: a source of another family, databases without an entry or that cannot be read, a router port,
-/// several VLANs and VNIs, requests, and statistics.
-const MESSAGES: [(u8, &[u8], &str); 34] = [
+/// Messages as type and payload, and the line of each: groups by IPv4, IPv6 and Ethernet addresses and
+/// with lists of sources, VLANs and their settings, and VNIs with an address and without. Then what
+/// `bridge` prints otherwise or not at all: a source of another family, databases without an entry or
+/// that cannot be read, a router port, several VLANs and VNIs, requests, lists that have no source or do
+/// not begin with one, and statistics.
+const MESSAGES: [(u8, &[u8], &str); 41] = [
     (
         84,
         &[
@@ -61,6 +62,37 @@ const MESSAGES: [(u8, &[u8], &str); 34] = [
             1, 35,
         ],
         "dev if5 port if6 grp ff02::123 src ff02::123 temp filter_mode exclude proto bgp offload vid 1\n",
+    ),
+    (
+        84,
+        &[
+            7, 0, 0, 0, 5, 0, 0, 0, 100, 0, 1, 0, 96, 0, 1, 0, 92, 0, 1, 0, 6, 0, 0, 0, 0, 0, 0, 0,
+            239, 1, 1, 1, 0, 0, 0, 0, 0, 0, 0, 0, 0, 0, 0, 0, 8, 0, 0, 0, 5, 0, 3, 0, 1, 0, 0, 0,
+            44, 0, 2, 128, 20, 0, 1, 128, 8, 0, 1, 0, 192, 0, 2, 1, 8, 0, 2, 0, 144, 101, 0, 0, 20,
+            0, 1, 128, 8, 0, 1, 0, 239, 1, 1, 1, 8, 0, 2, 0, 105, 0, 0, 0, 5, 0, 5, 0, 4, 0, 0, 0,
+        ],
+        "dev if5 port if6 grp 239.1.1.1 temp filter_mode include source_list 192.0.2.1/260.00,239.1.1.1/1.05 proto static\n",
+    ),
+    (
+        84,
+        &[
+            7, 0, 0, 0, 5, 0, 0, 0, 116, 0, 1, 0, 112, 0, 1, 0, 108, 0, 1, 0, 6, 0, 0, 0, 0, 0, 0,
+            0, 255, 2, 0, 0, 0, 0, 0, 0, 0, 0, 0, 0, 0, 0, 1, 35, 134, 221, 0, 0, 5, 0, 3, 0, 0, 0,
+            0, 0, 68, 0, 2, 128, 32, 0, 1, 128, 20, 0, 1, 0, 255, 2, 0, 0, 0, 0, 0, 0, 0, 0, 0, 0,
+            0, 0, 1, 35, 8, 0, 2, 0, 0, 0, 0, 0, 32, 0, 1, 128, 20, 0, 1, 0, 255, 2, 0, 0, 0, 0, 0,
+            0, 0, 0, 0, 0, 0, 0, 1, 35, 8, 0, 2, 0, 255, 255, 255, 255,
+        ],
+        "dev if5 port if6 grp ff02::123 temp filter_mode exclude source_list ff02::123/0.00,ff02::123/42949672.95\n",
+    ),
+    (
+        84,
+        &[
+            7, 0, 0, 0, 5, 0, 0, 0, 96, 0, 1, 0, 92, 0, 1, 0, 88, 0, 1, 0, 6, 0, 0, 0, 0, 0, 0, 0,
+            239, 1, 1, 1, 0, 0, 0, 0, 0, 0, 0, 0, 0, 0, 0, 0, 8, 0, 0, 0, 56, 0, 2, 128, 20, 0, 1,
+            128, 8, 0, 1, 0, 192, 0, 2, 1, 8, 0, 2, 0, 1, 0, 0, 0, 12, 0, 1, 128, 8, 0, 1, 0, 192,
+            0, 2, 1, 20, 0, 1, 128, 8, 0, 1, 0, 239, 1, 1, 1, 8, 0, 2, 0, 99, 0, 0, 0,
+        ],
+        "dev if5 port if6 grp 239.1.1.1 temp source_list 192.0.2.1/0.01,239.1.1.1/0.99\n",
     ),
     (
         84,
@@ -263,6 +295,41 @@ const MESSAGES: [(u8, &[u8], &str); 34] = [
             239, 1, 1, 1, 0, 0, 0, 0, 0, 0, 0, 0, 0, 0, 0, 0, 8, 0, 0, 0, 8, 0, 3, 0, 1, 0, 0, 0,
         ],
         "dev if5 port if6 grp 239.1.1.1 temp filter_mode include\n",
+    ),
+    (
+        84,
+        &[
+            7, 0, 0, 0, 5, 0, 0, 0, 52, 0, 1, 0, 48, 0, 1, 0, 44, 0, 1, 0, 6, 0, 0, 0, 0, 0, 0, 0,
+            239, 1, 1, 1, 0, 0, 0, 0, 0, 0, 0, 0, 0, 0, 0, 0, 8, 0, 0, 0, 5, 0, 3, 0, 1, 0, 0, 0,
+            4, 0, 2, 128,
+        ],
+        "dev if5 port if6 grp 239.1.1.1 temp filter_mode include\n",
+    ),
+    (
+        84,
+        &[
+            7, 0, 0, 0, 5, 0, 0, 0, 76, 0, 1, 0, 72, 0, 1, 0, 68, 0, 1, 0, 6, 0, 0, 0, 0, 0, 0, 0,
+            239, 1, 1, 1, 0, 0, 0, 0, 0, 0, 0, 0, 0, 0, 0, 0, 8, 0, 0, 0, 36, 0, 2, 128, 12, 0, 1,
+            128, 8, 0, 2, 0, 1, 0, 0, 0, 20, 0, 1, 128, 8, 0, 1, 0, 192, 0, 2, 1, 8, 0, 2, 0, 100,
+            0, 0, 0,
+        ],
+        "dev if5 port if6 grp 239.1.1.1 temp source_list 192.0.2.1/1.00\n",
+    ),
+    (
+        92,
+        &[
+            0, 0, 0, 0, 5, 0, 0, 0, 1, 0, 0, 0, 28, 0, 4, 0, 24, 0, 2, 128, 20, 0, 3, 128, 5, 0, 1,
+            0, 1, 0, 0, 0, 5, 0, 2, 0, 0, 0, 0, 0,
+        ],
+        "stats dev if5 l3_stats on used off\n",
+    ),
+    (
+        92,
+        &[
+            0, 0, 0, 0, 5, 0, 0, 0, 1, 0, 0, 0, 20, 0, 4, 0, 16, 0, 2, 128, 12, 0, 3, 128, 5, 0, 2,
+            0, 255, 0, 0, 0,
+        ],
+        "stats dev if5 used on\n",
     ),
 ];
 
