@@ -18,6 +18,7 @@ mod requests;
 mod route_lines;
 mod rule_lines;
 mod runs;
+mod segment_lines;
 mod shown;
 mod times;
 mod traffic_lines;

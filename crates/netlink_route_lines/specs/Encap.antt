@@ -7,10 +7,11 @@ use Rattle.netlink_family.specs.Shapes.{Row, rows_in}
 use Rattle.netlink_family.specs.declared.block_view.BlockView.{BlockView}
 use Rattle.netlink_family.specs.declared.shape.Shape.TheVariants.{Be16, Be64, U8}
 use Rattle.netlink_packet_core.specs.Numbers.{number_be}
-use Rattle.netlink_route.specs.declared.encapsulations.TheConstants.{IP, IP6, LWTUNNEL_IP_DST, LWTUNNEL_IP_FLAGS, LWTUNNEL_IP_ID, LWTUNNEL_IP_SRC, LWTUNNEL_IP_TOS, LWTUNNEL_IP_TTL, MPLS, MPLS_IPTUNNEL_DST, MPLS_IPTUNNEL_TTL}
+use Rattle.netlink_route.specs.declared.encapsulations.TheConstants.{IP, IP6, LWTUNNEL_IP_DST, LWTUNNEL_IP_FLAGS, LWTUNNEL_IP_ID, LWTUNNEL_IP_SRC, LWTUNNEL_IP_TOS, LWTUNNEL_IP_TTL, MPLS, MPLS_IPTUNNEL_DST, MPLS_IPTUNNEL_TTL, SEG6, SEG6_IPTUNNEL_SRH}
 use Rattle.netlink_words.specs.Parts.{keyed, number_part, or_empty, when, with_parts}
 use Rattle.netlink_words.specs.Text.{ip_words}
 use Rattle.netlink_route_lines.specs.Mpls.{labels_text}
+use Rattle.netlink_route_lines.specs.Seg6.{seg6_parts}
 
 -- LWTUNNEL_ENCAP_* of linux/lwtunnel.h
 unfoldable pub encap_name : ℕ → List ℕ
@@ -61,9 +62,9 @@ tunnel_rest limit service block =
     ∷ number_part service (byte_of block LWTUNNEL_IP_TOS)
     ∷ tunnel_flags (option_map number_be (found_in block LWTUNNEL_IP_FLAGS))
 
--- a type with values here: MPLS, IPv4 or IPv6
+-- a type with values here: MPLS, IPv4, IPv6 or segments
 abbrev pub has_values : ℕ → Bool
-has_values kind = kind == 1 || kind == 2 || kind == 4
+has_values kind = kind == 1 || kind == 2 || kind == 4 || kind == 5
 
 -- what belongs to a type; nothing for other types
 unfoldable pub encap_values : ℕ → List ℕ → List (List ℕ)
@@ -71,6 +72,7 @@ encap_values kind block =
     if kind == 1 then mpls_parts block
     else if kind == 2 then tunnel_ends block ++ tunnel_rest (codes "ttl") (codes "tos") block
     else if kind == 4 then tunnel_ends block ++ tunnel_rest (codes "hoplimit") (codes "tc") block
+    else if kind == 5 then seg6_parts (value_of block SEG6_IPTUNNEL_SRH)
     else []
 
 -- the same for a value that may be missing
@@ -86,7 +88,12 @@ encap_part (Some kind) (Some block) = with_parts (codes "encap " ++ encap_name k
 
 -- the policy of the values of a type, by the table of routes
 abbrev pub policy_of : ℕ → Option ℕ
-policy_of kind = if kind == 1 then Some MPLS else if kind == 2 then Some IP else if kind == 4 then Some IP6 else None
+policy_of kind =
+    if kind == 1 then Some MPLS
+    else if kind == 2 then Some IP
+    else if kind == 4 then Some IP6
+    else if kind == 5 then Some SEG6
+    else None
 
 -- a view of the values of a type, by the rows of that table
 abbrev pub IsEncap : List Row → ℕ → BlockView → Type 0

@@ -10,3 +10,4 @@ pub mod RouteHops
 pub mod RouteMetrics
 pub mod Rule
 pub mod RuleParts
+pub mod Seg6

@@ -11,12 +11,13 @@ ghost use Rattle.netlink_route_lines.specs.Encap.{IsEncap, IsMpls, IsTunnel, byt
 ghost use Rattle.netlink_route_lines.specs.RouteHops.{IsOfHop};
 
 use crate::mpls::labels_text;
+use crate::seg6::push_seg6;
 use netlink_family::{BlockView, Table};
 use netlink_route::Routes;
 use netlink_route::encapsulations::{
-    LWTUNNEL_ENCAP_IP, LWTUNNEL_ENCAP_IP6, LWTUNNEL_ENCAP_MPLS, LWTUNNEL_IP_DST, LWTUNNEL_IP_FLAGS,
-    LWTUNNEL_IP_ID, LWTUNNEL_IP_SRC, LWTUNNEL_IP_TOS, LWTUNNEL_IP_TTL, MPLS_IPTUNNEL_DST,
-    MPLS_IPTUNNEL_TTL,
+    LWTUNNEL_ENCAP_IP, LWTUNNEL_ENCAP_IP6, LWTUNNEL_ENCAP_MPLS, LWTUNNEL_ENCAP_SEG6,
+    LWTUNNEL_IP_DST, LWTUNNEL_IP_FLAGS, LWTUNNEL_IP_ID, LWTUNNEL_IP_SRC, LWTUNNEL_IP_TOS,
+    LWTUNNEL_IP_TTL, MPLS_IPTUNNEL_DST, MPLS_IPTUNNEL_TTL, SEG6_IPTUNNEL_SRH,
 };
 use netlink_route::routes::RTA_ENCAP;
 use netlink_words::parts::{or_empty, push_address, push_number, push_part, push_when};
@@ -82,7 +83,7 @@ pub fn encap_name(kind: u16) -> &'static str
     }
 }
 
-/// Appends what belongs to a type, if that is MPLS, IPv4 or IPv6.
+/// Appends what belongs to a type, if that is one with values here.
 #[tactic(auto, unfolding(crate::specs::Encap::found_values))]
 fn push_values(
     alloc: Global,
@@ -101,7 +102,7 @@ fn push_values(
     }
 }
 
-/// Returns the attributes in `RTA_ENCAP`, if the type is MPLS, IPv4 or IPv6.
+/// Returns the attributes in `RTA_ENCAP`, if the type is one with values here.
 fn nest_of<'a>(attributes: &BlockView<'a>, kind: u16) -> Option<BlockView<'a>>
     requires view { IsOfHop (⟦<Routes as Table>⟧.rows 24) attributes.now }
     requires kind { option_map number_le (found_in attributes.now.block.now RTA_ENCAP_TYPE) ≡ Some kind }
@@ -119,7 +120,10 @@ fn nest_of<'a>(attributes: &BlockView<'a>, kind: u16) -> Option<BlockView<'a>>
 fn has_values(kind: u16) -> bool
     ensures { result ≡ has_values kind }
 {
-    kind == LWTUNNEL_ENCAP_MPLS || kind == LWTUNNEL_ENCAP_IP || kind == LWTUNNEL_ENCAP_IP6
+    kind == LWTUNNEL_ENCAP_MPLS
+        || kind == LWTUNNEL_ENCAP_IP
+        || kind == LWTUNNEL_ENCAP_IP6
+        || kind == LWTUNNEL_ENCAP_SEG6
 }
 
 /// Appends what belongs to a type, given its attributes.
@@ -137,6 +141,7 @@ fn push_nest(
         LWTUNNEL_ENCAP_MPLS => push_mpls(alloc, text, nest),
         LWTUNNEL_ENCAP_IP => push_tunnel(alloc, text, "ttl", "tos", nest),
         LWTUNNEL_ENCAP_IP6 => push_tunnel(alloc, text, "hoplimit", "tc", nest),
+        LWTUNNEL_ENCAP_SEG6 => push_seg6(alloc, text, value_of(nest, SEG6_IPTUNNEL_SRH)),
         _ => Ok(()),
     }
 }

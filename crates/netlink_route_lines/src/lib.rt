@@ -21,6 +21,9 @@
 //! | `id 5`, `src 0.0.0.0` and `dst 10.1.0.9` of a tunnel | `encap::push_ends` | `Encap::tunnel_ends` |
 //! | `ttl 64` and `tos 0`, or `hoplimit 64` and `tc 0` | `encap::push_rest` | `Encap::tunnel_rest` |
 //! | `key`, `csum` and `seq` | `encap::push_flags` | `Encap::tunnel_flags` |
+//! | `mode encap` of SRv6 | `seg6::mode_name` | `Seg6::mode_name` |
+//! | `segs 2 [ fc00::2 fc00::1 ]` | `seg6::push_list` | `Seg6::list_parts` |
+//! | `hmac 11` | `seg6::hmac_text` | `Seg6::hmac_part` |
 //! | `tos 0x10` | `netlink_words::parts::push_tos` | `netlink_words::Parts::tos_part` |
 //! | `via 10.1.0.3` | `route_hops::push_next` | `Route::route_next` |
 //! | `via inet6 fe80::1` | `route_hops::push_via` | `RouteHops::via_part` |
@@ -128,4 +131,5 @@ pub mod route_metrics;
 pub mod rule;
 pub mod rule_ends;
 pub mod rule_matches;
+pub mod seg6;
 mod values;
