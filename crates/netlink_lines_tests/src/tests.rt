@@ -4,6 +4,7 @@ mod byte_lines;
 mod encap_lines;
 mod lines;
 mod link_lines;
+mod local_segment_lines;
 mod mpls_lines;
 mod multicast_lines;
 mod names;

@@ -3,6 +3,7 @@ pub mod IpProtocols
 pub mod Mpls
 pub mod Multicast
 pub mod Namespace
+pub mod Program
 pub mod Route
 pub mod RouteCache
 pub mod RouteFlags
@@ -11,3 +12,5 @@ pub mod RouteMetrics
 pub mod Rule
 pub mod RuleParts
 pub mod Seg6
+pub mod Seg6Local
+pub mod Values

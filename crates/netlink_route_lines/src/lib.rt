@@ -24,6 +24,12 @@
 //! | `mode encap` of SRv6 | `seg6::mode_name` | `Seg6::mode_name` |
 //! | `segs 2 [ fc00::2 fc00::1 ]` | `seg6::push_list` | `Seg6::list_parts` |
 //! | `hmac 11` | `seg6::hmac_text` | `Seg6::hmac_part` |
+//! | `action End.X` of a segment of this host | `seg6_local::action_name` | `Seg6Local::action_name` |
+//! | `table main`, `vrftable 100` | `seg6_local::push_tables` | `Seg6Local::table_parts` |
+//! | `nh4 10.1.0.9`, `nh6 fe80::1`, `iif if3`, `oif if4` | `seg6_local::push_ways` | `Seg6Local::way_parts` |
+//! | `endpoint NAME` | `seg6_local::push_endpoint` | `Seg6Local::endpoint_parts` |
+//! | `flavors psp,usp` | `seg6_local::flavor_names` | `Seg6Local::flavor_names` |
+//! | `lblen 32`, `nflen 16` | `seg6_local::push_flavors` | `Seg6Local::flavor_parts` |
 //! | `tos 0x10` | `netlink_words::parts::push_tos` | `netlink_words::Parts::tos_part` |
 //! | `via 10.1.0.3` | `route_hops::push_next` | `Route::route_next` |
 //! | `via inet6 fe80::1` | `route_hops::push_via` | `RouteHops::via_part` |
@@ -123,6 +129,7 @@ pub mod ip_protocols;
 pub mod mpls;
 pub mod multicast;
 pub mod namespace;
+pub mod program;
 pub mod route;
 pub mod route_cache;
 pub mod route_flags;
@@ -132,4 +139,5 @@ pub mod rule;
 pub mod rule_ends;
 pub mod rule_matches;
 pub mod seg6;
+pub mod seg6_local;
 mod values;

@@ -1,6 +1,6 @@
 //! Segments of routes by IPv6 (linux/seg6.h, linux/seg6_iptunnel.h, linux/seg6_hmac.h).
 
-ghost use Rattle.std.specs.Prelude.{◌≡◌, ◌≤◌, ◌+◌, ◌*◌, ◌∷◌, ◌++◌, [], IfOk, OnOk, codes, decimal, drop, length, string_bytes, take};
+ghost use Rattle.std.specs.Prelude.{◌≡◌, ◌≤◌, ◌+◌, ◌++◌, IfOk, OnOk, codes, decimal, drop, length, string_bytes, take};
 ghost use Rattle.netlink_packet_core.specs.Numbers.{number_be};
 ghost use Rattle.netlink_words.specs.Parts.{AddsPart, AddsParts};
 ghost use Rattle.netlink_route_lines.specs.Seg6.{has_no_key, hmac_part, list_parts, mode_name, seg6_parts, segment_at, segments_of, srh_parts};
