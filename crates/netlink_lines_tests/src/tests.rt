@@ -23,4 +23,5 @@ mod segment_lines;
 mod shown;
 mod times;
 mod traffic_lines;
+mod tunnel_lines;
 mod words;

@@ -1,4 +1,6 @@
 pub mod Encap
+pub mod Ila
+pub mod Ioam6
 pub mod IpProtocols
 pub mod Mpls
 pub mod Multicast
@@ -14,3 +16,4 @@ pub mod RuleParts
 pub mod Seg6
 pub mod Seg6Local
 pub mod Values
+pub mod Xfrm

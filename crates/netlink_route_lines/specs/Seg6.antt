@@ -1,4 +1,4 @@
--- Segments of routes by IPv6 (linux/seg6.h, linux/seg6_iptunnel.h, linux/seg6_hmac.h).
+-- Segments of routes by IPv6 (linux/seg6.h, linux/seg6_iptunnel.h, linux/seg6_hmac.h, linux/rpl.h).
 use Rattle.std.specs.Prelude.{ℕ, zero, suc, ◌==◌, ◌||◌, ◌+◌, ◌*◌, ◌-◌, Bool, List, [], ◌∷◌, ◌++◌, codes, decimal, drop, if◌then◌else◌, length, nat_lt, slice_index, take}
 use Rattle.std.specs.Fmt.{digits}
 use Rattle.std.specs.Int.Bits.{bit_and}
@@ -31,8 +31,9 @@ segments_of bytes (suc n) = ip_words (segment_at bytes n) ∷ segments_of bytes 
 unfoldable pub list_parts : List ℕ → ℕ → List (List ℕ)
 list_parts bytes n = (codes "segs " ++ (decimal n ++ codes " [")) ∷ (segments_of bytes n ++ (codes "]" ∷ []))
 
--- no key of an HMAC: the flag 0x8 is not set, or the header, which has eight bytes and this many words of
--- eight bytes, is too short for an HMAC of 40 bytes at its end, or the bytes end before the key
+-- no key of an HMAC: the flag 0x8 is not set, or the header, which has eight bytes and this many
+-- words of eight bytes, is too short for an HMAC of 40 bytes at its end, or the bytes end before
+-- the key
 abbrev pub has_no_key : ℕ → ℕ → ℕ → Bool
 has_no_key words flags size = bit_and flags 0x8 == 0 || nat_lt words 4 || nat_lt size (words * 8 - 24)
 
@@ -42,7 +43,8 @@ hmac_part words flags srh =
     if has_no_key words flags (length srh) then []
     else codes "hmac " ++ digits 16 true (number_be (take 4 (drop (words * 8 - 28) srh)))
 
--- a `struct ipv6_sr_hdr`: 8 bytes and segments; the number of the segments is one more than the index of the first
+-- a `struct ipv6_sr_hdr`: 8 bytes and segments; the number of the segments is one more than the
+-- index of the first
 unfoldable pub srh_parts : List ℕ → List (List ℕ)
 srh_parts srh =
     if nat_lt (length srh) 8 then []
@@ -54,3 +56,8 @@ unfoldable pub seg6_parts : List ℕ → List (List ℕ)
 seg6_parts value =
     if nat_lt (length value) 4 then []
     else keyed (codes "mode") (mode_name (number_at 0 4 value)) ∷ srh_parts (drop 4 value)
+
+-- a `struct ipv6_rpl_sr_hdr`: 8 bytes, of which the fourth is the number of the segments that are
+-- left, and segments
+unfoldable pub rpl_parts : List ℕ → List (List ℕ)
+rpl_parts srh = if nat_lt (length srh) 8 then [] else list_parts (drop 8 srh) (slice_index srh 3)

@@ -11,7 +11,7 @@ use Rattle.netlink_route.specs.declared.encapsulations.TheConstants.{SEG6_LOCAL,
 use Rattle.netlink_words.specs.NumberNames.{table_text}
 use Rattle.netlink_words.specs.Parts.{keyed, number_part}
 use Rattle.netlink_words.specs.Text.{ip_words, separated}
-use Rattle.netlink_route_lines.specs.Program.{program_parts}
+use Rattle.netlink_route_lines.specs.Program.{found_program}
 use Rattle.netlink_route_lines.specs.Seg6.{srh_parts}
 use Rattle.netlink_route_lines.specs.Values.{byte_of, number_of, value_of}
 
@@ -55,11 +55,6 @@ way_parts known block =
     ∷ device_part known (codes "iif") (number_of block SEG6_LOCAL_IIF)
     ∷ device_part known (codes "oif") (number_of block SEG6_LOCAL_OIF) ∷ []
 
--- the program
-unfoldable pub endpoint_parts : Option (List ℕ) → List (List ℕ)
-endpoint_parts None = []
-endpoint_parts (Some program) = program_parts (codes "endpoint") program
-
 -- names of flavors, followed by another one if the flavor is set
 abbrev pub with_flavor : List ℕ → Bool → List ℕ → List ℕ
 with_flavor names holds name = if holds then separated (codes ",") names name else names
@@ -94,7 +89,7 @@ rest_parts known block =
     srh_parts (value_of block SEG6_LOCAL_SRH)
     ++ (table_parts block
     ++ (way_parts known block
-    ++ (endpoint_parts (found_in block SEG6_LOCAL_BPF)
+    ++ (found_program (codes "endpoint") (found_in block SEG6_LOCAL_BPF)
     ++ found_flavors (found_in block SEG6_LOCAL_FLAVORS))))
 
 -- the action and what follows it; nothing without an action
@@ -105,7 +100,8 @@ action_parts known block (Some action) = keyed (codes "action") (action_name act
 abbrev pub local_parts : List Known → List ℕ → List (List ℕ)
 local_parts known block = action_parts known block (number_of block SEG6_LOCAL_ACTION)
 
--- a view of the values of this type, by the rows of the table of routes; of its tables, its links and its flavors
+-- a view of the values of this type, by the rows of the table of routes; of its tables, its links
+-- and its flavors
 abbrev pub IsLocal : List Row → BlockView → Type 0
 IsLocal rows view = (rows_in view.rows.list.now ≡ rows) × (view.policy ≡ SEG6_LOCAL)
 

@@ -5,7 +5,8 @@ use Rattle.netlink_family.specs.Finding.{found_in}
 use Rattle.netlink_packet_core.specs.Numbers.{number_le}
 use Rattle.netlink_words.specs.Parts.{or_empty}
 
--- the first attribute of a kind, as bytes, as a number of one byte, and as a number of native byte order
+-- the first attribute of a kind, as bytes, as a number of one byte, and as a number of native byte
+-- order
 abbrev pub value_of : List ℕ → ℕ → List ℕ
 value_of block kind = or_empty (found_in block kind)
 

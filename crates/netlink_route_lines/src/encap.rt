@@ -1,4 +1,5 @@
-//! The encapsulation of a route and of a next hop (linux/lwtunnel.h, linux/mpls_iptunnel.h).
+//! The encapsulation of a route and of a next hop (linux/lwtunnel.h, linux/mpls_iptunnel.h). Other
+//! modules have the words of most types.
 
 ghost use Rattle.std.specs.Prelude.{◌≡◌, ◌++◌, None, Some, IfNone, IfOk, IfSome, OnOk, codes, string_bytes};
 ghost use Rattle.std.specs.Option.{option_map};
@@ -10,17 +11,23 @@ ghost use Rattle.netlink_words.specs.Parts.{AddsPart, AddsParts, number_part};
 ghost use Rattle.netlink_route_lines.specs.Encap.{IsEncap, IsMpls, IsTunnel, encap_name, encap_part, encap_values, found_values, has_values, mpls_parts, nest_value, tunnel_ends, tunnel_flags, tunnel_rest};
 ghost use Rattle.netlink_route_lines.specs.RouteHops.{IsOfHop};
 
+use crate::ila::push_ila;
+use crate::ioam6::push_ioam6;
 use crate::mpls::labels_text;
-use crate::seg6::push_seg6;
+use crate::program::push_bpf;
+use crate::seg6::{push_rpl, push_seg6};
 use crate::seg6_local::push_local;
 use crate::values::{push_byte, value_of};
+use crate::xfrm::push_xfrm;
 use netlink_family::{BlockView, Table};
 use netlink_names::name_table::Names;
 use netlink_route::Routes;
 use netlink_route::encapsulations::{
-    LWTUNNEL_ENCAP_IP, LWTUNNEL_ENCAP_IP6, LWTUNNEL_ENCAP_MPLS, LWTUNNEL_ENCAP_SEG6,
-    LWTUNNEL_ENCAP_SEG6_LOCAL, LWTUNNEL_IP_DST, LWTUNNEL_IP_FLAGS, LWTUNNEL_IP_ID, LWTUNNEL_IP_SRC,
-    LWTUNNEL_IP_TOS, LWTUNNEL_IP_TTL, MPLS_IPTUNNEL_DST, MPLS_IPTUNNEL_TTL, SEG6_IPTUNNEL_SRH,
+    LWTUNNEL_ENCAP_BPF, LWTUNNEL_ENCAP_ILA, LWTUNNEL_ENCAP_IOAM6, LWTUNNEL_ENCAP_IP,
+    LWTUNNEL_ENCAP_IP6, LWTUNNEL_ENCAP_MPLS, LWTUNNEL_ENCAP_RPL, LWTUNNEL_ENCAP_SEG6,
+    LWTUNNEL_ENCAP_SEG6_LOCAL, LWTUNNEL_ENCAP_XFRM, LWTUNNEL_IP_DST, LWTUNNEL_IP_FLAGS,
+    LWTUNNEL_IP_ID, LWTUNNEL_IP_SRC, LWTUNNEL_IP_TOS, LWTUNNEL_IP_TTL, MPLS_IPTUNNEL_DST,
+    MPLS_IPTUNNEL_TTL, RPL_IPTUNNEL_SRH, SEG6_IPTUNNEL_SRH,
 };
 use netlink_route::routes::RTA_ENCAP;
 use netlink_words::parts::{push_address, push_part, push_when};
@@ -87,7 +94,7 @@ pub fn encap_name(kind: u16) -> &'static str
     }
 }
 
-/// Appends what belongs to a type, if that is one with values here.
+/// Appends what belongs to a type, if the type has a name.
 #[tactic(auto, unfolding(crate::specs::Encap::found_values))]
 fn push_values(
     alloc: Global,
@@ -107,7 +114,7 @@ fn push_values(
     }
 }
 
-/// Returns the attributes in `RTA_ENCAP`, if the type is one with values here.
+/// Returns the attributes in `RTA_ENCAP`, if the type has a name.
 fn nest_of<'a>(attributes: &BlockView<'a>, kind: u16) -> Option<BlockView<'a>>
     requires view { IsOfHop (⟦<Routes as Table>⟧.rows 24) attributes.now }
     requires kind { option_map number_le (found_in attributes.now.block.now RTA_ENCAP_TYPE) ≡ Some kind }
@@ -121,15 +128,20 @@ fn nest_of<'a>(attributes: &BlockView<'a>, kind: u16) -> Option<BlockView<'a>>
     attributes.nest(RTA_ENCAP)
 }
 
-/// Returns whether words follow the name of a type.
+/// Returns whether a type has a name, and so values that are known here.
 fn has_values(kind: u16) -> bool
     ensures { result ≡ has_values kind }
 {
     kind == LWTUNNEL_ENCAP_MPLS
         || kind == LWTUNNEL_ENCAP_IP
+        || kind == LWTUNNEL_ENCAP_ILA
         || kind == LWTUNNEL_ENCAP_IP6
         || kind == LWTUNNEL_ENCAP_SEG6
+        || kind == LWTUNNEL_ENCAP_BPF
         || kind == LWTUNNEL_ENCAP_SEG6_LOCAL
+        || kind == LWTUNNEL_ENCAP_RPL
+        || kind == LWTUNNEL_ENCAP_IOAM6
+        || kind == LWTUNNEL_ENCAP_XFRM
 }
 
 /// Appends what belongs to a type, given its attributes.
@@ -147,9 +159,14 @@ fn push_nest(
     match kind {
         LWTUNNEL_ENCAP_MPLS => push_mpls(alloc, text, nest),
         LWTUNNEL_ENCAP_IP => push_tunnel(alloc, text, "ttl", "tos", nest),
+        LWTUNNEL_ENCAP_ILA => push_ila(alloc, text, nest),
         LWTUNNEL_ENCAP_IP6 => push_tunnel(alloc, text, "hoplimit", "tc", nest),
         LWTUNNEL_ENCAP_SEG6 => push_seg6(alloc, text, value_of(nest, SEG6_IPTUNNEL_SRH)),
+        LWTUNNEL_ENCAP_BPF => push_bpf(alloc, text, nest),
         LWTUNNEL_ENCAP_SEG6_LOCAL => push_local(alloc, text, known, nest),
+        LWTUNNEL_ENCAP_RPL => push_rpl(alloc, text, value_of(nest, RPL_IPTUNNEL_SRH)),
+        LWTUNNEL_ENCAP_IOAM6 => push_ioam6(alloc, text, nest),
+        LWTUNNEL_ENCAP_XFRM => push_xfrm(text, known, nest),
         _ => Ok(()),
     }
 }

@@ -27,9 +27,19 @@
 //! | `action End.X` of a segment of this host | `seg6_local::action_name` | `Seg6Local::action_name` |
 //! | `table main`, `vrftable 100` | `seg6_local::push_tables` | `Seg6Local::table_parts` |
 //! | `nh4 10.1.0.9`, `nh6 fe80::1`, `iif if3`, `oif if4` | `seg6_local::push_ways` | `Seg6Local::way_parts` |
-//! | `endpoint NAME` | `seg6_local::push_endpoint` | `Seg6Local::endpoint_parts` |
+//! | `endpoint NAME` | `seg6_local::push_endpoint` | `Program::found_program` |
 //! | `flavors psp,usp` | `seg6_local::flavor_names` | `Seg6Local::flavor_names` |
 //! | `lblen 32`, `nflen 16` | `seg6_local::push_flavors` | `Seg6Local::flavor_parts` |
+//! | `segs 2 [ fc00::2 fc00::1 ]` of RPL | `seg6::push_rpl` | `Seg6::rpl_parts` |
+//! | `if_id 16`, `link_dev if3` of XFRM | `xfrm::push_xfrm` | `Xfrm::xfrm_parts` |
+//! | `2001:db8:0:1` of ILA | `ila::locator_text` | `Ila::locator_text` |
+//! | `csum-mode no-action` | `ila::checksum_name` | `Ila::checksum_name` |
+//! | `ident-type luid` | `ila::identifier_name` | `Ila::identifier_name` |
+//! | `hook-type output` | `ila::hook_name` | `Ila::hook_name` |
+//! | `in NAME`, `out NAME`, `xmit NAME` and `14` of BPF | `program::push_bpf` | `Program::bpf_parts` |
+//! | `freq 1/5` of IOAM | `ioam6::frequency_text` | `Ioam6::frequency_text` |
+//! | `mode inline`, `tundst fc00::9` | `ioam6::push_insertion` | `Ioam6::insertion_parts` |
+//! | `trace prealloc type 0x800000`, `ns 7`, `size 12` | `ioam6::push_trace` | `Ioam6::trace_parts` |
 //! | `tos 0x10` | `netlink_words::parts::push_tos` | `netlink_words::Parts::tos_part` |
 //! | `via 10.1.0.3` | `route_hops::push_next` | `Route::route_next` |
 //! | `via inet6 fe80::1` | `route_hops::push_via` | `RouteHops::via_part` |
@@ -125,6 +135,8 @@
 #![tactic(auto)]
 
 pub mod encap;
+pub mod ila;
+pub mod ioam6;
 pub mod ip_protocols;
 pub mod mpls;
 pub mod multicast;
@@ -141,3 +153,4 @@ pub mod rule_matches;
 pub mod seg6;
 pub mod seg6_local;
 mod values;
+pub mod xfrm;

@@ -1,9 +1,10 @@
-//! Segments of routes by IPv6 (linux/seg6.h, linux/seg6_iptunnel.h, linux/seg6_hmac.h).
+//! Segments of routes by IPv6 (linux/seg6.h, linux/seg6_iptunnel.h, linux/seg6_hmac.h,
+//! linux/rpl.h).
 
 ghost use Rattle.std.specs.Prelude.{◌≡◌, ◌≤◌, ◌+◌, ◌++◌, IfOk, OnOk, codes, decimal, drop, length, string_bytes, take};
 ghost use Rattle.netlink_packet_core.specs.Numbers.{number_be};
 ghost use Rattle.netlink_words.specs.Parts.{AddsPart, AddsParts};
-ghost use Rattle.netlink_route_lines.specs.Seg6.{has_no_key, hmac_part, list_parts, mode_name, seg6_parts, segment_at, segments_of, srh_parts};
+ghost use Rattle.netlink_route_lines.specs.Seg6.{has_no_key, hmac_part, list_parts, mode_name, rpl_parts, seg6_parts, segment_at, segments_of, srh_parts};
 
 use netlink_packet_core::{parse_u32_be, u32_at};
 use netlink_words::parts::{push_ip, push_keyed, push_part};
@@ -40,8 +41,8 @@ pub fn mode_name(mode: u32) -> &'static str
     }
 }
 
-/// Appends the segments and the key of the HMAC of a `struct ipv6_sr_hdr`; nothing if that ends before
-/// the segments.
+/// Appends the segments and the key of the HMAC of a `struct ipv6_sr_hdr`; nothing if that ends
+/// before the segments.
 #[tactic(auto, unfolding(crate::specs::Seg6::srh_parts), using(netlink_words::specs::Joined::with_parts_append))]
 pub fn push_srh(alloc: Global, text: &mut String, srh: &[u8]) -> Result<(), AllocError>
     ensures { OnOk result (AddsParts text.old text.new (srh_parts srh.now)) }
@@ -53,14 +54,21 @@ pub fn push_srh(alloc: Global, text: &mut String, srh: &[u8]) -> Result<(), Allo
     push_part(text, hmac_text(alloc, srh[1], srh[5], srh)?.as_str())
 }
 
+/// Appends the segments that are left, given the value of `RPL_IPTUNNEL_SRH`; nothing if that ends
+/// before the segments.
+#[tactic(auto, unfolding(crate::specs::Seg6::rpl_parts))]
+pub fn push_rpl(alloc: Global, text: &mut String, srh: &[u8]) -> Result<(), AllocError>
+    ensures { OnOk result (AddsParts text.old text.new (rpl_parts srh.now)) }
+{
+    if srh.len() < 8 {
+        return Ok(());
+    }
+    push_list(alloc, text, srh.split_at(8).1, srh[3] as usize)
+}
+
 /// Appends the number of segments, and the segments in brackets.
 #[tactic(auto, unfolding(crate::specs::Seg6::list_parts), using(netlink_words::specs::Joined::with_parts_append))]
-pub(crate) fn push_list(
-    alloc: Global,
-    text: &mut String,
-    bytes: &[u8],
-    count: usize,
-) -> Result<(), AllocError>
+fn push_list(alloc: Global, text: &mut String, bytes: &[u8], count: usize) -> Result<(), AllocError>
     requires { count ≤ 256 }
     ensures { OnOk result (AddsParts text.old text.new (list_parts bytes.now count)) }
 {
@@ -106,8 +114,8 @@ fn segment_at(bytes: &[u8], index: usize) -> &[u8]
     bytes.split_at(index * 16).1.split_at(16).0
 }
 
-/// Returns the key of the HMAC at the end of a header, given its size in words of eight bytes after the
-/// first eight, and its flags. Empty if the flags have none, or if it does not fit.
+/// Returns the key of the HMAC at the end of a header, given its size in words of eight bytes after
+/// the first eight, and its flags. Empty if the flags have none, or if it does not fit.
 #[tactic(auto, unfolding(crate::specs::Seg6::hmac_part))]
 fn hmac_text(alloc: Global, words: u8, flags: u8, srh: &[u8]) -> Result<String, AllocError>
     ensures { IfOk result (λ text. string_bytes text ≡ hmac_part words flags srh.now) }

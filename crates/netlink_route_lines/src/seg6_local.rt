@@ -1,10 +1,11 @@
 //! Routes to segments of this host (linux/seg6_local.h).
 
-ghost use Rattle.std.specs.Prelude.{◌≡◌, IfOk, OnOk, string_bytes};
+ghost use Rattle.std.specs.Prelude.{◌≡◌, IfOk, OnOk, codes, string_bytes};
 ghost use Rattle.netlink_family.specs.Finding.{found_in};
 ghost use Rattle.netlink_route.specs.declared.encapsulations.TheConstants.{SEG6_LOCAL_BPF, SEG6_LOCAL_FLAVORS};
 ghost use Rattle.netlink_words.specs.Parts.{AddsPart, AddsParts};
-ghost use Rattle.netlink_route_lines.specs.Seg6Local.{HasFlavors, HasLinks, HasTables, IsLocal, action_name, endpoint_parts, flavor_names, flavor_parts, found_flavors, local_parts, named_table, operation_parts, rest_parts, table_parts, way_parts, with_flavor};
+ghost use Rattle.netlink_route_lines.specs.Program.{found_program};
+ghost use Rattle.netlink_route_lines.specs.Seg6Local.{HasFlavors, HasLinks, HasTables, IsLocal, action_name, flavor_names, flavor_parts, found_flavors, local_parts, named_table, operation_parts, rest_parts, table_parts, way_parts, with_flavor};
 
 use crate::program::push_program;
 use crate::seg6::push_srh;
@@ -32,8 +33,8 @@ const USD: u32 = 0x8;
 
 const NEXT_CSID: u32 = 0x10;
 
-/// Appends the action of a route to a segment of this host, and what belongs to it; nothing if there is
-/// no action. The counters are left out.
+/// Appends the action of a route to a segment of this host, and what belongs to it; nothing if
+/// there is no action. The counters are left out.
 #[tactic(auto, unfolding(crate::specs::Seg6Local::action_parts))]
 pub(crate) fn push_local(
     alloc: Global,
@@ -140,10 +141,10 @@ fn push_ways(
 }
 
 /// Appends the program, if there is one.
-#[tactic(auto, unfolding(crate::specs::Seg6Local::endpoint_parts))]
+#[tactic(auto, unfolding(crate::specs::Program::found_program))]
 fn push_endpoint(alloc: Global, text: &mut String, nest: &BlockView<'_>) -> Result<(), AllocError>
     requires { IsLocal (⟦<Routes as Table>⟧.rows 24) nest.now }
-    ensures { OnOk result (AddsParts text.old text.new (endpoint_parts (found_in nest.now.block.now SEG6_LOCAL_BPF))) }
+    ensures { OnOk result (AddsParts text.old text.new (found_program (codes "endpoint") (found_in nest.now.block.now SEG6_LOCAL_BPF))) }
 {
     match nest.nest(SEG6_LOCAL_BPF) {
         None => Ok(()),

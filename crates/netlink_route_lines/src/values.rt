@@ -1,6 +1,6 @@
 //! The values of a route's attributes and of those of its encapsulation. Each function for a route
-//! requires that the table gives the kind one shape, so only that goal of a caller's proof reads the
-//! table, which has 127 rows.
+//! requires that the table gives the kind one shape, so only that goal of a caller's proof reads
+//! the table, which has 127 rows.
 
 ghost use Rattle.std.specs.Prelude.{◌≡◌, OnOk, slice_index};
 ghost use Rattle.std.specs.Option.{option_map};

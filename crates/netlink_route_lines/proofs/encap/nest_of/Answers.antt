@@ -13,14 +13,14 @@ pub returns-clause-view : goal.returns-clause-view
 returns-clause-view c =
     let has : has_values c.args.kind ≡ true = sym c.has_values.ensures ∙ c.if-not-has_values.false in
     let nest : IsNestOf c.args.kind (shape_at c.args.attributes.now RTA_ENCAP) =
-    encap_nest c.args.attributes.now _ c.args.kind (refl, refl, refl, refl, refl, refl, refl) c.requires.view.0 c.requires.view.1 c.requires.kind has in
+    encap_nest c.args.attributes.now _ c.args.kind (refl, refl, refl, refl, refl, refl, refl, refl, refl, refl, refl, refl) c.requires.view.0 c.requires.view.1 c.requires.kind has in
     nest_viewed c.args.attributes.now _ c.args.kind c.nest.result nest c.requires.view.0 c.nest.ensures.policy c.nest.ensures.rows
 
 pub returns-clause-some : goal.returns-clause-some
 returns-clause-some c =
     let has : has_values c.args.kind ≡ true = sym c.has_values.ensures ∙ c.if-not-has_values.false in
     let nest : IsNestOf c.args.kind (shape_at c.args.attributes.now RTA_ENCAP) =
-    encap_nest c.args.attributes.now _ c.args.kind (refl, refl, refl, refl, refl, refl, refl) c.requires.view.0 c.requires.view.1 c.requires.kind has in
+    encap_nest c.args.attributes.now _ c.args.kind (refl, refl, refl, refl, refl, refl, refl, refl, refl, refl, refl, refl) c.requires.view.0 c.requires.view.1 c.requires.kind has in
     nest_given c.args.kind (shape_at c.args.attributes.now RTA_ENCAP) (found_in c.args.attributes.now.block.now RTA_ENCAP) c.nest.result
     has nest c.nest.ensures.some
 
@@ -28,6 +28,6 @@ pub returns-clause-none : goal.returns-clause-none
 returns-clause-none c =
     let has : has_values c.args.kind ≡ true = sym c.has_values.ensures ∙ c.if-not-has_values.false in
     let nest : IsNestOf c.args.kind (shape_at c.args.attributes.now RTA_ENCAP) =
-    encap_nest c.args.attributes.now _ c.args.kind (refl, refl, refl, refl, refl, refl, refl) c.requires.view.0 c.requires.view.1 c.requires.kind has in
+    encap_nest c.args.attributes.now _ c.args.kind (refl, refl, refl, refl, refl, refl, refl, refl, refl, refl, refl, refl) c.requires.view.0 c.requires.view.1 c.requires.kind has in
     nest_missing c.args.kind (shape_at c.args.attributes.now RTA_ENCAP) (found_in c.args.attributes.now.block.now RTA_ENCAP) c.nest.result
     has nest c.nest.ensures.none
