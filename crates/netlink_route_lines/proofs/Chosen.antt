@@ -104,6 +104,7 @@ nest_by_tests table kind false false false false false false false false false f
 pub encap_nest : (view : BlockView) (table : List Row) (kind : ℕ) → ChoosesEncap table
     → rows_in view.rows.list.now ≡ table → view.policy ≡ 0 → option_map number_le (found_in view.block.now RTA_ENCAP_TYPE) ≡ Some kind
     → has_values kind ≡ true → IsNestOf kind (shape_at view RTA_ENCAP)
+unfolding has_values
 encap_nest view table kind chooses rows top number is =
     let all : List Row = rows_in view.rows.list.now in
     let same : (k : ℕ) → shape_in all view.policy k ≡ shape_in table 0 k =
@@ -129,15 +130,18 @@ nest_viewed view table kind (Some v) is rows policy same =
 pub nest_given : (kind : ℕ) (shape : Shape) (found : Option (List ℕ)) (nest : Option BlockView) → has_values kind ≡ true
     → IsNestOf kind shape → IfSome nest (λ v. nest_by shape found ≡ Some v.block.now)
     → IfSome nest (λ v. nest_value kind found ≡ Some v.block.now)
+unfolding nest_value
 nest_given kind shape found None has is some = some
 nest_given kind shape found (Some v) has is some =
     ap (λ (b : Bool). if b then found else None) has ∙ ap (λ (s : Shape). nest_by s found) (sym is.1) ∙ some
 
 pub nest_missing : (kind : ℕ) (shape : Shape) (found : Option (List ℕ)) (nest : Option BlockView) → has_values kind ≡ true
     → IsNestOf kind shape → IfNone nest (nest_by shape found ≡ None) → IfNone nest (nest_value kind found ≡ None)
+unfolding nest_value
 nest_missing kind shape found nest has is none =
     none_then nest none (λ e. ap (λ (b : Bool). if b then found else None) has ∙ ap (λ (s : Shape). nest_by s found) (sym is.1) ∙ e)
 
 -- no value is there for another type
 pub no_nest : (kind : ℕ) (found : Option (List ℕ)) → has_values kind ≡ false → nest_value kind found ≡ None
+unfolding nest_value
 no_nest kind found other = ap (λ (b : Bool). if b then found else None) other

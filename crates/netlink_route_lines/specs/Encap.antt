@@ -63,7 +63,7 @@ tunnel_rest limit service block =
     ∷ tunnel_flags (option_map number_be (found_in block LWTUNNEL_IP_FLAGS))
 
 -- a type with a name, and so with values that are known here
-abbrev pub has_values : ℕ → Bool
+unfoldable pub has_values : ℕ → Bool
 has_values kind =
     kind == 1 || kind == 2 || kind == 3 || kind == 4 || kind == 5
     || kind == 6 || kind == 7 || kind == 8 || kind == 9 || kind == 10
@@ -89,7 +89,7 @@ found_values known kind None = []
 found_values known kind (Some block) = encap_values known kind block
 
 -- a value, if its type has a name
-abbrev pub nest_value : ℕ → Option (List ℕ) → Option (List ℕ)
+unfoldable pub nest_value : ℕ → Option (List ℕ) → Option (List ℕ)
 nest_value kind found = if has_values kind then found else None
 
 -- the name of the type and what belongs to it, if there are both a type and a value

@@ -129,6 +129,7 @@ fn nest_of<'a>(attributes: &BlockView<'a>, kind: u16) -> Option<BlockView<'a>>
 }
 
 /// Returns whether a type has a name, and so values that are known here.
+#[tactic(auto, unfolding(crate::specs::Encap::has_values))]
 fn has_values(kind: u16) -> bool
     ensures { result ≡ has_values kind }
 {

@@ -4,7 +4,7 @@
 ghost use Rattle.std.specs.Prelude.{◌≡◌, ◌≤◌, ◌+◌, ◌++◌, IfOk, OnOk, codes, decimal, drop, length, string_bytes, take};
 ghost use Rattle.netlink_packet_core.specs.Numbers.{number_be};
 ghost use Rattle.netlink_words.specs.Parts.{AddsPart, AddsParts};
-ghost use Rattle.netlink_route_lines.specs.Seg6.{has_no_key, hmac_part, list_parts, mode_name, rpl_parts, seg6_parts, segment_at, segments_of, srh_parts};
+ghost use Rattle.netlink_route_lines.specs.Seg6.{hmac_part, list_parts, mode_name, rpl_parts, seg6_parts, segment_at, segments_of, srh_parts};
 
 use netlink_packet_core::{parse_u32_be, u32_at};
 use netlink_words::parts::{push_ip, push_keyed, push_part};
@@ -120,18 +120,11 @@ fn segment_at(bytes: &[u8], index: usize) -> &[u8]
 fn hmac_text(alloc: Global, words: u8, flags: u8, srh: &[u8]) -> Result<String, AllocError>
     ensures { IfOk result (λ text. string_bytes text ≡ hmac_part words flags srh.now) }
 {
-    if has_no_key(words, flags, srh.len()) {
+    if flags & SR6_FLAG1_HMAC == 0 || words < 4 || srh.len() < words as usize * 8 - 24 {
         return Ok(String::new(alloc));
     }
     let key = key_at(srh, words as usize * 8 - 28);
     format!(in alloc; "hmac {key:X}")
-}
-
-/// Returns whether a header of this size has no key.
-fn has_no_key(words: u8, flags: u8, size: usize) -> bool
-    ensures { result ≡ has_no_key words flags size }
-{
-    flags & SR6_FLAG1_HMAC == 0 || words < 4 || size < words as usize * 8 - 24
 }
 
 /// Returns the big-endian number in the four bytes at an offset.
