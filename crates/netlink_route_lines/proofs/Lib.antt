@@ -2,3 +2,4 @@ pub mod Chosen
 pub mod Hops
 pub mod Labels
 pub mod Pieces
+pub mod Segments

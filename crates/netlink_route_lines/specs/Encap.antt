@@ -1,5 +1,5 @@
 -- The encapsulation of a route and of a next hop (linux/lwtunnel.h, linux/mpls_iptunnel.h).
-use Rattle.std.specs.Prelude.{ℕ, ◌==◌, ◌≡◌, ◌||◌, Bool, not, List, [], ◌∷◌, ◌++◌, slice_index, Option, Some, None, codes, if◌then◌else◌}
+use Rattle.std.specs.Prelude.{ℕ, ◌==◌, ◌≡◌, ◌||◌, Bool, not, List, [], ◌∷◌, ◌++◌, Option, Some, None, codes, if◌then◌else◌}
 use Rattle.std.specs.Int.Bits.{bit_and}
 use Rattle.std.specs.Option.{option_map}
 use Rattle.netlink_family.specs.Finding.{found_in, shape_at}
@@ -7,10 +7,18 @@ use Rattle.netlink_family.specs.Shapes.{Row, rows_in}
 use Rattle.netlink_family.specs.declared.block_view.BlockView.{BlockView}
 use Rattle.netlink_family.specs.declared.shape.Shape.TheVariants.{Be16, Be64, U8}
 use Rattle.netlink_packet_core.specs.Numbers.{number_be}
-use Rattle.netlink_route.specs.declared.encapsulations.TheConstants.{IP, IP6, LWTUNNEL_IP_DST, LWTUNNEL_IP_FLAGS, LWTUNNEL_IP_ID, LWTUNNEL_IP_SRC, LWTUNNEL_IP_TOS, LWTUNNEL_IP_TTL, MPLS, MPLS_IPTUNNEL_DST, MPLS_IPTUNNEL_TTL}
-use Rattle.netlink_words.specs.Parts.{keyed, number_part, or_empty, when, with_parts}
+use Rattle.netlink_route.specs.declared.encapsulations.TheConstants.{BPF, ILA, IOAM6, IP, IP6, LWTUNNEL_IP_DST, LWTUNNEL_IP_FLAGS, LWTUNNEL_IP_ID, LWTUNNEL_IP_SRC, LWTUNNEL_IP_TOS, LWTUNNEL_IP_TTL, MPLS, MPLS_IPTUNNEL_DST, MPLS_IPTUNNEL_TTL, RPL, RPL_IPTUNNEL_SRH, SEG6, SEG6_IPTUNNEL_SRH, SEG6_LOCAL, XFRM}
+use Rattle.netlink_words.specs.Parts.{keyed, number_part, when, with_parts}
 use Rattle.netlink_words.specs.Text.{ip_words}
+use Rattle.netlink_route_lines.specs.Ila.{ila_parts}
+use Rattle.netlink_route_lines.specs.Ioam6.{ioam6_parts}
 use Rattle.netlink_route_lines.specs.Mpls.{labels_text}
+use Rattle.netlink_route_lines.specs.Program.{bpf_parts}
+use Rattle.netlink_route_lines.specs.Seg6.{rpl_parts, seg6_parts}
+use Rattle.netlink_route_lines.specs.Seg6Local.{local_parts}
+use Rattle.netlink_route_lines.specs.Values.{byte_of, value_of}
+use Rattle.netlink_route_lines.specs.Xfrm.{xfrm_parts}
+use Rattle.netlink_names.specs.declared.device.Known.{Known}
 
 -- LWTUNNEL_ENCAP_* of linux/lwtunnel.h
 unfoldable pub encap_name : ℕ → List ℕ
@@ -26,13 +34,6 @@ encap_name n =
     else if n == 9 then codes "ioam6"
     else if n == 10 then codes "xfrm"
     else codes "unknown"
-
--- the first attribute of a kind, as bytes and as a number of one byte
-abbrev pub value_of : List ℕ → ℕ → List ℕ
-value_of block kind = or_empty (found_in block kind)
-
-abbrev pub byte_of : List ℕ → ℕ → Option ℕ
-byte_of block kind = option_map (λ value. slice_index value 0) (found_in block kind)
 
 -- the labels of MPLS and the time to live
 unfoldable pub mpls_parts : List ℕ → List (List ℕ)
@@ -61,32 +62,57 @@ tunnel_rest limit service block =
     ∷ number_part service (byte_of block LWTUNNEL_IP_TOS)
     ∷ tunnel_flags (option_map number_be (found_in block LWTUNNEL_IP_FLAGS))
 
--- a type with values here: MPLS, IPv4 or IPv6
-abbrev pub has_values : ℕ → Bool
-has_values kind = kind == 1 || kind == 2 || kind == 4
+-- a type with a name, and so with values that are known here
+unfoldable pub has_values : ℕ → Bool
+has_values kind =
+    kind == 1 || kind == 2 || kind == 3 || kind == 4 || kind == 5
+    || kind == 6 || kind == 7 || kind == 8 || kind == 9 || kind == 10
 
 -- what belongs to a type; nothing for other types
-unfoldable pub encap_values : ℕ → List ℕ → List (List ℕ)
-encap_values kind block =
+unfoldable pub encap_values : List Known → ℕ → List ℕ → List (List ℕ)
+encap_values known kind block =
     if kind == 1 then mpls_parts block
     else if kind == 2 then tunnel_ends block ++ tunnel_rest (codes "ttl") (codes "tos") block
+    else if kind == 3 then ila_parts block
     else if kind == 4 then tunnel_ends block ++ tunnel_rest (codes "hoplimit") (codes "tc") block
+    else if kind == 5 then seg6_parts (value_of block SEG6_IPTUNNEL_SRH)
+    else if kind == 6 then bpf_parts block
+    else if kind == 7 then local_parts known block
+    else if kind == 8 then rpl_parts (value_of block RPL_IPTUNNEL_SRH)
+    else if kind == 9 then ioam6_parts block
+    else if kind == 10 then xfrm_parts known block
     else []
 
 -- the same for a value that may be missing
-unfoldable pub found_values : ℕ → Option (List ℕ) → List (List ℕ)
-found_values kind None = []
-found_values kind (Some block) = encap_values kind block
+unfoldable pub found_values : List Known → ℕ → Option (List ℕ) → List (List ℕ)
+found_values known kind None = []
+found_values known kind (Some block) = encap_values known kind block
+
+-- a value, if its type has a name
+unfoldable pub nest_value : ℕ → Option (List ℕ) → Option (List ℕ)
+nest_value kind found = if has_values kind then found else None
 
 -- the name of the type and what belongs to it, if there are both a type and a value
-unfoldable pub encap_part : Option ℕ → Option (List ℕ) → List ℕ
-encap_part None value = []
-encap_part (Some kind) None = []
-encap_part (Some kind) (Some block) = with_parts (codes "encap " ++ encap_name kind) (encap_values kind block)
+unfoldable pub encap_part : List Known → Option ℕ → Option (List ℕ) → List ℕ
+encap_part known None value = []
+encap_part known (Some kind) None = []
+encap_part known (Some kind) (Some block) =
+    with_parts (codes "encap " ++ encap_name kind) (found_values known kind (nest_value kind (Some block)))
 
 -- the policy of the values of a type, by the table of routes
 abbrev pub policy_of : ℕ → Option ℕ
-policy_of kind = if kind == 1 then Some MPLS else if kind == 2 then Some IP else if kind == 4 then Some IP6 else None
+policy_of kind =
+    if kind == 1 then Some MPLS
+    else if kind == 2 then Some IP
+    else if kind == 3 then Some ILA
+    else if kind == 4 then Some IP6
+    else if kind == 5 then Some SEG6
+    else if kind == 6 then Some BPF
+    else if kind == 7 then Some SEG6_LOCAL
+    else if kind == 8 then Some RPL
+    else if kind == 9 then Some IOAM6
+    else if kind == 10 then Some XFRM
+    else None
 
 -- a view of the values of a type, by the rows of that table
 abbrev pub IsEncap : List Row → ℕ → BlockView → Type 0

@@ -1,8 +1,11 @@
 pub mod Encap
+pub mod Ila
+pub mod Ioam6
 pub mod IpProtocols
 pub mod Mpls
 pub mod Multicast
 pub mod Namespace
+pub mod Program
 pub mod Route
 pub mod RouteCache
 pub mod RouteFlags
@@ -10,3 +13,7 @@ pub mod RouteHops
 pub mod RouteMetrics
 pub mod Rule
 pub mod RuleParts
+pub mod Seg6
+pub mod Seg6Local
+pub mod Values
+pub mod Xfrm

@@ -53,8 +53,8 @@ source_text payload =
     prefix_text (route_bytes payload RTA_SRC) (route_byte payload 2) (host_length (route_byte payload 0))
 
 -- the verb, type, destination, source, id of the next hop, new labels, encapsulation, type of service
-unfoldable pub route_front : ℕ → List ℕ → List (List ℕ)
-route_front t payload =
+unfoldable pub route_front : List Known → ℕ → List ℕ → List (List ℕ)
+route_front known t payload =
     when (t == 25) (codes "Deleted")
     ∷ when (t == 26) (codes "Get")
     ∷ type_part (route_byte payload 7)
@@ -62,7 +62,7 @@ route_front t payload =
     ∷ keyed (codes "from") (source_text payload)
     ∷ number_part (codes "nhid") (route_number payload RTA_NH_ID)
     ∷ new_labels (route_byte payload 0) (route_bytes payload RTA_NEWDST)
-    ∷ encap_part (route_number payload RTA_ENCAP_TYPE) (first_at 12 payload RTA_ENCAP)
+    ∷ encap_part known (route_number payload RTA_ENCAP_TYPE) (first_at 12 payload RTA_ENCAP)
     ∷ tos_part (route_byte payload 3) ∷ []
 
 -- the gateway and the link
@@ -135,7 +135,7 @@ with_rest known text payload =
 -- what precedes the next hops
 unfoldable pub route_words : List Known → ℕ → List ℕ → List ℕ
 route_words known t payload =
-    with_rest known (with_parts (with_parts (with_parts [] (route_front t payload)) (route_next known payload))
+    with_rest known (with_parts (with_parts (with_parts [] (route_front known t payload)) (route_next known payload))
     (origin_parts payload)) payload
 
 -- a message about a route of IPv4, IPv6 or MPLS, or a request for routes of any family

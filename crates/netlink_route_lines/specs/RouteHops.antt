@@ -46,7 +46,7 @@ weight_part family word = if family == 28 then [] else codes "weight " ++ decima
 unfoldable pub hop_parts : List Known → ℕ → ℕ → List ℕ → List ℕ → List (List ℕ)
 hop_parts known family word index block =
     codes "nexthop"
-    ∷ encap_part (option_map number_le (found_in block RTA_ENCAP_TYPE)) (found_in block RTA_ENCAP)
+    ∷ encap_part known (option_map number_le (found_in block RTA_ENCAP_TYPE)) (found_in block RTA_ENCAP)
     ∷ new_labels family (or_empty (found_in block RTA_NEWDST))
     ∷ keyed (codes "via") (ip_words (or_empty (found_in block RTA_GATEWAY)))
     ∷ via_part (or_empty (found_in block RTA_VIA))

@@ -1,25 +1,36 @@
-//! The encapsulation of a route and of a next hop (linux/lwtunnel.h, linux/mpls_iptunnel.h).
+//! The encapsulation of a route and of a next hop (linux/lwtunnel.h, linux/mpls_iptunnel.h). Other
+//! modules have the words of most types.
 
-ghost use Rattle.std.specs.Prelude.{◌≡◌, ◌++◌, Some, IfNone, IfOk, IfSome, OnOk, [], codes, string_bytes};
+ghost use Rattle.std.specs.Prelude.{◌≡◌, ◌++◌, None, Some, IfNone, IfOk, IfSome, OnOk, codes, string_bytes};
 ghost use Rattle.std.specs.Option.{option_map};
 ghost use Rattle.netlink_family.specs.Finding.{found_in};
 ghost use Rattle.netlink_packet_core.specs.Numbers.{number_be, number_le};
 ghost use Rattle.netlink_route.specs.declared.encapsulations.TheConstants.{LWTUNNEL_IP_DST, LWTUNNEL_IP_FLAGS, LWTUNNEL_IP_ID, LWTUNNEL_IP_SRC, LWTUNNEL_IP_TOS, LWTUNNEL_IP_TTL, MPLS_IPTUNNEL_DST, MPLS_IPTUNNEL_TTL};
 ghost use Rattle.netlink_route.specs.declared.routes.TheConstants.{RTA_ENCAP, RTA_ENCAP_TYPE};
 ghost use Rattle.netlink_words.specs.Parts.{AddsPart, AddsParts, number_part};
-ghost use Rattle.netlink_route_lines.specs.Encap.{IsEncap, IsMpls, IsTunnel, byte_of, encap_name, encap_part, encap_values, found_values, has_values, mpls_parts, tunnel_ends, tunnel_flags, tunnel_rest, value_of};
+ghost use Rattle.netlink_route_lines.specs.Encap.{IsEncap, IsMpls, IsTunnel, encap_name, encap_part, encap_values, found_values, has_values, mpls_parts, nest_value, tunnel_ends, tunnel_flags, tunnel_rest};
 ghost use Rattle.netlink_route_lines.specs.RouteHops.{IsOfHop};
 
+use crate::ila::push_ila;
+use crate::ioam6::push_ioam6;
 use crate::mpls::labels_text;
+use crate::program::push_bpf;
+use crate::seg6::{push_rpl, push_seg6};
+use crate::seg6_local::push_local;
+use crate::values::{push_byte, value_of};
+use crate::xfrm::push_xfrm;
 use netlink_family::{BlockView, Table};
+use netlink_names::name_table::Names;
 use netlink_route::Routes;
 use netlink_route::encapsulations::{
-    LWTUNNEL_ENCAP_IP, LWTUNNEL_ENCAP_IP6, LWTUNNEL_ENCAP_MPLS, LWTUNNEL_IP_DST, LWTUNNEL_IP_FLAGS,
+    LWTUNNEL_ENCAP_BPF, LWTUNNEL_ENCAP_ILA, LWTUNNEL_ENCAP_IOAM6, LWTUNNEL_ENCAP_IP,
+    LWTUNNEL_ENCAP_IP6, LWTUNNEL_ENCAP_MPLS, LWTUNNEL_ENCAP_RPL, LWTUNNEL_ENCAP_SEG6,
+    LWTUNNEL_ENCAP_SEG6_LOCAL, LWTUNNEL_ENCAP_XFRM, LWTUNNEL_IP_DST, LWTUNNEL_IP_FLAGS,
     LWTUNNEL_IP_ID, LWTUNNEL_IP_SRC, LWTUNNEL_IP_TOS, LWTUNNEL_IP_TTL, MPLS_IPTUNNEL_DST,
-    MPLS_IPTUNNEL_TTL,
+    MPLS_IPTUNNEL_TTL, RPL_IPTUNNEL_SRH, SEG6_IPTUNNEL_SRH,
 };
 use netlink_route::routes::RTA_ENCAP;
-use netlink_words::parts::{or_empty, push_address, push_number, push_part, push_when};
+use netlink_words::parts::{push_address, push_part, push_when};
 use std::alloc::{AllocError, Global};
 
 /// The flags of a tunnel that have names (`TUNNEL_*` of linux/if_tunnel.h).
@@ -32,23 +43,24 @@ const TUNNEL_SEQ: u16 = 0x8;
 /// Appends the encapsulation in `RTA_ENCAP`, if it is there: `encap`, the name of the type, and what
 /// belongs to it. Requires the attributes of a route or of a next hop, and `kind`, the type in their
 /// `RTA_ENCAP_TYPE`.
-#[tactic(auto, unfolding(crate::specs::Encap::encap_part, crate::specs::Encap::found_values, netlink_words::specs::Parts::with_part))]
+#[tactic(auto, unfolding(crate::specs::Encap::encap_part, netlink_words::specs::Parts::with_part))]
 pub(crate) fn push_encap(
     alloc: Global,
     text: &mut String,
+    known: &Names<'_>,
     kind: u16,
     attributes: &BlockView<'_>,
 ) -> Result<(), AllocError>
     requires view { IsOfHop (⟦<Routes as Table>⟧.rows 24) attributes.now }
     requires kind { option_map number_le (found_in attributes.now.block.now RTA_ENCAP_TYPE) ≡ Some kind }
     ensures { OnOk result (AddsPart text.old text.new
-        (encap_part (Some kind) (found_in attributes.now.block.now RTA_ENCAP))) }
+        (encap_part known.now (Some kind) (found_in attributes.now.block.now RTA_ENCAP))) }
 {
     match attributes.first(RTA_ENCAP) {
         None => Ok(()),
         Some(_) => {
             let mut encap = heading(alloc, kind)?;
-            push_values(alloc, &mut encap, kind, attributes)?;
+            push_values(alloc, &mut encap, known, kind, attributes)?;
             push_part(text, encap.as_str())
         }
     }
@@ -82,31 +94,32 @@ pub fn encap_name(kind: u16) -> &'static str
     }
 }
 
-/// Appends what belongs to a type, if that is MPLS, IPv4 or IPv6.
+/// Appends what belongs to a type, if the type has a name.
 #[tactic(auto, unfolding(crate::specs::Encap::found_values))]
 fn push_values(
     alloc: Global,
     text: &mut String,
+    known: &Names<'_>,
     kind: u16,
     attributes: &BlockView<'_>,
 ) -> Result<(), AllocError>
     requires view { IsOfHop (⟦<Routes as Table>⟧.rows 24) attributes.now }
     requires kind { option_map number_le (found_in attributes.now.block.now RTA_ENCAP_TYPE) ≡ Some kind }
     ensures { OnOk result (AddsParts text.old text.new
-        (found_values kind (found_in attributes.now.block.now RTA_ENCAP))) }
+        (found_values known.now kind (nest_value kind (found_in attributes.now.block.now RTA_ENCAP)))) }
 {
     match nest_of(attributes, kind) {
-        Some(nest) => push_nest(alloc, text, kind, &nest),
+        Some(nest) => push_nest(alloc, text, known, kind, &nest),
         None => Ok(()),
     }
 }
 
-/// Returns the attributes in `RTA_ENCAP`, if the type is MPLS, IPv4 or IPv6.
+/// Returns the attributes in `RTA_ENCAP`, if the type has a name.
 fn nest_of<'a>(attributes: &BlockView<'a>, kind: u16) -> Option<BlockView<'a>>
     requires view { IsOfHop (⟦<Routes as Table>⟧.rows 24) attributes.now }
     requires kind { option_map number_le (found_in attributes.now.block.now RTA_ENCAP_TYPE) ≡ Some kind }
-    ensures some { IfSome result (λ v. found_in attributes.now.block.now RTA_ENCAP ≡ Some v.block.now) }
-    ensures none { IfNone result (found_values kind (found_in attributes.now.block.now RTA_ENCAP) ≡ []) }
+    ensures some { IfSome result (λ v. nest_value kind (found_in attributes.now.block.now RTA_ENCAP) ≡ Some v.block.now) }
+    ensures none { IfNone result (nest_value kind (found_in attributes.now.block.now RTA_ENCAP) ≡ None) }
     ensures view { IfSome result (λ v. IsEncap (⟦<Routes as Table>⟧.rows 24) kind v) }
 {
     if !has_values(kind) {
@@ -115,11 +128,21 @@ fn nest_of<'a>(attributes: &BlockView<'a>, kind: u16) -> Option<BlockView<'a>>
     attributes.nest(RTA_ENCAP)
 }
 
-/// Returns whether words follow the name of a type.
+/// Returns whether a type has a name, and so values that are known here.
+#[tactic(auto, unfolding(crate::specs::Encap::has_values))]
 fn has_values(kind: u16) -> bool
     ensures { result ≡ has_values kind }
 {
-    kind == LWTUNNEL_ENCAP_MPLS || kind == LWTUNNEL_ENCAP_IP || kind == LWTUNNEL_ENCAP_IP6
+    kind == LWTUNNEL_ENCAP_MPLS
+        || kind == LWTUNNEL_ENCAP_IP
+        || kind == LWTUNNEL_ENCAP_ILA
+        || kind == LWTUNNEL_ENCAP_IP6
+        || kind == LWTUNNEL_ENCAP_SEG6
+        || kind == LWTUNNEL_ENCAP_BPF
+        || kind == LWTUNNEL_ENCAP_SEG6_LOCAL
+        || kind == LWTUNNEL_ENCAP_RPL
+        || kind == LWTUNNEL_ENCAP_IOAM6
+        || kind == LWTUNNEL_ENCAP_XFRM
 }
 
 /// Appends what belongs to a type, given its attributes.
@@ -127,16 +150,24 @@ fn has_values(kind: u16) -> bool
 fn push_nest(
     alloc: Global,
     text: &mut String,
+    known: &Names<'_>,
     kind: u16,
     nest: &BlockView<'_>,
 ) -> Result<(), AllocError>
     requires { IsEncap (⟦<Routes as Table>⟧.rows 24) kind nest.now }
-    ensures { OnOk result (AddsParts text.old text.new (encap_values kind nest.now.block.now)) }
+    ensures { OnOk result (AddsParts text.old text.new (encap_values known.now kind nest.now.block.now)) }
 {
     match kind {
         LWTUNNEL_ENCAP_MPLS => push_mpls(alloc, text, nest),
         LWTUNNEL_ENCAP_IP => push_tunnel(alloc, text, "ttl", "tos", nest),
+        LWTUNNEL_ENCAP_ILA => push_ila(alloc, text, nest),
         LWTUNNEL_ENCAP_IP6 => push_tunnel(alloc, text, "hoplimit", "tc", nest),
+        LWTUNNEL_ENCAP_SEG6 => push_seg6(alloc, text, value_of(nest, SEG6_IPTUNNEL_SRH)),
+        LWTUNNEL_ENCAP_BPF => push_bpf(alloc, text, nest),
+        LWTUNNEL_ENCAP_SEG6_LOCAL => push_local(alloc, text, known, nest),
+        LWTUNNEL_ENCAP_RPL => push_rpl(alloc, text, value_of(nest, RPL_IPTUNNEL_SRH)),
+        LWTUNNEL_ENCAP_IOAM6 => push_ioam6(alloc, text, nest),
+        LWTUNNEL_ENCAP_XFRM => push_xfrm(text, known, nest),
         _ => Ok(()),
     }
 }
@@ -200,13 +231,6 @@ fn push_rest(
     push_flags(text, nest.be16(LWTUNNEL_IP_FLAGS))
 }
 
-/// Returns the value of the first attribute of a kind; empty if there is none.
-fn value_of<'a>(nest: &BlockView<'a>, kind: u16) -> &'a [u8]
-    ensures { result.now ≡ value_of nest.now.block.now kind }
-{
-    or_empty(nest.first(kind))
-}
-
 /// Appends the id of a tunnel, if there is one.
 #[tactic(auto, unfolding(netlink_words::specs::Parts::number_part, netlink_words::specs::Parts::with_part))]
 fn push_id(alloc: Global, text: &mut String, id: Option<u64>) -> Result<(), AllocError>
@@ -215,17 +239,6 @@ fn push_id(alloc: Global, text: &mut String, id: Option<u64>) -> Result<(), Allo
     match id {
         None => Ok(()),
         Some(id) => push_part(text, format!(in alloc; "id {id}")?.as_str()),
-    }
-}
-
-/// Appends a key and a number of one byte, if there is one.
-#[tactic(auto, unfolding(netlink_words::specs::Parts::number_part, netlink_words::specs::Parts::with_part))]
-fn push_byte(text: &mut String, key: &str, byte: Option<u8>) -> Result<(), AllocError>
-    ensures { OnOk result (AddsPart text.old text.new (number_part key.now byte)) }
-{
-    match byte {
-        None => Ok(()),
-        Some(byte) => push_number(text, key, Some(byte as u32)),
     }
 }
 

@@ -21,6 +21,25 @@
 //! | `id 5`, `src 0.0.0.0` and `dst 10.1.0.9` of a tunnel | `encap::push_ends` | `Encap::tunnel_ends` |
 //! | `ttl 64` and `tos 0`, or `hoplimit 64` and `tc 0` | `encap::push_rest` | `Encap::tunnel_rest` |
 //! | `key`, `csum` and `seq` | `encap::push_flags` | `Encap::tunnel_flags` |
+//! | `mode encap` of SRv6 | `seg6::mode_name` | `Seg6::mode_name` |
+//! | `segs 2 [ fc00::2 fc00::1 ]` | `seg6::push_list` | `Seg6::list_parts` |
+//! | `hmac 11` | `seg6::hmac_text` | `Seg6::hmac_part` |
+//! | `action End.X` of a segment of this host | `seg6_local::action_name` | `Seg6Local::action_name` |
+//! | `table main`, `vrftable 100` | `seg6_local::push_tables` | `Seg6Local::table_parts` |
+//! | `nh4 10.1.0.9`, `nh6 fe80::1`, `iif if3`, `oif if4` | `seg6_local::push_ways` | `Seg6Local::way_parts` |
+//! | `endpoint NAME` | `seg6_local::push_endpoint` | `Program::found_program` |
+//! | `flavors psp,usp` | `seg6_local::flavor_names` | `Seg6Local::flavor_names` |
+//! | `lblen 32`, `nflen 16` | `seg6_local::push_flavors` | `Seg6Local::flavor_parts` |
+//! | `segs 2 [ fc00::2 fc00::1 ]` of RPL | `seg6::push_rpl` | `Seg6::rpl_parts` |
+//! | `if_id 16`, `link_dev if3` of XFRM | `xfrm::push_xfrm` | `Xfrm::xfrm_parts` |
+//! | `2001:db8:0:1` of ILA | `ila::locator_text` | `Ila::locator_text` |
+//! | `csum-mode no-action` | `ila::checksum_name` | `Ila::checksum_name` |
+//! | `ident-type luid` | `ila::identifier_name` | `Ila::identifier_name` |
+//! | `hook-type output` | `ila::hook_name` | `Ila::hook_name` |
+//! | `in NAME`, `out NAME`, `xmit NAME` and `14` of BPF | `program::push_bpf` | `Program::bpf_parts` |
+//! | `freq 1/5` of IOAM | `ioam6::frequency_text` | `Ioam6::frequency_text` |
+//! | `mode inline`, `tundst fc00::9` | `ioam6::push_insertion` | `Ioam6::insertion_parts` |
+//! | `trace prealloc type 0x800000`, `ns 7`, `size 12` | `ioam6::push_trace` | `Ioam6::trace_parts` |
 //! | `tos 0x10` | `netlink_words::parts::push_tos` | `netlink_words::Parts::tos_part` |
 //! | `via 10.1.0.3` | `route_hops::push_next` | `Route::route_next` |
 //! | `via inet6 fe80::1` | `route_hops::push_via` | `RouteHops::via_part` |
@@ -116,10 +135,13 @@
 #![tactic(auto)]
 
 pub mod encap;
+pub mod ila;
+pub mod ioam6;
 pub mod ip_protocols;
 pub mod mpls;
 pub mod multicast;
 pub mod namespace;
+pub mod program;
 pub mod route;
 pub mod route_cache;
 pub mod route_flags;
@@ -128,4 +150,7 @@ pub mod route_metrics;
 pub mod rule;
 pub mod rule_ends;
 pub mod rule_matches;
+pub mod seg6;
+pub mod seg6_local;
 mod values;
+pub mod xfrm;

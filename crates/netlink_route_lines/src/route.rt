@@ -115,7 +115,7 @@ fn route_words(
         ≡ route_words known.now route.now.message.message_type route.now.message.payload.now) }
 {
     let mut text = String::with_capacity(alloc, USUAL)?;
-    push_front(alloc, &mut text, route)?;
+    push_front(alloc, &mut text, known, route)?;
     push_link(alloc, &mut text, known, route)?;
     push_origin(alloc, &mut text, route)?;
     push_rest(alloc, &mut text, known, route)?;
@@ -128,10 +128,11 @@ fn route_words(
 fn push_front(
     alloc: Global,
     text: &mut String,
+    known: &Names<'_>,
     route: &MessageIndex<'_, Routes>,
 ) -> Result<(), AllocError>
     ensures { OnOk result
-        (AddsParts text.old text.new (route_front route.now.message.message_type route.now.message.payload.now)) }
+        (AddsParts text.old text.new (route_front known.now route.now.message.message_type route.now.message.payload.now)) }
 {
     push_when(text, route.message.message_type == RTM_DELROUTE, "Deleted")?;
     push_when(text, route.message.message_type == RTM_GETROUTE, "Get")?;
@@ -142,7 +143,7 @@ fn push_front(
     push_source(alloc, text, from, route.header().u8(RTM_SRC_LEN), whole)?;
     push_number(text, "nhid", u32_of(route, RTA_NH_ID))?;
     push_labels(alloc, text, route)?;
-    push_own_encap(alloc, text, route)?;
+    push_own_encap(alloc, text, known, route)?;
     push_tos(alloc, text, route.header().u8(RTM_TOS))
 }
 
@@ -260,15 +261,16 @@ pub fn new_labels_of<'a>(route: &MessageIndex<'a, Routes>) -> &'a [u8]
 fn push_own_encap(
     alloc: Global,
     text: &mut String,
+    known: &Names<'_>,
     route: &MessageIndex<'_, Routes>,
 ) -> Result<(), AllocError>
     ensures { OnOk result (AddsPart text.old text.new
-        (encap_part (route_number route.now.message.payload.now RTA_ENCAP_TYPE) (first_at 12 route.now.message.payload.now RTA_ENCAP))) }
+        (encap_part known.now (route_number route.now.message.payload.now RTA_ENCAP_TYPE) (first_at 12 route.now.message.payload.now RTA_ENCAP))) }
 {
     let index = route.index();
     match index.u16(RTA_ENCAP_TYPE) {
         None => Ok(()),
-        Some(kind) => push_encap(alloc, text, kind, &index.view),
+        Some(kind) => push_encap(alloc, text, known, kind, &index.view),
     }
 }
 

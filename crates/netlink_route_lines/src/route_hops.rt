@@ -105,7 +105,7 @@ fn push_hop_parts(
         (AddsParts text.old text.new (hop_parts known.now family word header.now attributes.now.block.now)) }
 {
     push_part(text, "nexthop")?;
-    push_hop_encap(alloc, text, attributes)?;
+    push_hop_encap(alloc, text, known, attributes)?;
     push_hop_labels(alloc, text, family, attributes)?;
     push_next(alloc, text, gateway_of(attributes), via_of(attributes))?;
     push_realms(alloc, text, "realm", "realms", attributes.u32(RTA_FLOW))?;
@@ -130,15 +130,16 @@ fn push_weight(text: &mut String, family: u8, word: u16) -> Result<(), AllocErro
 fn push_hop_encap(
     alloc: Global,
     text: &mut String,
+    known: &Names<'_>,
     attributes: &BlockView<'_>,
 ) -> Result<(), AllocError>
     requires { IsOfHop (⟦<Routes as Table>⟧.rows 24) attributes.now }
     ensures { OnOk result (AddsPart text.old text.new
-        (encap_part (option_map number_le (found_in attributes.now.block.now RTA_ENCAP_TYPE)) (found_in attributes.now.block.now RTA_ENCAP))) }
+        (encap_part known.now (option_map number_le (found_in attributes.now.block.now RTA_ENCAP_TYPE)) (found_in attributes.now.block.now RTA_ENCAP))) }
 {
     match attributes.u16(RTA_ENCAP_TYPE) {
         None => Ok(()),
-        Some(kind) => push_encap(alloc, text, kind, attributes),
+        Some(kind) => push_encap(alloc, text, known, kind, attributes),
     }
 }
 
