@@ -14,12 +14,16 @@ unfoldable pub insertion_name : ℕ → List ℕ
 insertion_name n =
     if n == 1 then codes "inline" else if n == 2 then codes "encap" else if n == 3 then codes "auto" else codes "<unknown>"
 
--- a `struct ioam6_trace_hdr`: the type, 3 bytes; the namespace, 2; and the room that is left, in
--- words of 4 bytes
+-- the type of a trace, 3 bytes
+unfoldable pub type_text : ℕ → ℕ → ℕ → List ℕ
+type_text first second third =
+    codes "trace prealloc type 0x" ++ (hex_pair first ++ (hex_pair second ++ hex_pair third))
+
+-- a `struct ioam6_trace_hdr`: the type; the namespace, 2 bytes; and the room that is left, in words
+-- of 4 bytes
 unfoldable pub trace_parts : List ℕ → List (List ℕ)
 trace_parts trace =
-    (codes "trace prealloc type 0x"
-    ++ (hex_pair (slice_index trace 4) ++ (hex_pair (slice_index trace 5) ++ hex_pair (slice_index trace 6))))
+    type_text (slice_index trace 4) (slice_index trace 5) (slice_index trace 6)
     ∷ number_part (codes "ns") (Some (slice_index trace 0 * 256 + slice_index trace 1))
     ∷ number_part (codes "size") (Some (slice_index trace 3 % 128 * 4)) ∷ []
 

@@ -1,5 +1,5 @@
 -- Segments of routes by IPv6 (linux/seg6.h, linux/seg6_iptunnel.h, linux/seg6_hmac.h, linux/rpl.h).
-use Rattle.std.specs.Prelude.{ℕ, zero, suc, ◌==◌, ◌||◌, ◌+◌, ◌*◌, ◌-◌, Bool, List, [], ◌∷◌, ◌++◌, codes, decimal, drop, if◌then◌else◌, length, nat_lt, slice_index, take}
+use Rattle.std.specs.Prelude.{ℕ, zero, suc, ◌==◌, ◌||◌, ◌+◌, ◌*◌, ◌-◌, Bool, List, [], ◌∷◌, ◌++◌, codes, decimal, drop, if◌then◌else◌, length, nat_lt, slice_index, take, true}
 use Rattle.std.specs.Fmt.{digits}
 use Rattle.std.specs.Int.Bits.{bit_and}
 use Rattle.netlink_packet_core.specs.Fields.{number_at}

@@ -2,7 +2,7 @@
 
 ghost use Rattle.std.specs.Prelude.{◌≡◌, ◌≤◌, IfOk, OnOk, length, string_bytes};
 ghost use Rattle.netlink_words.specs.Parts.{AddsPart, AddsParts};
-ghost use Rattle.netlink_route_lines.specs.Ioam6.{IsIoam6, destination_part, frequency_text, insertion_name, insertion_parts, ioam6_parts, ioam6_words, trace_parts};
+ghost use Rattle.netlink_route_lines.specs.Ioam6.{IsIoam6, destination_part, frequency_text, insertion_name, insertion_parts, ioam6_parts, ioam6_words, trace_parts, type_text};
 
 use crate::values::value_of;
 use netlink_family::BlockView;
@@ -129,13 +129,19 @@ fn push_trace(alloc: Global, text: &mut String, trace: &[u8]) -> Result<(), Allo
     requires { 8 ≤ length trace.now }
     ensures { OnOk result (AddsParts text.old text.new (trace_parts trace.now)) }
 {
-    let first = hex_pair(trace[4]);
-    let second = hex_pair(trace[5]);
-    let third = hex_pair(trace[6]);
     push_part(
         text,
-        format!(in alloc; "trace prealloc type 0x{first}{second}{third}")?.as_str(),
+        type_text(alloc, trace[4], trace[5], trace[6])?.as_str(),
     )?;
     push_number(text, "ns", Some(trace[0] as u32 * 256 + trace[1] as u32))?;
     push_number(text, "size", Some((trace[3] % 128) as u32 * 4))
+}
+
+/// Returns the type of a trace by its three bytes.
+#[tactic(auto, unfolding(crate::specs::Ioam6::type_text))]
+fn type_text(alloc: Global, first: u8, second: u8, third: u8) -> Result<String, AllocError>
+    ensures { IfOk result (λ text. string_bytes text ≡ type_text first second third) }
+{
+    let (first, second, third) = (hex_pair(first), hex_pair(second), hex_pair(third));
+    format!(in alloc; "trace prealloc type 0x{first}{second}{third}")
 }
