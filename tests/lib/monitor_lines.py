@@ -36,8 +36,6 @@ OF_TC = [
 BY_FLAGS = re.compile(r"(added|replaced) ")
 # The types of messages of traffic control, without the last two bits. They have no label.
 TRAFFIC = (36, 40, 44, 48, 100)
-# The types of messages about multicast groups, and the list of sources that `bridge -d` prints of a group.
-GROUPS, SOURCES = (84, 85), re.compile(r" source_list \S+")
 
 
 def kind_of(frame):
@@ -69,8 +67,6 @@ def program_line(frame, line):
     if kind_of(frame) & ~3 in TRAFFIC:
         line = BY_FLAGS.sub("", line) if BY_FLAGS.match(line) else line
         line = next((found[0] for form in OF_TC if (found := re.match(form, line))), line)
-    if kind_of(frame) in GROUPS:
-        line = SOURCES.sub("", line)
     return with_kind(frame, line) if kind_of(frame) in ADDRESSES else escaped(line)
 
 
