@@ -67,7 +67,7 @@ route_parts known (t, payload) =
     else other_parts known t payload
 
 -- RTM_* of linux/rtnetlink.h
-abbrev pub message_name : ℕ → List ℕ
+unfoldable pub message_name : ℕ → List ℕ
 message_name t =
     if t == 16 then codes "RTM_NEWLINK"
     else if t == 17 then codes "RTM_DELLINK"

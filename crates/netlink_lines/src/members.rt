@@ -165,6 +165,7 @@ fn put_settings_or_prefix(
 
 /// Returns the kernel's name of a message type of route netlink (`RTM_*` of linux/rtnetlink.h); nothing
 /// for other numbers.
+#[tactic(auto, unfolding(crate::specs::Members::message_name))]
 pub(crate) fn message_name(message_type: u16) -> &'static str
     ensures { result.now ≡ message_name message_type }
 {
