@@ -1,6 +1,7 @@
 pub mod BlockRuns
 pub mod Datagrams
 pub mod Frames
+pub mod Named
 pub mod Once
 pub mod OnceBlocks
 pub mod OncePackets
