@@ -172,6 +172,7 @@ fn line_of(
 }
 
 /// Returns the line of a message about neither a link nor an address, if it has one.
+#[inline(always)]
 fn other_line(
     alloc: Global,
     known: &Names<'_>,
