@@ -44,11 +44,11 @@
 //! | `via 10.1.0.3` | `route_hops::push_next` | `Route::route_next` |
 //! | `via inet6 fe80::1` | `route_hops::push_via` | `RouteHops::via_part` |
 //! | `dev if3` | `route::push_link` | `Route::route_next` |
-//! | `table 70000` | `route::push_table_part` | `Route::table_part` |
-//! | `proto kernel` | `route::push_installer` | `Route::installer_part` |
-//! | `scope link` | `route::push_other_scope` | `Route::scope_part` |
-//! | `src 10.1.0.1` | `route::push_origin` | `Route::origin_parts` |
-//! | `metric 7` | `route::push_origin` | `Route::origin_parts` |
+//! | `table 70000` | `route_origin::push_table_part` | `Route::table_part` |
+//! | `proto kernel` | `route_origin::push_installer` | `Route::installer_part` |
+//! | `scope link` | `route_origin::push_other_scope` | `Route::scope_part` |
+//! | `src 10.1.0.1` | `route_origin::push_origin` | `Route::origin_parts` |
+//! | `metric 7` | `route_origin::push_origin` | `Route::origin_parts` |
 //! | `dead`, `onlink` and the other flags | `route_flags::hop_flag_name` | `RouteFlags::hop_flag_name` |
 //! | `mark 0x10` | `route_cache::push_mark` | `Route::mark_part` |
 //! | `realm 5`, `realms 3/5` | `route::push_kept` | `Route::kept_parts` |
@@ -147,6 +147,7 @@ pub mod route_cache;
 pub mod route_flags;
 pub mod route_hops;
 pub mod route_metrics;
+pub mod route_origin;
 pub mod rule;
 pub mod rule_ends;
 pub mod rule_matches;

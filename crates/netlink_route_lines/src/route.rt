@@ -3,20 +3,22 @@
 ghost use Rattle.std.specs.Prelude.{◌≡◌, IfOk, OnOk, codes, string_bytes};
 ghost use Rattle.std.specs.Option.{option_map};
 ghost use Rattle.netlink_family.specs.Finding.{first_at};
-ghost use Rattle.netlink_route.specs.declared.routes.TheConstants.{RTA_DST, RTA_ENCAP, RTA_ENCAP_TYPE, RTA_GATEWAY, RTA_NEWDST, RTA_PREFSRC, RTA_SRC, RTA_VIA};
+ghost use Rattle.netlink_route.specs.declared.routes.TheConstants.{RTA_DST, RTA_ENCAP, RTA_ENCAP_TYPE, RTA_GATEWAY, RTA_NEWDST, RTA_SRC, RTA_VIA};
 ghost use Rattle.netlink_words.specs.Parts.{AddsPart, AddsParts, keyed, prefix_text};
 ghost use Rattle.netlink_route_lines.specs.Encap.{encap_part};
 ghost use Rattle.netlink_route_lines.specs.Mpls.{new_labels};
 ghost use Rattle.netlink_route_lines.specs.Multicast.{multicast_line};
-ghost use Rattle.netlink_route_lines.specs.Route.{installer_part, is_own, is_shown, kept_parts, last_parts, origin_parts, route_byte, route_bytes, route_entry_line, route_front, route_next, route_number, route_table, route_words, scope_part, table_part, target_text, type_part, with_rest, word_or_default};
+ghost use Rattle.netlink_route_lines.specs.Route.{is_shown, kept_parts, last_parts, route_byte, route_bytes, route_entry_line, route_front, route_next, route_number, route_table, route_words, target_text, type_part, with_rest, word_or_default};
 
 use crate::encap::push_encap;
 use crate::mpls::{AF_MPLS, push_label_target, push_new_labels, push_propagation};
-use crate::multicast::{RT_TABLE_MAIN, is_multicast, multicast_line};
+use crate::multicast::{is_multicast, multicast_line};
 use crate::route_cache::{push_cache, push_lifetime, push_mark};
-use crate::route_flags::{push_hop_flags, push_preference_part};
+use crate::route_flags::push_preference_part;
 use crate::route_hops::{push_hops, push_next};
 use crate::route_metrics::push_metrics;
+use crate::route_origin::push_origin;
+pub use crate::route_origin::{RTPROT_BOOT, is_own, table_of};
 use crate::values::{ip_of, u8_of, u32_of};
 use netlink_family::{MessageIndex, MessageView};
 use netlink_names::device::{Known, push_device};
@@ -24,23 +26,15 @@ use netlink_names::name_table::Names;
 use netlink_route::Routes;
 use netlink_route::routes::{
     RTA_CACHEINFO, RTA_DST, RTA_ENCAP_TYPE, RTA_FLOW, RTA_GATEWAY, RTA_IIF, RTA_MARK, RTA_NEWDST,
-    RTA_NH_ID, RTA_OIF, RTA_PREF, RTA_PREFSRC, RTA_PRIORITY, RTA_SRC, RTA_TABLE, RTA_TTL_PROPAGATE,
-    RTA_UID, RTA_VIA, RTM_DELROUTE, RTM_DST_LEN, RTM_FAMILY, RTM_FLAGS, RTM_GETROUTE, RTM_PROTOCOL,
-    RTM_SCOPE, RTM_SRC_LEN, RTM_TABLE, RTM_TOS, RTM_TYPE,
+    RTA_NH_ID, RTA_OIF, RTA_PREF, RTA_SRC, RTA_TTL_PROPAGATE, RTA_UID, RTA_VIA, RTM_DELROUTE,
+    RTM_DST_LEN, RTM_FAMILY, RTM_FLAGS, RTM_GETROUTE, RTM_SRC_LEN, RTM_TOS, RTM_TYPE,
 };
-use netlink_words::number_names::{push_protocol, push_scope, push_table, route_type_text};
+use netlink_words::number_names::route_type_text;
 use netlink_words::parts::{
-    host_length, or_empty, prefix_text, push_address, push_keyed, push_length, push_number,
-    push_part, push_realms, push_space, push_tos, push_when,
+    host_length, or_empty, prefix_text, push_ip, push_keyed, push_length, push_number, push_part,
+    push_realms, push_space, push_tos, push_when,
 };
-use netlink_words::text::push_dotted;
 use std::alloc::{AllocError, Global};
-
-/// The flag `RTM_F_CLONED` of a route that the kernel looked up for a request.
-const RTM_F_CLONED: u32 = 0x200;
-
-/// Who installed a route if nobody said so.
-pub const RTPROT_BOOT: u8 = 3;
 
 /// More bytes than the lines of most routes have, so that a line does not grow step by step.
 const USUAL: usize = 128;
@@ -175,7 +169,7 @@ pub fn push_destination(
 }
 
 /// Appends the destination by its address and the length of its prefix; `default` for every address.
-#[tactic(auto, using(crate::proofs::Pieces::four_target))]
+#[tactic(auto, using(crate::proofs::Pieces::address_target))]
 fn push_target(
     alloc: Global,
     text: &mut String,
@@ -185,9 +179,8 @@ fn push_target(
 ) -> Result<(), AllocError>
     ensures { OnOk result (AddsPart text.old text.new (word_or_default (prefix_text ip.now length whole))) }
 {
-    if ip.len() == 4 {
-        push_space(text)?;
-        push_dotted(text, ip)?;
+    if ip.len() == 4 || ip.len() == 16 {
+        push_ip(alloc, text, ip)?;
         return push_length(text, length, whole);
     }
     let to = prefix_text(alloc, ip, length, whole)?;
@@ -300,86 +293,6 @@ pub fn via_of<'a>(route: &MessageIndex<'a, Routes>) -> &'a [u8]
     ensures { result.now ≡ route_bytes route.now.message.payload.now RTA_VIA }
 {
     or_empty(route.index().bytes(RTA_VIA))
-}
-
-/// Appends the table, the protocol, the scope, the preferred source, the metric and the flags. The
-/// table `main`, the protocol `boot` and the scope `global` are left out; a route that was looked up
-/// has neither protocol nor scope.
-#[tactic(auto, unfolding(crate::specs::Route::origin_parts))]
-fn push_origin(
-    alloc: Global,
-    text: &mut String,
-    route: &MessageIndex<'_, Routes>,
-) -> Result<(), AllocError>
-    ensures { OnOk result (AddsParts text.old text.new (origin_parts route.now.message.payload.now)) }
-{
-    let own = is_own(route);
-    push_table_part(text, table_of(route))?;
-    push_installer(text, own, route.header().u8(RTM_PROTOCOL))?;
-    push_other_scope(text, own, route.header().u8(RTM_SCOPE))?;
-    push_address(alloc, text, "src", preferred_of(route))?;
-    push_number(text, "metric", u32_of(route, RTA_PRIORITY))?;
-    push_hop_flags(alloc, text, route.header().u32(RTM_FLAGS))
-}
-
-/// Returns whether the kernel did not look the route up for a request.
-pub fn is_own(route: &MessageIndex<'_, Routes>) -> bool
-    ensures { result ≡ is_own route.now.message.payload.now }
-{
-    route.header().u32(RTM_FLAGS) & RTM_F_CLONED == 0
-}
-
-/// Returns the number of the table, from the attribute or the header.
-pub fn table_of(route: &MessageIndex<'_, Routes>) -> u32
-    ensures { result ≡ route_table route.now.message.payload.now }
-{
-    match u32_of(route, RTA_TABLE) {
-        Some(table) => table,
-        None => route.header().u8(RTM_TABLE) as u32,
-    }
-}
-
-/// Appends the table, unless it is `main` or none.
-#[tactic(auto, using(netlink_words::specs::Pieces::part_more), unfolding(netlink_words::specs::Parts::with_part))]
-fn push_table_part(text: &mut String, table: u32) -> Result<(), AllocError>
-    ensures { OnOk result (AddsPart text.old text.new (table_part table)) }
-{
-    if table == 0 || table == RT_TABLE_MAIN {
-        return Ok(());
-    }
-    push_part(text, "table ")?;
-    push_table(text, table)
-}
-
-/// Appends who installed the route, unless it is `boot` or the route was looked up.
-#[tactic(auto, using(netlink_words::specs::Pieces::part_more), unfolding(netlink_words::specs::Parts::with_part))]
-fn push_installer(text: &mut String, own: bool, protocol: u8) -> Result<(), AllocError>
-    ensures { OnOk result (AddsPart text.old text.new (installer_part own protocol)) }
-{
-    if !own || protocol == RTPROT_BOOT {
-        return Ok(());
-    }
-    push_part(text, "proto ")?;
-    push_protocol(text, protocol)
-}
-
-/// Appends the scope, unless it is `global` or the route was looked up.
-#[tactic(auto, using(netlink_words::specs::Pieces::part_more), unfolding(netlink_words::specs::Parts::with_part))]
-fn push_other_scope(text: &mut String, own: bool, scope: u8) -> Result<(), AllocError>
-    ensures { OnOk result (AddsPart text.old text.new (scope_part own scope)) }
-{
-    if !own || scope == 0 {
-        return Ok(());
-    }
-    push_part(text, "scope ")?;
-    push_scope(text, scope)
-}
-
-/// Returns the preferred source; empty if there is none.
-fn preferred_of<'a>(route: &MessageIndex<'a, Routes>) -> &'a [u8]
-    ensures { result.now ≡ route_bytes route.now.message.payload.now RTA_PREFSRC }
-{
-    ip_of(route, RTA_PREFSRC)
 }
 
 /// Appends what follows the flags.

@@ -1,12 +1,15 @@
 -- A part that is written to the end of a text piece by piece.
-use Rattle.std.proofs.Common.{◌≡◌, ◌∙◌, ◌<◌, ◌≤◌, ◌^◌, ◌+◌, ◌++◌, ap, arith, refl, sym, ℕ, Bool, decimal, true, false, List, [], ◌∷◌, append_assoc, codes, if◌then◌else◌, length, length-append, append-nil, drop, get_or, take, take_all, ◌-◌, nat_lt, nat_le, ◌||◌, ◌==◌}
+use Rattle.std.proofs.Common.{◌≡◌, ◌∙◌, ◌<◌, ◌≤◌, ◌^◌, ◌+◌, ◌++◌, ap, arith, refl, sym, ℕ, Bool, decimal, true, false, List, [], ◌∷◌, append_assoc, codes, if◌then◌else◌, length, length-append, append-nil, drop, get_or, take, take_all, ◌-◌, ◌/◌, ◌%◌, bytes_eq, flat_map, nat_lt, nat_le, subst, ◌||◌, ◌==◌}
 use Rattle.std.specs.List.{fold}
-use Rattle.std.specs.Net.Text.{ipv4_text}
+use Rattle.std.specs.Char.{digit_char}
+use Rattle.std.specs.Net.Addr.{octets_of, segments_of}
+use Rattle.std.specs.Net.Text.{compressed_text, groups_text, hex, hex_groups_text, ipv4_text, ipv6_text, leading_zero_digits, longest_zero_run}
 use Rattle.netlink_packet_core.specs.Text.{hex_pair}
 use Rattle.std.proofs.lemmas.Fmt.{decimal_nonempty}
+use Rattle.std.proofs.lemmas.List.{length-drop}
 use Rattle.netlink_words.specs.NumberNames.{protocol_text, scope_text, state_text, table_text}
 use Rattle.netlink_words.specs.Parts.{keyed, prefix_end, prefix_of, with_part}
-use Rattle.netlink_words.specs.Text.{byte_text, bytes_text, ip_words, name_text, printable_text, sentence_text, pairs, separated, with_byte, with_pair, with_printable}
+use Rattle.netlink_words.specs.Text.{byte_text, bytes_text, ip_words, is_compatible, name_text, plain_words, printable_text, sentence_text, pairs, separated, with_byte, with_pair, with_printable}
 
 -- a part of which a piece is written, and the rest of it
 pub part_more : (text front rest : List ℕ) → 0 < length front → with_part text (front ++ rest) ≡ with_part text front ++ rest
@@ -104,6 +107,60 @@ prefix_some (b ∷ word) size whole some = kept (size == whole) (b ∷ word) (co
 pub four_part : (text bytes : List ℕ) → length bytes ≡ 4
     → with_part text (ip_words bytes) ≡ separated (codes " ") text [] ++ ipv4_text bytes
 four_part text bytes four = ap (with_part text) (four_words bytes four) ∙ part_some text (ipv4_text bytes) (dotted_some bytes)
+
+-- ---- addresses of 16 bytes
+
+zeros_few : (n : ℕ) → leading_zero_digits n ≤ 3
+zeros_few n = grind (arith)
+
+hex_some : (n : ℕ) → 0 < length (hex n)
+unfolding hex
+hex_some n =
+    let digits : List ℕ = digit_char (n / 0x1000) ∷ digit_char (n / 0x100 % 16) ∷ digit_char (n / 0x10 % 16) ∷ digit_char (n % 16) ∷ [] in
+    omega (arith, zeros_few n, length-drop (leading_zero_digits n) digits)
+
+append_some : (xs ys : List ℕ) → 0 < length xs → 0 < length (xs ++ ys)
+append_some xs ys some = omega (arith, some, length-append xs ys)
+
+groups_some : (segments : List ℕ) → 0 < length segments → 0 < length (groups_text segments)
+groups_some [] some = absurd (omega (arith, some))
+groups_some (s ∷ rest) some = append_some (hex s) (flat_map (λ t. codes ":" ++ hex t) rest) (hex_some s)
+
+compressed_some : (segments : List ℕ) (run : ℕ × ℕ) → 0 < length segments → 0 < length (compressed_text segments run)
+compressed_some segments run some =
+    let front : List ℕ = groups_text (take run.0 segments) in
+    let back : List ℕ = groups_text (drop (run.0 + run.1) segments) in
+    chosen_some (nat_lt 1 run.1) (front ++ codes "::" ++ back) (groups_text segments)
+    (omega (arith, length-append (front ++ codes "::") back, length-append front (codes "::"))) (groups_some segments some)
+
+six_some : (segments : List ℕ) → 0 < length segments → 0 < length (ipv6_text segments)
+unfolding ipv6_text hex_groups_text
+six_some segments some =
+    chosen_some (bytes_eq (take 6 segments) (0 ∷ 0 ∷ 0 ∷ 0 ∷ 0 ∷ 0xffff ∷ []))
+    (codes "::ffff:" ++ ipv4_text (octets_of (drop 6 segments))) (compressed_text segments (longest_zero_run segments))
+    (omega arith) (compressed_some segments (longest_zero_run segments) some)
+
+segments_some : (bytes : List ℕ) → 1 < length bytes → 0 < length (segments_of bytes)
+segments_some [] some = absurd (omega (arith, some))
+segments_some (a ∷ []) some = absurd (omega (arith, some))
+segments_some (a ∷ b ∷ bytes) some = omega arith
+
+plain_sixteen : (bytes : List ℕ) → length bytes ≡ 16 → plain_words bytes ≡ ipv6_text (segments_of bytes)
+plain_sixteen bytes is = grind (arith, is)
+
+pub sixteen_some : (bytes : List ℕ) → length bytes ≡ 16 → 0 < length (ip_words bytes)
+sixteen_some bytes is =
+    chosen_some (is_compatible bytes) (codes "::" ++ ipv4_text (drop 12 bytes)) (plain_words bytes) (omega arith)
+    (subst (λ (w : List ℕ). 0 < length w) (sym (plain_sixteen bytes is))
+    (six_some (segments_of bytes) (segments_some bytes (omega (arith, is)))))
+
+pub sixteen_more : (text key bytes : List ℕ) → length bytes ≡ 16
+    → with_part text (keyed key (ip_words bytes)) ≡ (separated (codes " ") text key ++ codes " ") ++ ip_words bytes
+sixteen_more text key bytes is = keyed_more text key (ip_words bytes) (sixteen_some bytes is)
+
+pub sixteen_part : (text bytes : List ℕ) → length bytes ≡ 16
+    → with_part text (ip_words bytes) ≡ separated (codes " ") text [] ++ ip_words bytes
+sixteen_part text bytes is = part_some text (ip_words bytes) (sixteen_some bytes is)
 
 -- ---- links without a name
 

@@ -6,7 +6,9 @@ ghost use Rattle.netlink_words.specs.Parts.{AddsPart, hex_part, host_length, key
 ghost use Rattle.netlink_words.specs.Text.{bytes_text, ip_words, name_text, sentence_text, separated};
 
 use crate::digits::push_decimal;
-use crate::text::{ip_words, push_colons, push_dotted, push_name, push_sentence, push_separated};
+use crate::text::{
+    ip_words, push_colons, push_dotted, push_groups, push_name, push_sentence, push_separated,
+};
 use netlink_packet_core::hex_pair;
 use std::alloc::{AllocError, Global};
 
@@ -125,7 +127,7 @@ pub fn push_words(text: &mut String, key: &str, words: Option<&[u8]>) -> Result<
 }
 
 /// Appends a key and an IP address, unless the address has neither 4 nor 16 bytes.
-#[tactic(auto, using(crate::specs::Pieces::four_more))]
+#[tactic(auto, using(crate::specs::Pieces::four_more, crate::specs::Pieces::sixteen_more))]
 pub fn push_address(
     alloc: Global,
     text: &mut String,
@@ -140,6 +142,10 @@ pub fn push_address(
     if ip.len() == 4 {
         push_key(text, key)?;
         return push_dotted(text, ip);
+    }
+    if ip.len() == 16 {
+        push_key(text, key)?;
+        return push_groups(text, ip);
     }
     push_keyed(text, key, ip_words(alloc, ip)?.as_str())
 }
@@ -182,13 +188,17 @@ fn prefix_of(alloc: Global, ip: String, length: u8, whole: u8) -> Result<String,
 }
 
 /// Appends an IP address, unless it has neither 4 nor 16 bytes.
-#[tactic(auto, using(crate::specs::Pieces::four_part))]
+#[tactic(auto, using(crate::specs::Pieces::four_part, crate::specs::Pieces::sixteen_part))]
 pub fn push_ip(alloc: Global, text: &mut String, address: &[u8]) -> Result<(), AllocError>
     ensures { OnOk result (AddsPart text.old text.new (ip_words address.now)) }
 {
     if address.len() == 4 {
         push_space(text)?;
         return push_dotted(text, address);
+    }
+    if address.len() == 16 {
+        push_space(text)?;
+        return push_groups(text, address);
     }
     push_part(text, ip_words(alloc, address)?.as_str())
 }

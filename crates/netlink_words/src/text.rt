@@ -139,6 +139,21 @@ pub fn push_dotted(text: &mut String, ip: &[u8]) -> Result<(), AllocError>
     push_decimal(text, ip[3] as u32)
 }
 
+/// Appends an IPv6 address of these 16 bytes, as `ip_words` returns it.
+pub fn push_groups(text: &mut String, ip: &[u8]) -> Result<(), AllocError>
+    requires { length ip.now ≡ 16 }
+    ensures { OnOk result (string_bytes text.new ≡ string_bytes text.old ++ ip_words ip.now) }
+{
+    if is_compatible(ip) {
+        text.push_str("::")?;
+        return push_dotted(text, &ip[12..]);
+    }
+    match parse_ip(ip) {
+        Ok(IpAddr::V6(octets)) => write!(text, "{}", Ipv6Addr::from_octets(octets)),
+        _ => Ok(()),
+    }
+}
+
 /// Returns any other IP address as text.
 fn plain_words(alloc: Global, bytes: &[u8]) -> Result<String, AllocError>
     ensures { IfOk result (λ text. string_bytes text ≡ plain_words bytes.now) }
