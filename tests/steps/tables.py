@@ -4,8 +4,8 @@ field of a fixed header, and its whole size; and the order of the rows.
 
     tests/steps/tables.py [FILE..]
 
-Without files, those of netlink_route, netlink_generic and netlink_values. A name that no header has is not compared: the
-headers may be older than the table. The headers are those that a file names in comments, such as linux/neighbour.h, in a
+Without files, those of netlink_route, netlink_generic and netlink_values. A name that no header has is not compared, since
+the headers may be older than the table; of files that are given, such names are printed. The headers are those that a file names in comments, such as linux/neighbour.h, in a
 list also without `linux/`, with the ones that all route netlink needs. The struct of a field is the one that the nearest
 comment above names, as in "The fields of `struct ndmsg`".
 """
@@ -33,6 +33,7 @@ ROW = re.compile(r'(?m)^ *\(\s*(\w+),\s*(\w+),\s*"\w*",\s')
 HEADER_LEN = re.compile(r"fn header_len\(\w+: u16\) -> usize \{\s*(\d+)\s*\}")
 # How many bytes of a struct are read as the header of an attribute, before its fields.
 STARTS = {"rtnexthop": 4}
+NOT_FOUND = "not compared, since no header has it that a comment names"
 SIZES = {"U8": 1, "U16": 2, "Be16": 2, "U32": 4, "I32": 4, "Be32": 4, "U64": 8, "Be64": 8}
 
 
@@ -87,7 +88,7 @@ def has_headers(names):
 
 
 def wrong_values(text):
-    """Yields for each constant and field that the headers have its name, and how it differs or None."""
+    """Yields for each constant and field its name, and how it differs from the headers, None, or NOT_FOUND."""
     headers = dict.fromkeys([*COMMON, *(f"linux/{it}" for it in HEADER.findall(text))])
     headers = [it for it in headers if has_headers([*COMMON, it])]
     numbers = {name: (value, 0) for name, value in values_in(text).items()}
@@ -101,8 +102,13 @@ def wrong_values(text):
         struct, _, _ = next(iter(fields.values()))
         statements["header_len"] = f'printf("%zu 0\\n", (sizeof(struct {struct}) + 3) / 4 * 4);'
         stated["header_len"] = int(size[1]), 0
-    for name, found in Compiled(headers, statements).printed().items():
-        yield name, None if found == stated[name] else f"{stated[name]}, but {found} in the kernel's headers"
+    printed = Compiled(headers, statements).printed()
+    for name in stated:
+        found = printed.get(name)
+        if found is None:
+            yield name, NOT_FOUND
+        else:
+            yield name, None if found == stated[name] else f"{stated[name]}, but {found} in the kernel's headers"
 
 
 def wrong_order(path, text):
@@ -118,7 +124,7 @@ def wrong_order(path, text):
             yield ":".join(after), None if is_sorted else f"its row follows that of {':'.join(before)}"
 
 
-def main(paths):
+def main(paths, shows_all):
     if not compiler() or not has_headers(COMMON):
         print("skipped: kernel-headers (there is no C compiler with the headers of Linux)")
         print("0 passed, 0 failed")
@@ -127,8 +133,8 @@ def main(paths):
     for path in paths:
         text = read(path)
         for name, why in [*wrong_values(text), *wrong_order(path, text)]:
-            passed, failed = passed + (why is None), failed + (why is not None)
-            if why:
+            passed, failed = passed + (why is None), failed + (why not in (None, NOT_FOUND))
+            if why and (shows_all or why != NOT_FOUND):
                 print(f"{os.path.relpath(path, TOP)}: {name}: {why}")
     print(f"{passed} passed, {failed} failed")
     return 1 if failed else 0
@@ -136,4 +142,4 @@ def main(paths):
 
 if __name__ == "__main__":
     own = [it for name in ("netlink_route", "netlink_generic", "netlink_values") for it in sorted(glob.glob(folder_of(name) + "/src/*.rt"))]
-    sys.exit(main(sys.argv[1:] or own))
+    sys.exit(main(sys.argv[1:] or own, len(sys.argv) > 1))
