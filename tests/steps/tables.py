@@ -5,9 +5,9 @@ field of a fixed header, and its whole size; and the order of the rows.
     tests/steps/tables.py [FILE..]
 
 Without files, those of netlink_route, netlink_generic and netlink_values. A name that no header has is not compared, since
-the headers may be older than the table; of files that are given, such names are printed. The headers are those that a file names in comments, such as linux/neighbour.h, in a
-list also without `linux/`, with the ones that all route netlink needs. The struct of a field is the one that the nearest
-comment above names, as in "The fields of `struct ndmsg`".
+the headers may be older than the table; of files that are given, such names are printed. The headers are those that a file
+names in comments, such as linux/neighbour.h, in a list also without `linux/`, with the ones that all route netlink needs.
+The struct of a field is the one that the nearest comment above names, as in "The fields of `struct ndmsg`".
 """
 
 import glob
